@@ -1,0 +1,5 @@
+-- The definitions that every layer shares.
+pub mod Answers
+pub mod Lists
+pub mod Options
+pub mod Tests

@@ -1,0 +1,13 @@
+-- Tests over the numbers below a bound.
+use mathlib.Core.Bool.{Bool, true, false, _&&_, _||_}
+use Prim.Native.Nat.{ℕ, zero, suc}
+use lib.Dec.{leb}
+
+-- m ≤ x ≤ n
+abbrev pub within : ℕ → ℕ → ℕ → Bool
+within m n x = leb m x && leb x n
+
+-- some number below n passes
+unfoldable pub someBelow : ℕ → (ℕ → Bool) → Bool
+someBelow zero f = false
+someBelow (suc n) f = someBelow n f || f n

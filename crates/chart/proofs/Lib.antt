@@ -1,0 +1,8 @@
+-- Laws that several proofs cite.
+pub mod Codes
+pub mod Order
+pub mod Trials
+pub mod Exact
+pub mod Rows
+pub mod Faults
+pub mod Faultless

@@ -1,0 +1,19 @@
+-- `chart::assumptions::exactly_one` meets its contract: by two searches. Assumes nothing.
+use borrow.Author.Needs.{needs}
+use Rattle.chart.proofs.assumptions.exactly_one.Statement.{statement}
+use Rattle.chart.proofs.assumptions.exactly_one.Tie as tie
+
+together-requires : tie.Need-together-requires
+together-requires c κs = search needs
+
+together-requires-2 : tie.Need-together-requires-2
+together-requires-2 c κs = search needs
+
+returns : tie.Need-returns
+returns c = rw (← c .before .before .together .ensures, c .before .if1 .taken, ← c .together2 .ensures)
+
+returns-2 : tie.Need-returns-2
+returns-2 c = rw (← c .before .together .ensures, c .if1 .left)
+
+pub exactly-one-spec : {M : Type 1} → statement M
+exactly-one-spec = tie.close (tie.spec together-requires together-requires-2 returns returns-2)

@@ -1,0 +1,21 @@
+-- `chart::assumptions::holds` meets its contract: from its parts. Assumes nothing.
+use Rattle.chart.specs.Operations.{holds}
+use borrow.Author.Needs.{needs}
+use Rattle.chart.proofs.assumptions.holds.Statement.{statement}
+use Rattle.chart.proofs.assumptions.holds.Tie as tie
+
+trial-requires : tie.Need-trial-requires
+trial-requires c κs = search needs
+
+right-requires : tie.Need-right-requires
+right-requires c κs = search needs
+
+related-requires : tie.Need-related-requires
+related-requires c κs = search needs
+
+returns : tie.Need-returns
+unfolding holds
+returns c = cc
+
+pub holds-spec : {M : Type 1} → statement M
+holds-spec = tie.close (tie.spec trial-requires right-requires related-requires returns)

@@ -1,0 +1,38 @@
+-- What it means that one assumption implies another, stated over all 64 values ("Charts and rows").
+use mathlib.Core.Path.{_≡_}
+use mathlib.Core.Bool.{Bool, true, not}
+use mathlib.Core.List.{List}
+use Prim.Native.Nat.{ℕ, _≤_, _^_, _<_}
+use Rattle.chart.specs.declared.operations.Operation.{Operation}
+use Rattle.chart.specs.declared.assumptions.Implication.{Implication}
+use Rattle.chart.specs.declared.assumptions.Implication.the-variants.{Never, Implied, NotImplied}
+use Rattle.chart.specs.Operations.{holds}
+use Rattle.chart.specs.Runs.{Values, var}
+
+-- the values meet the assumption
+abbrev pub Meets : List ℕ → Operation → Type 0
+Meets v f = holds f (var v) ≡ true
+
+-- no values meet it
+abbrev pub NeverHolds : Operation → Type 0
+NeverHolds f = (v : List ℕ) → Values v → Meets v f → ⊥
+
+-- "One assumption implies another exactly if all values meeting the first meet the second."
+abbrev pub Implies : Operation → Operation → Type 0
+Implies f g = (v : List ℕ) → Values v → Meets v f → Meets v g
+
+-- "exactly one holds, for all values"
+abbrev pub ExactlyOne : Operation → Operation → Type 0
+ExactlyOne f g = (v : List ℕ) → Values v → holds f (var v) ≡ not (holds g (var v))
+
+-- what each answer of the test of two assumptions says of the first and the second
+abbrev pub Means : Implication → Operation → Operation → Type 0
+Means Never f g = NeverHolds f
+Means Implied f g = (NeverHolds f → ⊥) × Implies f g
+Means NotImplied f g = (NeverHolds f → ⊥) × (Implies f g → ⊥)
+
+-- an assumption of a row: its operands are variables and a u32 constant
+pub record Assumption (f : Operation) : Type 0 where
+  pub a : f .a < 64
+  pub b : f .b < 64
+  pub c : f .c < 2 ^ 32

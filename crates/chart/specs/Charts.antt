@@ -1,0 +1,54 @@
+-- Charts and the rows of their tables ("Charts and rows"). A chart is the source's control-flow automaton, a place one of its
+-- locations, a row one of its edges, the alarm its error location.
+use mathlib.Core.Bool.{Bool, cond}
+use mathlib.Core.List.{List, [], _++_}
+use Prim.Native.Nat.{ℕ, zero, suc, _+_, _*_, _/_}
+use lib.Dec.{eqb}
+use lib.ListN.{length, getD, take, drop}
+use Rattle.chart.specs.declared.operations.Operation.{Operation}
+use Rattle.chart.specs.declared.charts.Head.{Head}
+
+-- "A chart is a count of places n, an alarm place, and rows of six u32 fields in a lent table"
+pub record Chart : Type 0 where
+  pub places : ℕ
+  pub alarm : ℕ
+  pub table : List ℕ
+
+-- a chart as the code has it: its head by value beside its table
+abbrev pub charted : Head → List ℕ → Chart
+charted h t = record { places = h .places; alarm = h .alarm; table = t }
+
+-- "the start is place 0"
+abbrev pub start : Chart → ℕ
+start C = 0
+
+-- ---- rows of a table, by number: "from, to, op, a, b, c"
+pub record Row : Type 0 where
+  pub from : ℕ
+  pub to : ℕ
+  pub operation : Operation
+
+abbrev pub size : List ℕ → ℕ
+size t = length t / 6
+
+abbrev pub from : List ℕ → ℕ → ℕ
+from t i = getD t (i * 6) 0
+
+abbrev pub to : List ℕ → ℕ → ℕ
+to t i = getD t (i * 6 + 1) 0
+
+abbrev pub operation : List ℕ → ℕ → Operation
+operation t i =
+    record { code = getD t (i * 6 + 2) 0; a = getD t (i * 6 + 3) 0; b = getD t (i * 6 + 4) 0; c = getD t (i * 6 + 5) 0 }
+
+abbrev pub row : List ℕ → ℕ → Row
+row t i = record { from = from t i; to = to t i; operation = operation t i }
+
+-- ---- "the rows that leave a place", in table order, as a table of their own
+-- of the first n rows of a table those that leave p
+unfoldable pub leavingOf : List ℕ → ℕ → ℕ → List ℕ
+leavingOf t p zero = []
+leavingOf t p (suc n) = leavingOf t p n ++ cond (eqb (from t n) p) (take 6 (drop (n * 6) t)) []
+
+unfoldable pub leaving : List ℕ → ℕ → List ℕ
+leaving t p = leavingOf t p (size t)

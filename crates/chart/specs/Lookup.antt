@@ -1,0 +1,42 @@
+-- The row lookup ("Charts and rows").
+use mathlib.Core.Path.{_≡_}
+use mathlib.Core.Bool.{Bool, cond, _&&_}
+use mathlib.Core.List.{List, []}
+use Prim.Native.Nat.{ℕ, _≤_, _<_}
+use lib.Dec.{eqb, ltb}
+use Rattle.base.specs.Options.{missing}
+use Rattle.chart.specs.declared.places.Place.{Place}
+use Rattle.chart.specs.declared.places.Place.the-variants.{Old, New}
+use Rattle.chart.specs.Charts.{Chart, size, from, leaving}
+use Rattle.chart.specs.Faults.{refusal}
+
+-- the chart is faultless ("a length not a multiple of 6 included") and has the place
+unfoldable pub openTo : Chart → ℕ → Bool
+openTo C p = missing (refusal C) && ltb p (C .places)
+
+-- "A lookup hands back the rows that leave a place, in whichever chart is named": 0 old, 1 new. "From a faulty chart [..], for a place not
+-- below n or a chart other than 0 and 1, it hands back an empty part." The chart that is named is judged, and it alone.
+unfoldable pub lookup : Chart → Chart → ℕ → ℕ → List ℕ
+lookup old new chart p =
+    cond (eqb chart 0) (cond (openTo old p) (leaving (old .table) p) [])
+    (cond (eqb chart 1) (cond (openTo new p) (leaving (new .table) p) []) [])
+
+-- ---- the inner form
+-- the table of the chart that a place is in, and the place's number
+abbrev pub tableOf : Place → List ℕ → List ℕ → List ℕ
+tableOf (Old p) old new = old
+tableOf (New q) old new = new
+
+abbrev pub numberOf : Place → ℕ
+numberOf (Old p) = p .0
+numberOf (New q) = q .0
+
+-- "Rows stand by ascending "from"."
+pub record Ascending (t : List ℕ) : Type 0 where
+  pub order : (i j : ℕ) → i ≤ j → j < size t → from t i ≤ from t j
+
+-- r is the first row whose "from" is not below p, or the count of rows
+pub record Lower (t : List ℕ) (p r : ℕ) : Type 0 where
+  pub inside : r ≤ size t
+  pub below : (k : ℕ) → k < r → from t k < p
+  pub reached : r < size t → p ≤ from t r

@@ -1,0 +1,229 @@
+// The first fault of a chart.
+ghost use mathlib.Core.Path.{_≡_};
+ghost use mathlib.Core.Bool.{_||_};
+ghost use Prim.Native.Nat.{_<_};
+ghost use lib.Dec.{leb, ltb};
+ghost use Rattle.base.specs.Options.{missing, firstOf};
+ghost use Rattle.base.specs.Tests.{someBelow};
+ghost use Rattle.chart.specs.Charts.{charted, size, from, to};
+ghost use Rattle.chart.specs.Faults.{told, countFault, alarmFault, fromBefore, rowFault, clash, conflictFault, rowsFault, fault};
+ghost use Rattle.chart.specs.Lookup.{Ascending};
+use crate::assumptions::exactly_one;
+use crate::charts::Head;
+use crate::charts::Judged;
+use crate::inner::rows::operation_at;
+use crate::operations;
+
+pub fn is_faultless(j: Judged) -> bool
+    ensures { λ r. ⌜ r ≡ missing (told j) ⌝ }
+{
+    match j {
+        Judged::Faultless => true,
+        Judged::Ragged => false,
+        Judged::Faulty {
+            number: _,
+            position: _,
+        } => false,
+    }
+}
+
+// 1 and 2: the counts of places and rows.
+fn count_fault(head: Head, rows: &[u32]) -> Judged
+    ensures { λ r. ⌜ told r ≡ countFault (charted head (now (rows .entry))) ⌝ }
+{
+    let n = rows.len() / 6;
+    if head.places == 0 {
+        return Judged::Faulty {
+            number: 1,
+            position: 0,
+        };
+    }
+    if n == 0 {
+        return Judged::Faulty {
+            number: 1,
+            position: 0,
+        };
+    }
+    if 64 < head.places {
+        return Judged::Faulty {
+            number: 2,
+            position: 0,
+        };
+    }
+    if 128 < n {
+        return Judged::Faulty {
+            number: 2,
+            position: 0,
+        };
+    }
+    Judged::Faultless
+}
+
+// 3: the alarm.
+fn alarm_fault(head: Head) -> Judged
+    ensures { λ r. ⌜ told r ≡ alarmFault (head .places) (head .alarm) ⌝ }
+{
+    if head.places <= head.alarm {
+        return Judged::Faulty {
+            number: 3,
+            position: 0,
+        };
+    }
+    Judged::Faultless
+}
+
+// Whether row i leaves or leads to a place that is not below n.
+fn strays(n: u32, rows: &[u32], i: usize) -> bool
+    requires { ⌜ i < size (now rows) ⌝ }
+    ensures { λ r. ⌜ r ≡ leb n (from (now (rows .entry)) i) || leb n (to (now (rows .entry)) i) ⌝ }
+{
+    let at = i * 6;
+    if n <= rows[at] {
+        return true;
+    }
+    n <= rows[at + 1]
+}
+
+// Whether row i stands before a row with a lower "from" than the one before it.
+fn descends(rows: &[u32], i: usize) -> bool
+    requires { ⌜ i < size (now rows) ⌝ }
+    ensures { λ r. ⌜ r ≡ ltb (from (now (rows .entry)) i) (fromBefore (now (rows .entry)) i) ⌝ }
+{
+    if i == 0 {
+        return false;
+    }
+    let before = i - 1;
+    rows[i * 6] < rows[before * 6]
+}
+
+// 4 to 7, of one row.
+fn row_fault(head: Head, rows: &[u32], i: usize) -> Judged
+    requires { ⌜ i < size (now rows) ⌝ }
+    ensures { λ r. ⌜ told r ≡ rowFault (charted head (now (rows .entry))) i ⌝ }
+{
+    if strays(head.places, rows, i) {
+        return Judged::Faulty {
+            number: 4,
+            position: i,
+        };
+    }
+    if descends(rows, i) {
+        return Judged::Faulty {
+            number: 5,
+            position: i,
+        };
+    }
+    let o = operation_at(rows, i);
+    if !operations::is_known(o) {
+        return Judged::Faulty {
+            number: 6,
+            position: i,
+        };
+    }
+    if !operations::operands_fit(o) {
+        return Judged::Faulty {
+            number: 7,
+            position: i,
+        };
+    }
+    Judged::Faultless
+}
+
+// 4 to 7, of the first row that has one.
+fn first_row_fault(head: Head, rows: &[u32]) -> Judged
+    ensures { λ r. ⌜ told r ≡ firstOf (size (now (rows .entry))) (rowFault (charted head (now (rows .entry)))) ⌝ }
+{
+    let n = rows.len() / 6;
+    let mut i = 0;
+    while i < n {
+        let f = row_fault(head, rows, i);
+        if !is_faultless(f) {
+            return f;
+        }
+        i += 1;
+    }
+    Judged::Faultless
+}
+
+// Whether row i and the earlier row j, which leave the same place, are not two assumptions of which exactly one holds.
+fn clashes(rows: &[u32], i: usize, j: usize) -> bool
+    requires { ⌜ (i < size (now rows)) × (j < size (now rows)) ⌝ }
+    ensures { λ r. ⌜ r ≡ clash (now (rows .entry)) i j ⌝ }
+{
+    if rows[j * 6] != rows[i * 6] {
+        return false;
+    }
+    let earlier = operation_at(rows, j);
+    let later = operation_at(rows, i);
+    if !operations::is_assumption(earlier) {
+        return true;
+    }
+    if !operations::is_assumption(later) {
+        return true;
+    }
+    !exactly_one(earlier, later)
+}
+
+// Whether row i is in conflict with an earlier one: rows of one place stand together, so it is enough to go back to the first of them.
+fn in_conflict(rows: &[u32], i: usize) -> bool
+    requires { ⌜ i < size (now rows) ⌝ }
+    requires { ⌜ Ascending (now rows) ⌝ }
+    ensures { λ r. ⌜ r ≡ someBelow i (clash (now (rows .entry)) i) ⌝ }
+{
+    let mut j = i;
+    while 0 < j {
+        j -= 1;
+        if rows[j * 6] != rows[i * 6] {
+            return false;
+        }
+        if clashes(rows, i, j) {
+            return true;
+        }
+    }
+    false
+}
+
+// 8, of the first row that is in conflict with an earlier one.
+fn first_conflict(rows: &[u32]) -> Judged
+    requires { ⌜ Ascending (now rows) ⌝ }
+    ensures { λ r. ⌜ told r ≡ firstOf (size (now (rows .entry))) (conflictFault (now (rows .entry))) ⌝ }
+{
+    let n = rows.len() / 6;
+    let mut i = 0;
+    while i < n {
+        if in_conflict(rows, i) {
+            return Judged::Faulty {
+                number: 8,
+                position: i,
+            };
+        }
+        i += 1;
+    }
+    Judged::Faultless
+}
+
+// 4 to 8.
+fn rows_fault(head: Head, rows: &[u32]) -> Judged
+    ensures { λ r. ⌜ told r ≡ rowsFault (charted head (now (rows .entry))) ⌝ }
+{
+    let f = first_row_fault(head, rows);
+    if is_faultless(f) {
+        return first_conflict(rows);
+    }
+    f
+}
+
+// 1 to 8.
+pub fn fault(head: Head, rows: &[u32]) -> Judged
+    ensures { λ r. ⌜ told r ≡ fault (charted head (now (rows .entry))) ⌝ }
+{
+    let counts = count_fault(head, rows);
+    if !is_faultless(counts) {
+        return counts;
+    }
+    let alarm = alarm_fault(head);
+    if !is_faultless(alarm) {
+        return alarm;
+    }
+    rows_fault(head, rows)
+}

@@ -1,0 +1,65 @@
+// What an operation does with values: the value that an assignment writes, and whether an assumption holds.
+ghost use mathlib.Core.Path.{_≡_};
+ghost use mathlib.Core.Bool.{true};
+ghost use lib.ListN.{length};
+ghost use Rattle.chart.specs.Operations.{isAssignment, operandsFit, value, related, right, holds};
+ghost use Rattle.chart.specs.Runs.{var};
+use crate::operations::Operation;
+use crate::operations::with_constant;
+
+pub fn value(o: Operation, values: &[u32]) -> u32
+    requires { ⌜ (isAssignment o ≡ true) × (operandsFit o ≡ true) × (length (now values) ≡ 64) ⌝ }
+    ensures { λ r. ⌜ r ≡ value o (var (now (values .entry))) ⌝ }
+{
+    let code = o.code;
+    let b = o.b as usize;
+    match code {
+        0 => o.c,
+        1 => values[b],
+        2 => std::num::wrapping_add_u32(values[b], o.c),
+        3 => {
+            let c = o.c as usize;
+            std::num::wrapping_add_u32(values[b], values[c])
+        }
+        4 => {
+            let c = o.c as usize;
+            std::num::wrapping_sub_u32(values[b], values[c])
+        }
+        _ => std::num::wrapping_sub_u32(0, values[b]),
+    }
+}
+
+// The relation r between two numbers: 0 =, 1 ≠, 2 <, 3 ≤, 4 >, 5 ≥.
+pub fn related(r: u32, x: u32, y: u32) -> bool
+    ensures { λ b. ⌜ b ≡ related r x y ⌝ }
+{
+    match r {
+        0 => x == y,
+        1 => x != y,
+        2 => x < y,
+        3 => x <= y,
+        4 => x > y,
+        5 => x >= y,
+        _ => false,
+    }
+}
+
+// What va is compared with.
+fn right(o: Operation, values: &[u32]) -> u32
+    requires { ⌜ (operandsFit o ≡ true) × (length (now values) ≡ 64) ⌝ }
+    ensures { λ r. ⌜ r ≡ right o (var (now (values .entry))) ⌝ }
+{
+    if with_constant(o) {
+        return o.c;
+    }
+    let b = o.b as usize;
+    values[b]
+}
+
+pub fn holds(o: Operation, values: &[u32]) -> bool
+    requires { ⌜ (operandsFit o ≡ true) × (length (now values) ≡ 64) ⌝ }
+    ensures { λ r. ⌜ r ≡ holds o (var (now (values .entry))) ⌝ }
+{
+    let a = o.a as usize;
+    related(o.code % 8, values[a], right(o, values))
+}

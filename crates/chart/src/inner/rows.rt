@@ -1,0 +1,124 @@
+// Rows where they stand in a table, and the part of a table that leaves a place.
+ghost use mathlib.Core.Path.{_≡_};
+ghost use Prim.Native.Nat.{_+_, _*_, _<_, _≤_};
+ghost use lib.Dec.{eqb};
+ghost use lib.ListN.{length, getD};
+ghost use Rattle.chart.specs.Operations.{same};
+ghost use Rattle.chart.specs.Charts.{size, from, to, operation, leaving};
+ghost use Rattle.chart.specs.Lookup.{Ascending, Lower, tableOf, numberOf};
+use crate::operations::Operation;
+use crate::places::NewPlace;
+use crate::places::OldPlace;
+use crate::places::Place;
+
+pub fn operation_at(rows: &[u32], i: usize) -> Operation
+    requires { ⌜ i < size (now rows) ⌝ }
+    ensures { λ r. ⌜ r ≡ operation (now (rows .entry)) i ⌝ }
+{
+    let at = i * 6;
+    Operation {
+        code: rows[at + 2],
+        a: rows[at + 3],
+        b: rows[at + 4],
+        c: rows[at + 5],
+    }
+}
+
+// Where row i of the old table leads.
+pub fn old_to(rows: &[u32], i: usize) -> OldPlace
+    requires { ⌜ i < size (now rows) ⌝ }
+    ensures { λ r. ⌜ r .0 ≡ to (now (rows .entry)) i ⌝ }
+{
+    OldPlace(rows[i * 6 + 1])
+}
+
+// Where row i of the new table leads.
+pub fn new_to(rows: &[u32], i: usize) -> NewPlace
+    requires { ⌜ i < size (now rows) ⌝ }
+    ensures { λ r. ⌜ r .0 ≡ to (now (rows .entry)) i ⌝ }
+{
+    NewPlace(rows[i * 6 + 1])
+}
+
+fn same_field(rows: &[u32], i: usize, others: &[u32], j: usize) -> bool
+    requires { ⌜ (i < length (now rows)) × (j < length (now others)) ⌝ }
+    ensures { λ r. ⌜ r ≡ eqb (getD (now (rows .entry)) i 0) (getD (now (others .entry)) j 0) ⌝ }
+{
+    rows[i] == others[j]
+}
+
+// Whether row i of one table and row j of another have equal operations: compared where they stand, no row is copied.
+pub fn same_operation(rows: &[u32], i: usize, others: &[u32], j: usize) -> bool
+    requires { ⌜ (i < size (now rows)) × (j < size (now others)) ⌝ }
+    ensures { λ r. ⌜ r ≡ same (operation (now (rows .entry)) i) (operation (now (others .entry)) j) ⌝ }
+{
+    let a = i * 6;
+    let b = j * 6;
+    if !same_field(rows, a + 2, others, b + 2) {
+        return false;
+    }
+    if !same_field(rows, a + 3, others, b + 3) {
+        return false;
+    }
+    if !same_field(rows, a + 4, others, b + 4) {
+        return false;
+    }
+    same_field(rows, a + 5, others, b + 5)
+}
+
+// The first row whose "from" is not below the place, or the count of rows.
+fn lower(rows: &[u32], place: u32) -> usize
+    requires { ⌜ Ascending (now rows) ⌝ }
+    ensures { λ r. ⌜ Lower (now (rows .entry)) place r ⌝ }
+{
+    let mut low = 0;
+    let mut high = rows.len() / 6;
+    while low < high {
+        let middle = low + (high - low) / 2;
+        if rows[middle * 6] < place {
+            low = middle + 1;
+        } else {
+            high = middle;
+        }
+    }
+    low
+}
+
+// The first row from `first` on that does not leave the place.
+fn past(rows: &[u32], place: u32, first: usize) -> usize
+    requires { ⌜ Ascending (now rows) ⌝ }
+    requires { ⌜ Lower (now rows) place first ⌝ }
+    ensures { λ r. ⌜ Lower (now (rows .entry)) (place + 1) r ⌝ }
+{
+    let n = rows.len() / 6;
+    let mut i = first;
+    while i < n {
+        if rows[i * 6] != place {
+            return i;
+        }
+        i += 1;
+    }
+    i
+}
+
+fn rows_in(rows: &[u32], place: u32) -> &[u32]
+    requires { ⌜ Ascending (now rows) ⌝ }
+    ensures { λ r. ⌜ now r ≡ leaving (now (rows .entry)) place ⌝ }
+{
+    let first = lower(rows, place);
+    let end = past(rows, place, first);
+    let a = first * 6;
+    let e = end * 6;
+    &rows[a..e]
+}
+
+// The rows that leave a place of either chart, as a part of that chart's table.
+pub fn rows_of<'a>(old: &'a [u32], new: &'a [u32], place: Place) -> &'a [u32]
+    requires { ⌜ Ascending (tableOf place (now old) (now new)) ⌝ }
+    ensures { λ r. ⌜ now r ≡ leaving (tableOf place (now (old .entry)) (now (new .entry))) (numberOf place) ⌝ }
+{
+    match place {
+        Place::Old(p) => rows_in(old, p.0),
+        Place::New(q) => rows_in(new, q.0),
+    }
+}

@@ -1,0 +1,105 @@
+// Charts: what a chart is, what its operations mean, when it is faulty. Here stand the entry points, which refuse bad input themselves;
+// `inner` is what the crates above may call once a chart is known to be faultless.
+ghost use mathlib.Core.Path.{_≡_};
+ghost use mathlib.Core.Bool.{true};
+ghost use Rattle.chart.specs.Charts.{charted};
+ghost use Rattle.chart.specs.Faults.{refusal, told, writtenBy, toldWritten, metBy, toldMet};
+ghost use Rattle.chart.specs.Lookup.{openTo, lookup};
+use assumptions::Implication;
+use charts::Head;
+use charts::Judged;
+use operations::Met;
+use operations::Operation;
+use operations::Written;
+use places::NewPlace;
+use places::OldPlace;
+use places::Place;
+
+pub mod places; // places.rt: places of the old and of the new chart
+pub mod operations; // operations.rt: kinds and operands of operations
+pub mod assumptions; // assumptions.rt: the exact test of two assumptions
+pub mod charts; // charts.rt: a chart's head, and what judging a chart answers
+pub mod inner; // inner.rt: for the crates above
+
+// The first fault of a chart, 1 to 8, with its row; a table that is not whole rows is told apart (21, the caller's).
+pub fn judge(head: Head, rows: &[u32]) -> Judged
+    ensures { λ r. ⌜ told r ≡ refusal (charted head (now (rows .entry))) ⌝ }
+{
+    if rows.len() % 6 != 0 {
+        return Judged::Ragged;
+    }
+    inner::faults::fault(head, rows)
+}
+
+// Whether a chart is faultless and has the place.
+fn open_to(head: Head, rows: &[u32], place: u32) -> bool
+    ensures { λ r. ⌜ r ≡ openTo (charted head (now (rows .entry))) place ⌝ }
+{
+    if inner::faults::is_faultless(judge(head, rows)) {
+        return place < head.places;
+    }
+    false
+}
+
+// The rows that leave a place of the chart named (0 old, 1 new), as a part of its table; an empty part where there is no such chart or
+// place, or the chart named is faulty.
+pub fn lookup<'a>(
+    old: Head,
+    old_rows: &'a [u32],
+    new: Head,
+    new_rows: &'a [u32],
+    chart: u32,
+    place: u32,
+) -> &'a [u32]
+    ensures { λ r. ⌜ now r ≡ lookup (charted old (now («old_rows» .entry))) (charted new (now («new_rows» .entry))) chart place ⌝ }
+{
+    if chart == 0 {
+        if open_to(old, old_rows, place) {
+            return inner::rows::rows_of(old_rows, new_rows, Place::Old(OldPlace(place)));
+        }
+        return &old_rows[0..0];
+    }
+    if chart == 1 {
+        if open_to(new, new_rows, place) {
+            return inner::rows::rows_of(old_rows, new_rows, Place::New(NewPlace(place)));
+        }
+        return &new_rows[0..0];
+    }
+    &old_rows[0..0]
+}
+
+// The value that an assignment writes, from 64 lent values; refused: 21 other than 64 values, 6 no assignment, 7 an operand that does not fit.
+pub fn value_written(o: Operation, values: &[u32]) -> Written
+    ensures { λ r. ⌜ toldWritten r ≡ writtenBy o (now (values .entry)) ⌝ }
+{
+    if values.len() != 64 {
+        return Written::Refused(21);
+    }
+    if !operations::is_assignment(o) {
+        return Written::Refused(6);
+    }
+    if !operations::operands_fit(o) {
+        return Written::Refused(7);
+    }
+    Written::Value(inner::meaning::value(o, values))
+}
+
+// Whether 64 lent values meet an assumption; refused: 21 other than 64 values, 6 no assumption, 7 an operand that does not fit.
+pub fn meets(o: Operation, values: &[u32]) -> Met
+    ensures { λ r. ⌜ toldMet r ≡ metBy o (now (values .entry)) ⌝ }
+{
+    if values.len() != 64 {
+        return Met::Refused(21);
+    }
+    if !operations::is_assumption(o) {
+        return Met::Refused(6);
+    }
+    if !operations::operands_fit(o) {
+        return Met::Refused(7);
+    }
+    if inner::meaning::holds(o, values) {
+        Met::Yes
+    } else {
+        Met::No
+    }
+}

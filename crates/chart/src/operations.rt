@@ -1,0 +1,159 @@
+// Operations: their kinds and operands, and the answers of the calls that evaluate one.
+ghost use mathlib.Core.Path.{_≡_};
+ghost use Rattle.chart.specs.Operations.{kind, isKnown, isAssignment, isAssumption, withConstant, operandB, assignedC, operandC, fits, operandsFit};
+
+// The operation of a row: its code "op" and the operands.
+pub struct Operation {
+    pub code: u32,
+    pub a: u32,
+    pub b: u32,
+    pub c: u32,
+}
+
+pub enum Kind {
+    Assignment,
+    ConstantComparison,
+    VariableComparison,
+    Unknown,
+}
+
+// What an operand is to its operation.
+pub enum Operand {
+    Variable,
+    Constant,
+    Unused,
+}
+
+// The value that an assignment writes, or a refusal's number.
+pub enum Written {
+    Value(u32),
+    Refused(u32),
+}
+
+// Whether the values meet an assumption, or a refusal's number.
+pub enum Met {
+    Yes,
+    No,
+    Refused(u32),
+}
+
+// Codes are told apart here and nowhere else.
+pub fn kind_of(code: u32) -> Kind
+    ensures { λ r. ⌜ r ≡ kind code ⌝ }
+{
+    match code {
+        0..=5 => Kind::Assignment,
+        16..=21 => Kind::ConstantComparison,
+        32..=37 => Kind::VariableComparison,
+        _ => Kind::Unknown,
+    }
+}
+
+pub fn is_known(o: Operation) -> bool
+    ensures { λ r. ⌜ r ≡ isKnown o ⌝ }
+{
+    match kind_of(o.code) {
+        Kind::Assignment => true,
+        Kind::ConstantComparison => true,
+        Kind::VariableComparison => true,
+        Kind::Unknown => false,
+    }
+}
+
+pub fn is_assignment(o: Operation) -> bool
+    ensures { λ r. ⌜ r ≡ isAssignment o ⌝ }
+{
+    match kind_of(o.code) {
+        Kind::Assignment => true,
+        Kind::ConstantComparison => false,
+        Kind::VariableComparison => false,
+        Kind::Unknown => false,
+    }
+}
+
+pub fn is_assumption(o: Operation) -> bool
+    ensures { λ r. ⌜ r ≡ isAssumption o ⌝ }
+{
+    match kind_of(o.code) {
+        Kind::Assignment => false,
+        Kind::ConstantComparison => true,
+        Kind::VariableComparison => true,
+        Kind::Unknown => false,
+    }
+}
+
+// Whether it compares with its constant.
+pub fn with_constant(o: Operation) -> bool
+    ensures { λ r. ⌜ r ≡ withConstant o ⌝ }
+{
+    match kind_of(o.code) {
+        Kind::Assignment => false,
+        Kind::ConstantComparison => true,
+        Kind::VariableComparison => false,
+        Kind::Unknown => false,
+    }
+}
+
+fn operand_b(o: Operation) -> Operand
+    ensures { λ r. ⌜ r ≡ operandB o ⌝ }
+{
+    match kind_of(o.code) {
+        Kind::Assignment => {
+            if o.code == 0 {
+                return Operand::Unused;
+            }
+            Operand::Variable
+        }
+        Kind::ConstantComparison => Operand::Unused,
+        Kind::VariableComparison => Operand::Variable,
+        Kind::Unknown => Operand::Unused,
+    }
+}
+
+// What c is to an assignment.
+fn assigned_c(code: u32) -> Operand
+    ensures { λ r. ⌜ r ≡ assignedC code ⌝ }
+{
+    match code {
+        0 => Operand::Constant,
+        1 => Operand::Unused,
+        2 => Operand::Constant,
+        3 => Operand::Variable,
+        4 => Operand::Variable,
+        _ => Operand::Unused,
+    }
+}
+
+fn operand_c(o: Operation) -> Operand
+    ensures { λ r. ⌜ r ≡ operandC o ⌝ }
+{
+    match kind_of(o.code) {
+        Kind::Assignment => assigned_c(o.code),
+        Kind::ConstantComparison => Operand::Constant,
+        Kind::VariableComparison => Operand::Unused,
+        Kind::Unknown => Operand::Unused,
+    }
+}
+
+fn fits(operand: Operand, x: u32) -> bool
+    ensures { λ r. ⌜ r ≡ fits operand x ⌝ }
+{
+    match operand {
+        Operand::Variable => x <= 63,
+        Operand::Constant => true,
+        Operand::Unused => x == 0,
+    }
+}
+
+// Whether every operand is as the code wants it.
+pub fn operands_fit(o: Operation) -> bool
+    ensures { λ r. ⌜ r ≡ operandsFit o ⌝ }
+{
+    if 63 < o.a {
+        return false;
+    }
+    if fits(operand_b(o), o.b) {
+        return fits(operand_c(o), o.c);
+    }
+    false
+}
