@@ -10,13 +10,15 @@ use lib.Dec.{T, T-not, not-T, eqb}
 use lib.ListN.{length, getD}
 use lib.Pow.{pow-pos}
 use Rattle.chart.specs.declared.operations.Operation.{Operation}
+use Rattle.chart.specs.declared.assumptions.Implication.{Implication}
+use Rattle.chart.specs.declared.assumptions.Implication.the-variants.{Never, Implied, NotImplied}
 use Rattle.chart.specs.declared.assumptions.Seats.{Seats}
 use Rattle.chart.specs.Operations.{withConstant, Order, order, key, relation, related, holds}
 use Rattle.chart.specs.Runs.{Values, var}
-use Rattle.chart.specs.Assumptions.{Assumption, Meets}
-use Rattle.chart.specs.Trials.{alike, seats, trial, points, shown, shownBy, together, never, implies, exclusive}
+use Rattle.chart.specs.Assumptions.{Operands, Meets, NeverHolds, Implies, ExactlyOne, Means}
+use Rattle.chart.specs.Trials.{alike, seats, trial, points, shown, shownBy, together, never, implies, exclusive, implication}
 use Rattle.base.specs.Lists.{any}
-use Rattle.base.proofs.Tests.{T-and, T-both, differ, yields, opposite}
+use Rattle.base.proofs.Tests.{T-and, T-both, T-true, is-true, differ, yields, opposite}
 use Rattle.base.proofs.Lists.{any-at, All, any-all}
 use Rattle.chart.proofs.Trials.{Tried, tried}
 
@@ -52,7 +54,7 @@ tab-small v zero h k = pow-pos 32
 tab-small v (suc n) h zero = h zero
 tab-small v (suc n) h (suc k) = tab-small (λ k. v (suc k)) n (λ k. h (suc k)) k
 
-holds-tab : (f : Operation) → Assumption f → (v : ℕ → ℕ) → holds f (var (tab v 64)) ≡ holds f v
+holds-tab : (f : Operation) → Operands f → (v : ℕ → ℕ) → holds f (var (tab v 64)) ≡ holds f v
 unfolding holds
 holds-tab f F v =
     ap₂ (λ (m n : ℕ). related (f .code % 8) (key (order f) m) (key (order f) (cond (withConstant f) (f .c) n)))
@@ -66,7 +68,7 @@ trial-small s x y hx hy k = pick (eqb k (s .first)) hx (pick (eqb k (s .second))
     pick true h k = h
     pick false h k = k
 
-module _ (f g : Operation) (F : Assumption f) (G : Assumption g) where
+module _ (f g : Operation) (F : Operands f) (G : Operands g) where
   l : List ℕ
   l = points (f .c) (g .c)
 
@@ -102,24 +104,45 @@ module _ (f g : Operation) (F : Assumption f) (G : Assumption g) where
   )
 
   -- f implies g: all values that meet f meet g
-  pub implies-exact : T (implies f g) ↔ ((v : List ℕ) → Values v → Meets v f → Meets v g)
+  pub implies-exact : T (implies f g) ↔ Implies f g
   implies-exact =
       (λ t v W h. yields (holds g (var v)) (never-so true false .0 t v W h), λ h. never-so true false .1 (λ v W a b. differ true (sym (h v W a) ∙ b)))
 
   -- exactly one of f and g is met, whatever the values
-  pub exclusive-exact : T (exclusive f g) ↔ ((v : List ℕ) → Values v → holds f (var v) ≡ not (holds g (var v)))
+  pub exclusive-exact : T (exclusive f g) ↔ ExactlyOne f g
   exclusive-exact = (
     λ t v W. let (m, n) = T-and (not (together f true g true)) (not (together f false g false)) t in
         opposite (holds f (var v)) (holds g (var v)) (never-so true true .0 m v W) (never-so false false .0 n v W),
     λ h. T-both (not (together f true g true)) (not (together f false g false)) (never-so true true .1 (one h true)) (never-so false false .1 (one h false)),
   )
     where
-      one : ((v : List ℕ) → Values v → holds f (var v) ≡ not (holds g (var v))) → (b : Bool) (v : List ℕ) → Values v → holds f (var v) ≡ b → holds g (var v) ≡ b → ⊥
+      one : ExactlyOne f g → (b : Bool) (v : List ℕ) → Values v → holds f (var v) ≡ b → holds g (var v) ≡ b → ⊥
       one h b v W p q = differ b (sym p ∙ h v W ∙ ap not q)
 
 -- no values meet f
-pub never-exact : (f : Operation) → Assumption f → T (never f) ↔ ((v : List ℕ) → Values v → Meets v f → ⊥)
+pub never-exact : (f : Operation) → Operands f → T (never f) ↔ NeverHolds f
 never-exact f F = (λ t v W h. never-so f f F F true true .0 t v W h h, λ h. never-so f f F F true true .1 (λ v W a b. h v W a))
+
+-- what the test of two assumptions answers is so
+pub implication-means : (f g : Operation) → Operands f → Operands g → Means (implication f g) f g
+implication-means f g F G = go (never f) (implies f g) (never-exact f F) (implies-exact f g F G)
+  where
+    go : (n i : Bool) → T n ↔ NeverHolds f → T i ↔ Implies f g → Means (cond n Never (cond i Implied NotImplied)) f g
+    go true i n m = n .0 tt
+    go false true n m = (n .1, m .0 tt)
+    go false false n m = (n .1, m .1)
+
+-- exactly one holds where the test says so, and only there
+pub exclusive-means : (f g : Operation) → Operands f → Operands g → (exclusive f g ≡ true) ↔ ExactlyOne f g
+exclusive-means f g F G = (λ e. exclusive-exact f g F G .0 (T-true e), λ h. is-true (exclusive f g) (exclusive-exact f g F G .1 h))
+
+-- what the two tests of the code ensure: their answer, and what it means
+module _ (f g : Operation) where
+  pub tested : {r : Implication} → r ≡ implication f g → (r ≡ implication f g) × (Operands f → Operands g → Means r f g)
+  tested e = (e, λ F G. subst (λ (r : Implication). Means r f g) (sym e) (implication-means f g F G))
+
+  pub one-tested : {r : Bool} → r ≡ exclusive f g → (r ≡ exclusive f g) × (Operands f → Operands g → (r ≡ true) ↔ ExactlyOne f g)
+  one-tested e = (e, λ F G. subst (λ (r : Bool). (r ≡ true) ↔ ExactlyOne f g) (sym e) (exclusive-means f g F G))
 
 -- the answer of the search over all trials
 pub by-trials : (f : Operation) (p : Bool) (g : Operation) (q : Bool) {s : Seats} {l : List ℕ} {r : Bool}

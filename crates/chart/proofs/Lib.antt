@@ -6,3 +6,4 @@ pub mod Exact
 pub mod Rows
 pub mod Faults
 pub mod Faultless
+pub mod Meaning

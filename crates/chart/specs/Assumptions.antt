@@ -31,8 +31,8 @@ Means Never f g = NeverHolds f
 Means Implied f g = (NeverHolds f → ⊥) × Implies f g
 Means NotImplied f g = (NeverHolds f → ⊥) × (Implies f g → ⊥)
 
--- an assumption of a row: its operands are variables and a u32 constant
-pub record Assumption (f : Operation) : Type 0 where
+-- operands as a row of a faultless chart has them: variables of v0 to v63, a u32 constant
+pub record Operands (f : Operation) : Type 0 where
   pub a : f .a < 64
   pub b : f .b < 64
   pub c : f .c < 2 ^ 32

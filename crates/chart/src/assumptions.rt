@@ -1,8 +1,10 @@
 // The exact test of two assumptions: both are tried on a few values that stand for all.
 ghost use mathlib.Core.Path.{_≡_};
+ghost use mathlib.Core.Bool.{true};
+ghost use mathlib.Core.Logic.{_↔_};
 ghost use Rattle.base.specs.Lists.{any};
 ghost use Rattle.chart.specs.Operations.{right, holds};
-ghost use Rattle.chart.specs.Assumptions.{Assumption, Means, ExactlyOne};
+ghost use Rattle.chart.specs.Assumptions.{Operands, Means, ExactlyOne};
 ghost use Rattle.chart.specs.Trials.{alike, partner, compares, inside, own, seats, trial, points, shown, shownBy, together, never, implies, exclusive, implication};
 use crate::inner::meaning::related;
 use crate::operations::Operation;
@@ -168,9 +170,10 @@ fn never(f: Operation) -> bool
     !together(f, true, f, true)
 }
 
-// The test of two assumptions: the first never holds, else it implies the second or does not.
+// The test of two assumptions: the first never holds, else it implies the second or does not. What it says holds of all 64 values, both ways.
 pub fn implies(f: Operation, g: Operation) -> Implication
     ensures is { λ r. ⌜ r ≡ implication f g ⌝ }
+    ensures means { λ r. ⌜ (Operands f → Operands g → Means r f g) ⌝ }
 {
     if never(f) {
         return Implication::Never;
@@ -184,6 +187,7 @@ pub fn implies(f: Operation, g: Operation) -> Implication
 // Whether exactly one of two assumptions holds, for all values.
 pub fn exactly_one(f: Operation, g: Operation) -> bool
     ensures is { λ r. ⌜ r ≡ exclusive f g ⌝ }
+    ensures means { λ r. ⌜ (Operands f → Operands g → (r ≡ true) ↔ ExactlyOne f g) ⌝ }
 {
     !together(f, true, g, true) && !together(f, false, g, false)
 }

@@ -1,4 +1,5 @@
 -- `chart::assumptions::exactly_one` meets its contract: by two searches. Assumes nothing.
+use Rattle.chart.proofs.Exact.{one-tested}
 use borrow.Author.Needs.{needs}
 use Rattle.chart.proofs.assumptions.exactly_one.Statement.{statement}
 use Rattle.chart.proofs.assumptions.exactly_one.Tie as tie
@@ -10,10 +11,10 @@ together-requires-2 : tie.Need-together-requires-2
 together-requires-2 c κs = search needs
 
 returns : tie.Need-returns
-returns c = rw (← c .before .before .together .ensures, c .before .if1 .taken, ← c .together2 .ensures)
+returns c = one-tested _ _ (rw (← c .before .before .together .ensures, c .before .if1 .taken, ← c .together2 .ensures))
 
 returns-2 : tie.Need-returns-2
-returns-2 c = rw (← c .before .together .ensures, c .if1 .left)
+returns-2 c = one-tested _ _ (rw (← c .before .together .ensures, c .if1 .left))
 
 pub exactly-one-spec : {M : Type 1} → statement M
 exactly-one-spec = tie.close (tie.spec together-requires together-requires-2 returns returns-2)

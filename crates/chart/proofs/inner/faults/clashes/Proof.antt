@@ -56,7 +56,7 @@ exactly-one-requires c κs = search needs
 
 returns-4 : tie.Need-returns-4
 unfolding clash
-returns-4 c = rw (eq-eqb _ _ (c .before .before .before .before .before .before .before .if1 .left), sym (c .before .before .before .before .is-assumption .ensures ∙ ap isAssumption (c .before .before .before .before .before .before .operation-at .ensures)) ∙ not-false _ (c .before .before .before .if2 .left), sym (c .before .before .is-assumption2 .ensures ∙ ap isAssumption (c .before .before .before .before .before .operation-at2 .ensures)) ∙ not-false _ (c .before .if3 .left), ← (c .exactly-one .ensures ∙ ap₂ exclusive (c .before .before .before .before .before .before .operation-at .ensures) (c .before .before .before .before .before .operation-at2 .ensures)))
+returns-4 c = rw (eq-eqb _ _ (c .before .before .before .before .before .before .before .if1 .left), sym (c .before .before .before .before .is-assumption .ensures ∙ ap isAssumption (c .before .before .before .before .before .before .operation-at .ensures)) ∙ not-false _ (c .before .before .before .if2 .left), sym (c .before .before .is-assumption2 .ensures ∙ ap isAssumption (c .before .before .before .before .before .operation-at2 .ensures)) ∙ not-false _ (c .before .if3 .left), ← (c .exactly-one .ensures .0 ∙ ap₂ exclusive (c .before .before .before .before .before .before .operation-at .ensures) (c .before .before .before .before .before .operation-at2 .ensures)))
 
 pub clashes-spec : {M : Type 1} → statement M
 clashes-spec =
