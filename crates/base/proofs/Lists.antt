@@ -52,6 +52,10 @@ any-at p (y ∷ l) x h t = go (ℕ-discrete x y) (any-at p l x)
     go (yes e) k = T-or-l (p y) (any p l) (subst (λ (z : ℕ). T (p z)) e t)
     go (no n) k = T-or-r (p y) (any p l) (k (rw (ne-eqb x y n) at h) t)
 
+pub any-false : {A : Type 0} (p : A → Bool) (l : List A) → ((x : A) → p x ≡ false) → any p l ≡ false
+any-false p [] h = refl
+any-false p (x ∷ l) h = rw (h x) (any-false p l h)
+
 -- each element is so
 abbrev pub All : (ℕ → Type 0) → List ℕ → Type 0
 All P [] = Unit {0}

@@ -26,7 +26,7 @@ alike-self : (b : Bool) → T (alike b b)
 alike-self true = tt
 alike-self false = tt
 
-alike-is : (a b : Bool) → T (alike a b) → b ≡ a
+pub alike-is : (a b : Bool) → T (alike a b) → b ≡ a
 alike-is true true t = refl
 alike-is true false t = absurd t
 alike-is false true t = absurd t

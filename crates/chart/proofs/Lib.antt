@@ -3,6 +3,7 @@ pub mod Codes
 pub mod Order
 pub mod Trials
 pub mod Exact
+pub mod Opposed
 pub mod Rows
 pub mod Faults
 pub mod Faultless

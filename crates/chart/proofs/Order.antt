@@ -19,16 +19,26 @@ pub record Same (a b u w : ℕ) : Type 0 where
   pub eq : a ≡ b → u ≡ w
   pub gt : b < a → w < u
 
+-- which relations hold of a number and one above it, an equal one, one below it
+abbrev pub below-table : List Bool
+below-table = false ∷ true ∷ true ∷ true ∷ false ∷ false ∷ []
+
+abbrev pub equal-table : List Bool
+equal-table = true ∷ false ∷ false ∷ true ∷ false ∷ true ∷ []
+
+abbrev pub above-table : List Bool
+above-table = false ∷ true ∷ false ∷ false ∷ true ∷ true ∷ []
+
 module _ (r a b : ℕ) where
-  related-lt : a < b → related r a b ≡ getD (false ∷ true ∷ true ∷ true ∷ false ∷ false ∷ []) r false
+  pub related-lt : a < b → related r a b ≡ getD below-table r false
   unfolding related
   related-lt h = rw (ne-eqb a b (λ e. omega arith), lt-ltb a b h, le-leb a b (omega arith), le-ltb b a (omega arith), lt-leb b a h)
 
-  related-eq : a ≡ b → related r a b ≡ getD (true ∷ false ∷ false ∷ true ∷ false ∷ true ∷ []) r false
+  pub related-eq : a ≡ b → related r a b ≡ getD equal-table r false
   unfolding related
   related-eq h = rw (eq-eqb a b h, le-ltb a b (omega arith), le-leb a b (omega arith), le-ltb b a (omega arith), le-leb b a (omega arith))
 
-  related-gt : b < a → related r a b ≡ getD (false ∷ true ∷ false ∷ false ∷ true ∷ true ∷ []) r false
+  pub related-gt : b < a → related r a b ≡ getD above-table r false
   unfolding related
   related-gt h = rw (ne-eqb a b (λ e. omega arith), le-ltb a b (omega arith), lt-leb a b h, lt-ltb b a h, le-leb b a (omega arith))
 

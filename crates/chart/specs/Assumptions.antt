@@ -25,6 +25,10 @@ Implies f g = (v : List ℕ) → Values v → Meets v f → Meets v g
 abbrev pub ExactlyOne : Operation → Operation → Type 0
 ExactlyOne f g = (v : List ℕ) → Values v → holds f (var v) ≡ not (holds g (var v))
 
+-- exactly one holds of any values whatever, in sight of the two operations: they compare the same in opposite ways
+abbrev pub Opposed : Operation → Operation → Type 0
+Opposed f g = (v : ℕ → ℕ) → holds f v ≡ not (holds g v)
+
 -- what each answer of the test of two assumptions says of the first and the second
 abbrev pub Means : Implication → Operation → Operation → Type 0
 Means Never f g = NeverHolds f

@@ -1,10 +1,11 @@
 // The exact test of two assumptions: both are tried on a few values that stand for all.
 ghost use mathlib.Core.Path.{_≡_};
-ghost use mathlib.Core.Bool.{true};
+ghost use mathlib.Core.Bool.{true, not};
+ghost use Prim.Native.Nat.{ℕ, _<_};
 ghost use mathlib.Core.Logic.{_↔_};
 ghost use Rattle.base.specs.Lists.{any};
-ghost use Rattle.chart.specs.Operations.{right, holds};
-ghost use Rattle.chart.specs.Assumptions.{Operands, Means, ExactlyOne};
+ghost use Rattle.chart.specs.Operations.{related, right, holds};
+ghost use Rattle.chart.specs.Assumptions.{Operands, Means, Opposed, ExactlyOne};
 ghost use Rattle.chart.specs.Trials.{alike, partner, compares, inside, own, seats, trial, points, shown, shownBy, together, never, implies, exclusive, implication};
 use crate::inner::meaning::related;
 use crate::operations::Operation;
@@ -184,10 +185,47 @@ pub fn implies(f: Operation, g: Operation) -> Implication
     Implication::Implied
 }
 
+// The relation that holds where r does not; none where r is no relation.
+fn opposite(r: u32) -> u32
+    ensures { λ s. ⌜ ((x y : ℕ) → s < 8 → related s x y ≡ not (related r x y)) ⌝ }
+{
+    match r {
+        0 => 1,
+        1 => 0,
+        2 => 5,
+        3 => 4,
+        4 => 3,
+        5 => 2,
+        _ => 8,
+    }
+}
+
+// Whether f and g compare the same in opposite ways, as the two rows of most places do: no trial is needed then.
+fn opposed(f: Operation, g: Operation) -> bool
+    ensures { λ r. ⌜ (r ≡ true → Opposed f g) ⌝ }
+{
+    if f.a != g.a {
+        return false;
+    }
+    if f.b != g.b {
+        return false;
+    }
+    if f.c != g.c {
+        return false;
+    }
+    if alike(with_constant(f), with_constant(g)) {
+        return opposite(g.code % 8) == f.code % 8;
+    }
+    false
+}
+
 // Whether exactly one of two assumptions holds, for all values.
 pub fn exactly_one(f: Operation, g: Operation) -> bool
     ensures is { λ r. ⌜ r ≡ exclusive f g ⌝ }
     ensures means { λ r. ⌜ (Operands f → Operands g → (r ≡ true) ↔ ExactlyOne f g) ⌝ }
 {
+    if opposed(f, g) {
+        return true;
+    }
     !together(f, true, g, true) && !together(f, false, g, false)
 }

@@ -1,0 +1,61 @@
+-- Two assumptions that compare the same in opposite ways: exactly one holds, whatever the values. Assumes nothing.
+use mathlib.Core.Path.{_≡_, refl, sym, ap, ap₂, subst, _∙_}
+use mathlib.Core.Bool.{Bool, true, false, cond, _&&_, not}
+use mathlib.Core.List.{List, [], _∷_}
+use Prim.Native.Nat.{ℕ, _%_, _<_}
+use native.Mathlib.Decide.{ℕ-discrete, decLt}
+use native.Mathlib.Omega.{arith}
+use lib.ListN.{getD}
+use Rattle.base.proofs.Lists.{any-false}
+use Rattle.base.proofs.Tests.{T-true}
+use Rattle.chart.specs.declared.operations.Operation.{Operation}
+use Rattle.chart.specs.Operations.{relation, related, withConstant, right, holds}
+use Rattle.chart.specs.Assumptions.{Opposed}
+use Rattle.chart.specs.Trials.{alike, seats, trial, points, shown, shownBy, together, exclusive}
+use Rattle.chart.proofs.Order.{below-table, equal-table, above-table, related-lt, related-eq, related-gt}
+use Rattle.chart.proofs.Exact.{alike-is}
+
+-- s holds where r does not, if it is so of numbers that are below, equal and above
+pub turned : (r s : ℕ) → getD below-table s false ≡ not (getD below-table r false) → getD equal-table s false ≡ not (getD equal-table r false)
+    → getD above-table s false ≡ not (getD above-table r false) → (x y : ℕ) → related s x y ≡ not (related r x y)
+turned r s b e a x y = go (ℕ-discrete x y) (decLt x y)
+  where
+    go : Dec (x ≡ y) → Dec (x < y) → related s x y ≡ not (related r x y)
+    go (yes q) l = related-eq s x y q ∙ e ∙ ap not (sym (related-eq r x y q))
+    go (no n) (yes l) = related-lt s x y l ∙ b ∙ ap not (sym (related-lt r x y l))
+    go (no n) (no l) = related-gt s x y (omega arith) ∙ a ∙ ap not (sym (related-gt r x y (omega arith)))
+
+-- the relation of a code is below 8
+pub opposite-of : (code s r : ℕ) → s ≡ code % 8 → ((x y : ℕ) → s < 8 → related s x y ≡ not (related r x y))
+    → (x y : ℕ) → related (code % 8) x y ≡ not (related r x y)
+opposite-of code s r e h x y = subst (λ (z : ℕ). related z x y ≡ not (related r x y)) e (h x y (omega arith))
+
+module _ (f g : Operation) where
+  -- the same two numbers, compared by opposite relations
+  pub opposed-by : f .a ≡ g .a → f .b ≡ g .b → f .c ≡ g .c → alike (withConstant f) (withConstant g) ≡ true
+      → ((x y : ℕ) → related (relation f) x y ≡ not (related (relation g) x y)) → Opposed f g
+  unfolding holds
+  opposed-by ea eb ec w h v = h (v (f .a)) (right f v) ∙ ap not (ap₂ (related (relation g)) (ap v ea) (go (withConstant f) (withConstant g) (alike-is _ _ (T-true w))))
+    where
+      go : (p q : Bool) → q ≡ p → cond p (f .c) (v (f .b)) ≡ cond q (g .c) (v (g .b))
+      go true true e = ec
+      go false false e = ap v eb
+      go true false e = absurd (T-true e)
+      go false true e = absurd (T-true (sym e))
+
+  -- no trial meets both, and none fails both
+  neither : (b h : Bool) → alike b (not h) && alike b h ≡ false
+  neither true true = refl
+  neither true false = refl
+  neither false true = refl
+  neither false false = refl
+
+  apart : Opposed f g → (b : Bool) → together f b g b ≡ false
+  unfolding together shown
+  apart h b =
+      any-false (shownBy (seats f g) f b g b (points (f .c) (g .c))) (points (f .c) (g .c))
+      (λ x. any-false (shown (seats f g) f b g b x) (points (f .c) (g .c))
+      (λ y. rw (h (trial (seats f g) x y)) (neither b (holds g (trial (seats f g) x y)))))
+
+  pub opposed-one : Opposed f g → true ≡ exclusive f g
+  opposed-one h = rw (apart h true, apart h false)
