@@ -1,0 +1,179 @@
+// What the tests outside Rattle call of the crate `chart`: numbers and slices in, one number out.
+ghost use mathlib.Core.Path.{_≡_};
+ghost use lib.ListN.{length, getD};
+ghost use Rattle.chart.specs.Charts.{Chart};
+ghost use Rattle.chart.specs.Faults.{refusal, writtenBy, metBy};
+ghost use Rattle.chart.specs.Lookup.{lookup};
+ghost use Rattle.chart.specs.Trials.{implication, exclusive};
+ghost use Rattle.testing.specs.Numbers.{operation, implicationNumber, bit, faultNumber, faultPosition, writtenNumber, metNumber};
+use chart::assumptions::Implication;
+use chart::charts::Head;
+use chart::charts::Judged;
+use chart::operations::Met;
+use chart::operations::Operation;
+use chart::operations::Written;
+
+// 0 never, 1 implied, 2 not implied.
+#[no_mangle]
+pub extern "C" fn testing_implies(
+    code: u32,
+    a: u32,
+    b: u32,
+    c: u32,
+    code2: u32,
+    a2: u32,
+    b2: u32,
+    c2: u32,
+) -> u32
+    ensures { λ r. ⌜ r ≡ implicationNumber (implication (operation code a b c) (operation code2 a2 b2 c2)) ⌝ }
+{
+    let f = Operation { code, a, b, c };
+    let g = Operation {
+        code: code2,
+        a: a2,
+        b: b2,
+        c: c2,
+    };
+    match chart::assumptions::implies(f, g) {
+        Implication::Never => 0,
+        Implication::Implied => 1,
+        Implication::NotImplied => 2,
+    }
+}
+
+// 1 where exactly one of two assumptions holds, for all values, else 0.
+#[no_mangle]
+pub extern "C" fn testing_exactly_one(
+    code: u32,
+    a: u32,
+    b: u32,
+    c: u32,
+    code2: u32,
+    a2: u32,
+    b2: u32,
+    c2: u32,
+) -> u32
+    ensures { λ r. ⌜ r ≡ bit (exclusive (operation code a b c) (operation code2 a2 b2 c2)) ⌝ }
+{
+    let f = Operation { code, a, b, c };
+    let g = Operation {
+        code: code2,
+        a: a2,
+        b: b2,
+        c: c2,
+    };
+    if chart::assumptions::exactly_one(f, g) {
+        1
+    } else {
+        0
+    }
+}
+
+// The number of a chart's refusal, 0 where there is none.
+#[no_mangle]
+pub extern "C" fn testing_fault(places: u32, alarm: u32, rows: &[u32]) -> u32
+    ensures { λ r. ⌜ r ≡ faultNumber (refusal (record { places = places; alarm = alarm; table = now (rows .entry) })) ⌝ }
+{
+    match chart::judge(Head { places, alarm }, rows) {
+        Judged::Faultless => 0,
+        Judged::Ragged => 21,
+        Judged::Faulty {
+            number,
+            position: _,
+        } => number,
+    }
+}
+
+// The position of a chart's refusal, 0 where there is none.
+#[no_mangle]
+pub extern "C" fn testing_fault_position(places: u32, alarm: u32, rows: &[u32]) -> usize
+    ensures { λ r. ⌜ r ≡ faultPosition (refusal (record { places = places; alarm = alarm; table = now (rows .entry) })) ⌝ }
+{
+    match chart::judge(Head { places, alarm }, rows) {
+        Judged::Faultless => 0,
+        Judged::Ragged => 0,
+        Judged::Faulty {
+            number: _,
+            position,
+        } => position,
+    }
+}
+
+// The value that an assignment writes, or 2^32 and a refusal's number.
+#[no_mangle]
+pub extern "C" fn testing_written(code: u32, a: u32, b: u32, c: u32, values: &[u32]) -> u64
+    ensures { λ r. ⌜ r ≡ writtenNumber (writtenBy (operation code a b c) (now (values .entry))) ⌝ }
+{
+    match chart::value_written(Operation { code, a, b, c }, values) {
+        Written::Value(x) => x as u64,
+        Written::Refused(n) => 4294967296 + n as u64,
+    }
+}
+
+// 1 where the values meet an assumption, 0 where they do not, or 2^32 and a refusal's number.
+#[no_mangle]
+pub extern "C" fn testing_meets(code: u32, a: u32, b: u32, c: u32, values: &[u32]) -> u64
+    ensures { λ r. ⌜ r ≡ metNumber (metBy (operation code a b c) (now (values .entry))) ⌝ }
+{
+    match chart::meets(Operation { code, a, b, c }, values) {
+        Met::Yes => 1,
+        Met::No => 0,
+        Met::Refused(n) => 4294967296 + n as u64,
+    }
+}
+
+// How many entries the part has that lookup hands back.
+#[no_mangle]
+pub extern "C" fn testing_lookup_length<'a>(
+    old_places: u32,
+    old_alarm: u32,
+    old_rows: &'a [u32],
+    new_places: u32,
+    new_alarm: u32,
+    new_rows: &'a [u32],
+    chart: u32,
+    place: u32,
+) -> usize
+    ensures { λ r. ⌜ r ≡ length (lookup (record { places = «old_places»; alarm = «old_alarm»; table = now («old_rows» .entry) }) (record { places = «new_places»; alarm = «new_alarm»; table = now («new_rows» .entry) }) chart place) ⌝ }
+{
+    let old = Head {
+        places: old_places,
+        alarm: old_alarm,
+    };
+    let new = Head {
+        places: new_places,
+        alarm: new_alarm,
+    };
+    let part = chart::lookup(old, old_rows, new, new_rows, chart, place);
+    part.len()
+}
+
+// The entry at an index of the part that lookup hands back, 0 past its end.
+#[no_mangle]
+pub extern "C" fn testing_lookup_entry<'a>(
+    old_places: u32,
+    old_alarm: u32,
+    old_rows: &'a [u32],
+    new_places: u32,
+    new_alarm: u32,
+    new_rows: &'a [u32],
+    chart: u32,
+    place: u32,
+    index: usize,
+) -> u32
+    ensures { λ r. ⌜ r ≡ getD (lookup (record { places = «old_places»; alarm = «old_alarm»; table = now («old_rows» .entry) }) (record { places = «new_places»; alarm = «new_alarm»; table = now («new_rows» .entry) }) chart place) index 0 ⌝ }
+{
+    let old = Head {
+        places: old_places,
+        alarm: old_alarm,
+    };
+    let new = Head {
+        places: new_places,
+        alarm: new_alarm,
+    };
+    let part = chart::lookup(old, old_rows, new, new_rows, chart, place);
+    if index < part.len() {
+        return part[index];
+    }
+    0
+}

@@ -1,0 +1,213 @@
+//! "Charts and rows" of the specification once more, in plain Rust, sharing nothing with the proved code.
+
+use crate::{Chart, Operation, Random};
+
+pub const CODES: [u32; 18] = [0, 1, 2, 3, 4, 5, 16, 17, 18, 19, 20, 21, 32, 33, 34, 35, 36, 37];
+
+pub fn is_assignment(o: Operation) -> bool {
+    o.code <= 5
+}
+
+pub fn is_assumption(o: Operation) -> bool {
+    (16..=21).contains(&o.code) || (32..=37).contains(&o.code)
+}
+
+/// What codes 0 to 5 write.
+pub fn value(o: Operation, v: &[u32]) -> u32 {
+    let at = |i: u32| v[i as usize];
+    match o.code {
+        0 => o.c,
+        1 => at(o.b),
+        2 => at(o.b).wrapping_add(o.c),
+        3 => at(o.b).wrapping_add(at(o.c)),
+        4 => at(o.b).wrapping_sub(at(o.c)),
+        5 => at(o.b).wrapping_neg(),
+        _ => unreachable!(),
+    }
+}
+
+/// Whether values meet an assumption.
+pub fn holds(o: Operation, v: &[u32]) -> bool {
+    let x = v[o.a as usize];
+    let (r, y) = if o.code < 32 { (o.code - 16, o.c) } else { (o.code - 32, v[o.b as usize]) };
+    [x == y, x != y, x < y, x <= y, x > y, x >= y][r as usize]
+}
+
+/// Refusal 7: a variable above 63 or an unused operand that is not 0.
+pub fn operands_fit(o: Operation) -> bool {
+    let (b, c) = match o.code {
+        0 => ("unused", "constant"),
+        1 | 5 => ("variable", "unused"),
+        2 => ("variable", "constant"),
+        3 | 4 => ("variable", "variable"),
+        16..=21 => ("unused", "constant"),
+        _ => ("variable", "unused"),
+    };
+    let fits = |use_of: &str, x: u32| match use_of {
+        "variable" => x < 64,
+        "unused" => x == 0,
+        _ => true,
+    };
+    o.a < 64 && fits(b, o.b) && fits(c, o.c)
+}
+
+/// All values of the variables that two assumptions compare which could tell them apart: every constant with its neighbours, the ends,
+/// and numbers in between.
+fn telling(f: Operation, g: Operation) -> Vec<u32> {
+    let mut all = vec![0, 1, 2, 3, 5, 1 << 31, u32::MAX - 2, u32::MAX - 1, u32::MAX];
+    for c in [f.c, g.c] {
+        for d in -2i64..=2 {
+            all.push((c as i64 + d) as u32);
+        }
+    }
+    all.sort_unstable();
+    all.dedup();
+    all
+}
+
+/// Whether some values meet f if p says so, else not, and g likewise: by trying every combination of telling values at up to four variables.
+pub fn together(f: Operation, p: bool, g: Operation, q: bool) -> bool {
+    let mut variables = vec![f.a, g.a];
+    for o in [f, g] {
+        if o.code >= 32 {
+            variables.push(o.b);
+        }
+    }
+    variables.sort_unstable();
+    variables.dedup();
+    let points = telling(f, g);
+    let mut v = [0u32; 64];
+    fn go(k: usize, variables: &[u32], points: &[u32], v: &mut [u32; 64], test: &dyn Fn(&[u32; 64]) -> bool) -> bool {
+        if k == variables.len() {
+            return test(v);
+        }
+        points.iter().any(|&x| {
+            v[variables[k] as usize] = x;
+            go(k + 1, variables, points, v, test)
+        })
+    }
+    go(0, &variables, &points, &mut v, &|v| holds(f, v) == p && holds(g, v) == q)
+}
+
+pub fn exactly_one(f: Operation, g: Operation) -> bool {
+    !together(f, true, g, true) && !together(f, false, g, false)
+}
+
+/// 0 never, 1 implied, 2 not implied.
+pub fn implies(f: Operation, g: Operation) -> u32 {
+    if !together(f, true, f, true) {
+        0
+    } else if !together(f, true, g, false) {
+        1
+    } else {
+        2
+    }
+}
+
+pub fn row(rows: &[u32], i: usize) -> (u32, u32, Operation) {
+    let r = &rows[6 * i..6 * i + 6];
+    (r[0], r[1], Operation { code: r[2], a: r[3], b: r[4], c: r[5] })
+}
+
+/// The number and position of a chart's refusal, (0, 0) where there is none.
+pub fn fault(chart: &Chart) -> (u32, usize) {
+    if chart.rows.len() % 6 != 0 {
+        return (21, 0);
+    }
+    let (n, count) = (chart.places, chart.rows.len() / 6);
+    if n == 0 || count == 0 {
+        return (1, 0);
+    }
+    if n > 64 || count > 128 {
+        return (2, 0);
+    }
+    if chart.alarm >= n {
+        return (3, 0);
+    }
+    let mut previous = 0;
+    for i in 0..count {
+        let (from, to, o) = row(&chart.rows, i);
+        if from >= n || to >= n {
+            return (4, i);
+        }
+        if from < previous {
+            return (5, i);
+        }
+        previous = from;
+        if !is_assignment(o) && !is_assumption(o) {
+            return (6, i);
+        }
+        if !operands_fit(o) {
+            return (7, i);
+        }
+    }
+    for i in 0..count {
+        let (from, _, o) = row(&chart.rows, i);
+        for j in 0..i {
+            let (earlier, _, e) = row(&chart.rows, j);
+            if earlier == from && !(is_assumption(e) && is_assumption(o) && exactly_one(e, o)) {
+                return (8, i);
+            }
+        }
+    }
+    (0, 0)
+}
+
+/// The rows that leave a place of the chart named.
+pub fn lookup(old: &Chart, new: &Chart, which: u32, place: u32) -> Vec<u32> {
+    let chart = match which {
+        0 => old,
+        1 => new,
+        _ => return Vec::new(),
+    };
+    if fault(chart) != (0, 0) || place >= chart.places {
+        return Vec::new();
+    }
+    chart.rows.chunks(6).filter(|r| r[0] == place).flatten().copied().collect()
+}
+
+// ---- drawn at random
+
+pub fn operation(random: &mut Random, codes: &[u32]) -> Operation {
+    let code = random.one_of(codes);
+    let constant = random.one_of(&[0, 1, 2, 3, 99, 100, 101, u32::MAX - 1, u32::MAX, 1 << 31]);
+    let variable = |random: &mut Random| random.one_of(&[0, 1, 2, 63]);
+    let (a, b) = (variable(random), variable(random));
+    let c = variable(random);
+    match code {
+        0 | 16..=21 => Operation { code, a, b: 0, c: constant },
+        1 | 5 | 32..=37 => Operation { code, a, b, c: 0 },
+        2 => Operation { code, a, b, c: constant },
+        _ => Operation { code, a, b, c },
+    }
+}
+
+/// A chart most of whose places have an assignment or two opposite assumptions; then, now and then, some entries are spoilt.
+pub fn chart(random: &mut Random) -> Chart {
+    let places = 1 + random.below(12) as u32;
+    let mut rows = Vec::new();
+    for from in 0..places {
+        let to = |random: &mut Random| random.below(places as u64) as u32;
+        match random.below(4) {
+            0 => {}
+            1 => {
+                let o = operation(random, &CODES[..6]);
+                rows.extend([from, to(random), o.code, o.a, o.b, o.c]);
+            }
+            _ => {
+                let o = operation(random, &CODES[6..]);
+                let opposite = o.code / 16 * 16 + [1, 0, 5, 4, 3, 2][(o.code % 16) as usize];
+                rows.extend([from, to(random), o.code, o.a, o.b, o.c]);
+                rows.extend([from, to(random), opposite, o.a, o.b, o.c]);
+            }
+        }
+    }
+    let mut chart = Chart { places, alarm: random.below(places as u64) as u32, rows };
+    for _ in 0..random.below(3) {
+        if random.below(3) == 0 && !chart.rows.is_empty() {
+            let at = random.below(chart.rows.len() as u64) as usize;
+            chart.rows[at] = random.one_of(&[0, 1, 2, 5, 6, 22, 38, 63, 64, 100, u32::MAX]);
+        }
+    }
+    chart
+}

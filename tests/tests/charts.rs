@@ -1,0 +1,117 @@
+//! The crate `chart` against the vectors and against a plain Rust reading of the specification.
+
+use picker_tests::{cases, exactly_one, fault, implies, lookup, meets, model, written, Chart, Operation, Random};
+
+/// Each line of the vectors: two assumptions, then `never`, `implied` or `not`.
+#[test]
+fn vectors_of_implication() {
+    let mut count = 0;
+    for line in include_str!("../vectors/implies.txt").lines() {
+        let words: Vec<&str> = line.split_whitespace().collect();
+        let n: Vec<u32> = words[..8].iter().map(|w| w.parse().unwrap()).collect();
+        let f = Operation { code: n[0], a: n[1], b: n[2], c: n[3] };
+        let g = Operation { code: n[4], a: n[5], b: n[6], c: n[7] };
+        let expected = match words[8] {
+            "never" => 0,
+            "implied" => 1,
+            "not" => 2,
+            other => panic!("unknown answer {other}"),
+        };
+        assert_eq!(implies(f, g), expected, "{line}");
+        count += 1;
+    }
+    assert!(count > 1000, "only {count} vectors");
+}
+
+#[test]
+fn assumptions_as_modelled() {
+    let mut random = Random::new(20261);
+    for _ in 0..cases(3000) {
+        let f = model::operation(&mut random, &model::CODES[6..]);
+        let g = model::operation(&mut random, &model::CODES[6..]);
+        assert_eq!(implies(f, g), model::implies(f, g), "{f:?} {g:?}");
+        assert_eq!(exactly_one(f, g), model::exactly_one(f, g), "{f:?} {g:?}");
+    }
+}
+
+#[test]
+fn operations_as_modelled() {
+    let mut random = Random::new(20262);
+    let mut values = [0u32; 64];
+    for _ in 0..cases(20000) {
+        for v in values.iter_mut() {
+            let any = random.word();
+            *v = random.one_of(&[0, 1, 2, 99, 100, u32::MAX, u32::MAX - 1, any]);
+        }
+        let mut o = model::operation(&mut random, &model::CODES);
+        if random.below(10) == 0 {
+            o.code = random.one_of(&[6, 15, 22, 31, 38, u32::MAX]);
+        }
+        if random.below(10) == 0 {
+            o.b = random.one_of(&[1, 64, u32::MAX]);
+        }
+        let refused = |sort: bool| {
+            if !sort {
+                Some(6)
+            } else if !model::operands_fit(o) {
+                Some(7)
+            } else {
+                None
+            }
+        };
+        let expected = refused(model::is_assignment(o)).map_or_else(|| model::value(o, &values) as u64, |n| (1 << 32) + n);
+        assert_eq!(written(o, &values), expected, "{o:?}");
+        let expected = refused(model::is_assumption(o)).map_or_else(|| model::holds(o, &values) as u64, |n| (1 << 32) + n);
+        assert_eq!(meets(o, &values), expected, "{o:?}");
+    }
+    let o = Operation { code: 0, a: 0, b: 0, c: 7 };
+    assert_eq!(written(o, &values[..63]), (1 << 32) + 21);
+    assert_eq!(meets(o, &[0; 65]), (1 << 32) + 21);
+}
+
+#[test]
+fn faults_and_lookup_as_modelled() {
+    let mut random = Random::new(20263);
+    let mut seen = [0usize; 22];
+    for _ in 0..cases(4000) {
+        let (old, new) = (model::chart(&mut random), model::chart(&mut random));
+        let expected = model::fault(&old);
+        assert_eq!(fault(&old), expected, "{old:?}");
+        seen[expected.0 as usize] += 1;
+        for which in 0..3 {
+            for place in 0..=old.places.max(new.places) {
+                assert_eq!(lookup(&old, &new, which, place), model::lookup(&old, &new, which, place), "{old:?} {new:?} {which} {place}");
+            }
+        }
+    }
+    for number in [0, 1, 4, 5, 6, 7, 8] {
+        assert!(seen[number] > 0, "no chart with refusal {number} was drawn");
+    }
+}
+
+/// The edges that the specification names, and heads and lengths at fault.
+#[test]
+fn edges() {
+    let chart = |places, alarm, rows: &[u32]| Chart { places, alarm, rows: rows.to_vec() };
+    let one = [0, 0, 0, 0, 0, 0];
+    assert_eq!(fault(&chart(64, 63, &one)), (0, 0));
+    assert_eq!(fault(&chart(65, 64, &one)), (2, 0));
+    assert_eq!(fault(&chart(65, 64, &[])), (1, 0));
+    assert_eq!(fault(&chart(0, 0, &one)), (1, 0));
+    assert_eq!(fault(&chart(1, 1, &one)), (3, 0));
+    assert_eq!(fault(&chart(1, 0, &one[..5])), (21, 0));
+    let both: Vec<u32> = (0..64).flat_map(|p| [p, 0, 16, 0, 0, 1, p, 0, 17, 0, 0, 1]).collect();
+    assert_eq!(fault(&chart(64, 0, &both)), (0, 0));
+    let mut more = both.clone();
+    more.extend([63, 0, 16, 0, 0, 1]);
+    assert_eq!(fault(&chart(64, 0, &more)), (2, 0));
+    assert_eq!(fault(&chart(1, 0, &[0, 0, 0, 63, 0, 0])), (0, 0));
+    assert_eq!(fault(&chart(1, 0, &[0, 0, 0, 64, 0, 0])), (7, 0));
+    for code in [6, 22, 38] {
+        assert_eq!(fault(&chart(1, 0, &[0, 0, code, 0, 0, 0])), (6, 0));
+    }
+    // v0 < 0 beside v1 ≥ 0 passes, beside v1 < 0 it does not; a third row of a place is always in conflict.
+    assert_eq!(fault(&chart(1, 0, &[0, 0, 18, 0, 0, 0, 0, 0, 21, 1, 0, 0])), (0, 0));
+    assert_eq!(fault(&chart(1, 0, &[0, 0, 18, 0, 0, 0, 0, 0, 18, 1, 0, 0])), (8, 1));
+    assert_eq!(fault(&chart(1, 0, &[0, 0, 16, 0, 0, 1, 0, 0, 17, 0, 0, 1, 0, 0, 16, 0, 0, 1])), (8, 2));
+}
