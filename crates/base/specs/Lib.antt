@@ -1,5 +1,6 @@
 -- The definitions that every layer shares.
 pub mod Answers
+pub mod Chains
 pub mod Lists
 pub mod Options
 pub mod Tests

@@ -1,0 +1,80 @@
+-- Laws of tables: fields that are read into one, and a table that is copied.
+-- Assumes nothing.
+use mathlib.Core.Path.{_≡_, refl, sym, ap, _∙_, subst}
+use mathlib.Core.List.{List, [], _∷_, _++_}
+use Prim.Native.Nat.{ℕ, zero, suc, _+_, _-_, _≤_, _<_}
+use native.Mathlib.Numerals.{add-one}
+use native.Mathlib.Omega.{arith}
+use lib.ListN.{length, getD, take, drop, set, length-set}
+use lib.Seq.{take-suc-set, take-all, paste, paste-zero, paste-suc, length-paste}
+use Rattle.base.specs.Answers.{Answer, given, refused}
+use Rattle.text.specs.declared.fields.Field.{Field}
+use Rattle.text.specs.declared.fields.Field.the-variants.{Number, Unfit}
+use Rattle.text.specs.declared.inner.table.Reach.the-variants.{Past, Stopped}
+use Rattle.text.specs.Fields.{itemAt}
+use Rattle.text.specs.Spans.{Span, onField, fieldsAt, toldReach}
+
+-- ---- fields are read into a table
+
+-- i of the n fields are in the table, and reading the others after them gives what reading all gives
+pub record Reading (n k : ℕ) (text : List ℕ) (at : ℕ) (table₀ table : List ℕ) (p i : ℕ) : Type 0 where
+  pub is : fieldsAt n k text at [] ≡ fieldsAt (n - i) (k + i) text p (take i table)
+  pub most : i ≤ n
+  pub long : length table ≡ length table₀
+
+pub reading-start : (n k : ℕ) (text : List ℕ) (at : ℕ) (table : List ℕ) → Reading n k text at table table at 0
+reading-start n k text at table =
+    let z : n - 0 ≡ n = omega arith in
+    let y : k + 0 ≡ k = omega arith in
+    record { is = rw (z, y); most = omega arith; long = refl }
+
+module _ (n k : ℕ) (text : List ℕ) (at : ℕ) (table₀ table : List ℕ) (p i : ℕ) (c : Reading n k text at table₀ table p i) where
+  left : i < n → n - i ≡ suc (n - (i + 1))
+  left h = omega arith
+
+  pub reading-stop : (l : List ℕ) (f : Field) (m q : ℕ) → i < n → f ≡ itemAt (k + i) text p → f ≡ Unfit m q → toldReach (Stopped m q) l ≡ fieldsAt n k text at []
+  unfolding fieldsAt toldReach
+  reading-stop l f m q h e g = rw (c .is, left h, fieldsAt, sym e ∙ g)
+
+  pub reading-more : (f : Field) (x q : ℕ) (after : List ℕ) → n ≤ length table₀ → i < n → f ≡ itemAt (k + i) text p → f ≡ Number x q → after ≡ set table i x → Reading n k text at table₀ after q (i + 1)
+  unfolding fieldsAt
+  reading-more f x q after w h e g s =
+      let z : k + (i + 1) ≡ suc (k + i) = omega arith in
+      let t : take (i + 1) after ≡ take i table ++ (x ∷ []) = rw (s, add-one i) (take-suc-set table i x (omega (arith, c .long))) in
+      record {
+        is = rw (c .is, left h, fieldsAt, sym e ∙ g, z, t);
+        most = omega arith;
+        long = ap length s ∙ length-set table i x ∙ c .long;
+      }
+
+  pub reading-done : n ≤ i → toldReach (Past p) (take n table) ≡ fieldsAt n k text at []
+  unfolding fieldsAt toldReach
+  reading-done h =
+      let z : n - i ≡ 0 = omega arith in
+      let e : i ≡ n = omega (arith, c .most) in
+      rw (c .is, z, fieldsAt, e)
+
+-- ---- a table is copied
+
+pub record Copying (l table₀ table : List ℕ) (i : ℕ) : Type 0 where
+  pub is : table ≡ paste table₀ 0 l i
+  pub most : i ≤ length l
+  pub long : length table ≡ length table₀
+
+pub copying-start : (l table : List ℕ) → Copying l table table 0
+copying-start l table = record { is = paste-zero table 0 l; most = omega arith; long = refl }
+
+module _ (l table₀ table : List ℕ) (i : ℕ) where
+  pub copying-more : length l ≤ length table₀ → Copying l table₀ table i → i < length l → Copying l table₀ (set table i (getD l i 0)) (i + 1)
+  copying-more w c h =
+      let z : 0 + i ≡ i = omega arith in
+      let s : set (paste table₀ 0 l i) i (getD l i 0) ≡ paste table₀ 0 l (suc i) =
+      subst (λ (k : ℕ). set (paste table₀ 0 l i) k (getD l i 0) ≡ paste table₀ 0 l (suc i)) z (paste-suc table₀ 0 l i 0 (omega arith) h) in
+      let e : set table i (getD l i 0) ≡ paste table₀ 0 l (i + 1) = rw (c .is, add-one i) s in
+      record { is = e; most = omega arith; long = ap length e ∙ length-paste table₀ 0 l (i + 1) (omega arith) (omega arith) }
+
+  pub copying-done : Copying l table₀ table i → length l ≤ i → table ≡ l ++ drop (length l) table₀
+  copying-done c h =
+      let e : i ≡ length l = omega (arith, c .most) in
+      let z : 0 + length l ≡ length l = omega arith in
+      c .is ∙ rw (e, z, take-all (length l) l (omega arith))

@@ -1,0 +1,182 @@
+-- Laws of what reading and writing answer, and of what they leave in lent memory.
+-- Assumes nothing.
+use mathlib.Core.Path.{_≡_, refl, sym, ap, _∙_, subst}
+use mathlib.Core.List.{List, [], _∷_, _++_}
+use Prim.Native.Nat.{ℕ, zero, suc, _+_, _*_, _/_, _%_, _≤_, _<_}
+use native.Mathlib.Omega.{arith}
+use borrow.Author.Tests.{eq-eqb, ne-eqb, le-leb, lt-leb, lt-ltb, le-ltb}
+use lib.Dec.{eqb, leb, ltb}
+use lib.ListN.{length, getD, take, drop}
+use lib.Seq.{sets, sets-eq, getD-take}
+use Rattle.base.specs.Answers.{Answer, given, refused}
+use Rattle.base.specs.Chains.{andThen, mapped}
+use Rattle.chart.specs.declared.charts.Head.{Head}
+use Rattle.chart.specs.declared.charts.Judged.{Judged}
+use Rattle.chart.specs.declared.charts.Judged.the-variants.{Faultless, Ragged, Faulty}
+use Rattle.chart.specs.Charts.{Chart, charted, size}
+use Rattle.chart.specs.Faults.{told, fault, refusal, unless}
+use Rattle.chart.proofs.Faultless.{faultless as sound}
+use Rattle.text.specs.declared.answers.Read.{Read}
+use Rattle.text.specs.declared.answers.Read.the-variants as read
+use Rattle.text.specs.declared.answers.Wrote.{Wrote}
+use Rattle.text.specs.declared.answers.Wrote.the-variants as wrote
+use Rattle.text.specs.declared.inner.table.Reach.{Reach}
+use Rattle.text.specs.declared.inner.table.Reach.the-variants.{Past, Stopped}
+use Rattle.text.specs.Fields.{kind}
+use Rattle.text.specs.Spans.{Span, fieldsAt, toldReach}
+use Rattle.text.specs.Texts.{whole, rowsAt, parsed, faultless, readText, readInto, filled, heading, toldRead}
+use Rattle.text.specs.Written.{fieldsText, numbers, written, writing, printed, toldWrote, Put}
+use Rattle.text.proofs.Sequences.{FitAll, OnGiven, Shown, fields-show, items-fit}
+
+-- ---- faults
+
+-- of a table of whole rows only the chart's own faults are left
+pub whole-rows : (C : Chart) → length (C .table) % 6 ≡ 0 → refusal C ≡ fault C
+unfolding refusal
+whole-rows C h = rw (eq-eqb _ _ h, refusal)
+
+-- a faultless chart's rows fill at most 768 entries
+pub short-table : (C : Chart) (j : Judged) → told j ≡ refusal C → j ≡ Faultless → length (C .table) ≤ 768
+short-table C j h e =
+    let f = sound C (sym h ∙ ap told e) in
+    omega (arith, f .whole, f .few-rows)
+
+-- ---- the reader
+
+-- what is said of an answer, and of the table after it
+abbrev ReadAs : Answer Chart → Read → List ℕ → List ℕ → Type 0
+ReadAs a r table after = (toldRead r ≡ mapped heading a) × (after ≡ filled a table)
+
+read-refused : (a : Answer Chart) (table : List ℕ) (m p : ℕ) → a ≡ refused m 0 p → ReadAs a (read.Refused m p) table table
+unfolding filled toldRead
+read-refused a table m p e = (rw e, rw e)
+
+module _ (h : Head) (l table : List ℕ) (j : Judged) (is : told j ≡ refusal (charted h l)) where
+  pub hand-ragged : j ≡ Ragged → ReadAs (unless (refusal (charted h l)) (charted h l)) (read.Refused 21 0) table table
+  hand-ragged e = read-refused _ table 21 0 (rw (← is, e))
+
+  pub hand-faulty : (m p : ℕ) → j ≡ Faulty m p → ReadAs (unless (refusal (charted h l)) (charted h l)) (read.Refused m p) table table
+  hand-faulty m p e = read-refused _ table m p (rw (← is, e))
+
+  pub hand-chart : (count : ℕ) (after : List ℕ) → length l ≡ 6 * count → j ≡ Faultless → after ≡ l ++ drop (length l) table
+      → ReadAs (unless (refusal (charted h l)) (charted h l)) (read.Chart h count) table after
+  unfolding filled toldRead
+  hand-chart count after w e g =
+      let n : length l / 6 ≡ count = omega arith in
+      (rw (← is, e, n), rw (← is, e) g)
+
+pub whole-after : (text : List ℕ) (at : ℕ) (C : Chart) → at < length text → whole text at C ≡ refused 14 0 at
+unfolding whole
+whole-after text at C h = rw (lt-ltb _ _ h, whole)
+
+pub whole-end : (text : List ℕ) (at : ℕ) (C : Chart) → length text ≤ at → whole text at C ≡ given C
+unfolding whole
+whole-end text at C h = rw (le-ltb _ _ h, whole)
+
+module _ (text : List ℕ) (at n alarm count : ℕ) (table : List ℕ) (r : Reach) (l : List ℕ) (is : toldReach r l ≡ fieldsAt (6 * count) 6 text at []) where
+  pub rows-stopped : (m p : ℕ) → r ≡ Stopped m p → ReadAs (faultless (rowsAt text at n alarm count)) (read.Refused m p) table table
+  unfolding rowsAt toldReach
+  rows-stopped m p e = read-refused _ table m p (rw (← is, e))
+
+  pub rows-after : (end : ℕ) → r ≡ Past end → end < length text → ReadAs (faultless (rowsAt text at n alarm count)) (read.Refused 14 end) table table
+  unfolding rowsAt toldReach
+  rows-after end e h = read-refused _ table 14 end (rw (← is, e, whole-after text end _ h))
+
+  pub rows-whole : (end : ℕ) (a : Read) (after : List ℕ) → r ≡ Past end → length text ≤ end → length l % 6 ≡ 0
+      → ReadAs (unless (refusal (record { places = n; alarm = alarm; table = l })) (record { places = n; alarm = alarm; table = l })) a table after
+      → ReadAs (faultless (rowsAt text at n alarm count)) a table after
+  unfolding rowsAt toldReach
+  rows-whole end a after e h w g =
+      let C : Chart = record { places = n; alarm = alarm; table = l } in
+      let i : faultless (rowsAt text at n alarm count) ≡ unless (refusal C) C = rw (← is, e, whole-end text end C h, whole-rows C w) in
+      rw i g
+
+-- the count of a first record that is read is at most 128
+third : (l : List ℕ) → length l ≡ 6 → FitAll 0 l → getD l 2 0 ≤ 128
+unfolding kind
+third [] h f = absurd (omega arith)
+third (a ∷ []) h f = absurd (omega arith)
+third (a ∷ b ∷ []) h f = absurd (omega arith)
+third (a ∷ b ∷ c ∷ l) h f = f .1 .1 .1 .1 .1 .0
+
+pub few-counted : (text : List ℕ) (s : Span) → fieldsAt 6 0 text 0 [] ≡ given s → getD (s .numbers) 2 0 ≤ 128
+few-counted text s e =
+    let g : Shown 6 0 text 0 [] s = subst (OnGiven (Shown 6 0 text 0 [])) e (fields-show 6 0 text 0 []) in
+    rw (g .is) (third (g .numbers) (g .count) (items-fit (g .numbers) 0 _ _ (g .items)))
+
+parsed-none : (text : List ℕ) → length text ≡ 0 → parsed text ≡ refused 11 0 0
+unfolding parsed
+parsed-none [] h = refl
+parsed-none (b ∷ s) h = absurd (omega arith)
+
+pub parsed-some : (text : List ℕ) → (length text ≡ 0 → ⊥) → parsed text
+    ≡ andThen (fieldsAt 6 0 text 0 []) (λ (f : Span). rowsAt text (f .next) (getD (f .numbers) 0 0) (getD (f .numbers) 1 0) (getD (f .numbers) 2 0))
+unfolding parsed
+parsed-some [] h = absurd (h refl)
+parsed-some (b ∷ s) h = refl
+
+module _ (text table : List ℕ) where
+  pub read-unsized : (length table ≡ 768 → ⊥) → ReadAs (readInto text table) (read.Refused 21 0) table table
+  unfolding readInto
+  read-unsized h = read-refused _ table 21 0 (rw (ne-eqb _ _ h, readInto))
+
+  module _ (sized : length table ≡ 768) where
+    read-sized : readInto text table ≡ readText text
+    unfolding readInto
+    read-sized = rw (eq-eqb _ _ sized, readInto)
+
+    pub read-empty : length text ≡ 0 → ReadAs (readInto text table) (read.Refused 11 0) table table
+    unfolding readText
+    read-empty h = read-refused _ table 11 0 (read-sized ∙ rw (parsed-none text h))
+
+    module _ (some-byte : length text ≡ 0 → ⊥) (r : Reach) (l : List ℕ) (is : toldReach r (take 6 l) ≡ fieldsAt 6 0 text 0 []) where
+      pub read-stopped : (m p : ℕ) → r ≡ Stopped m p → ReadAs (readInto text table) (read.Refused m p) table table
+      unfolding readText toldReach
+      read-stopped m p e = read-refused _ table m p (read-sized ∙ rw (parsed-some text some-byte, ← is, e))
+
+      pub read-few : (at : ℕ) → r ≡ Past at → getD l 2 0 ≤ 128
+      unfolding toldReach
+      read-few at e =
+          let n = few-counted text (record { numbers = take 6 l; next = at }) (sym is ∙ rw e) in
+          rw (getD-take 6 l 2 0 (omega arith)) at n
+
+      pub read-rows : (at : ℕ) (a : Read) (after : List ℕ) → r ≡ Past at → ReadAs (faultless (rowsAt text at (getD l 0 0) (getD l 1 0) (getD l 2 0))) a table after
+          → ReadAs (readInto text table) a table after
+      unfolding readText toldReach
+      read-rows at a after e g =
+          let i : readInto text table ≡ faultless (rowsAt text at (getD l 0 0) (getD l 1 0) (getD l 2 0)) =
+          read-sized ∙ rw (parsed-some text some-byte, ← is, e, getD-take 6 l 0 0 (omega arith), getD-take 6 l 1 0 (omega arith), getD-take 6 l 2 0 (omega arith)) in
+          rw i g
+
+-- ---- the writer
+
+abbrev WroteAs : Answer (List ℕ) → Wrote → List ℕ → List ℕ → Type 0
+WroteAs a r bytes after = (toldWrote r ≡ mapped length a) × (after ≡ printed a bytes)
+
+write-refused : (a : Answer (List ℕ)) (bytes : List ℕ) (m p : ℕ) → a ≡ refused m 0 p → WroteAs a (wrote.Refused m p) bytes bytes
+unfolding printed toldWrote
+write-refused a bytes m p e = (rw e, rw e)
+
+module _ (C : Chart) (bytes : List ℕ) where
+  pub write-short : length bytes < 8643 → WroteAs (writing C (length bytes)) (wrote.Refused 21 0) bytes bytes
+  unfolding writing
+  write-short h = write-refused _ bytes 21 0 (rw (lt-leb _ _ h, writing))
+
+  module _ (long : 8643 ≤ length bytes) (j : Judged) (is : told j ≡ refusal C) where
+    write-long : writing C (length bytes) ≡ unless (told j) (written C)
+    unfolding writing
+    write-long = rw (le-leb _ _ long, writing, is)
+
+    pub write-ragged : j ≡ Ragged → WroteAs (writing C (length bytes)) (wrote.Refused 21 0) bytes bytes
+    write-ragged e = write-refused _ bytes 21 0 (write-long ∙ rw e)
+
+    pub write-faulty : (m p : ℕ) → j ≡ Faulty m p → WroteAs (writing C (length bytes)) (wrote.Refused m p) bytes bytes
+    write-faulty m p e = write-refused _ bytes m p (write-long ∙ rw e)
+
+    pub write-chart : (r : ℕ) (after : List ℕ) → j ≡ Faultless → (Put bytes 0 (written C) after r) × (r ≤ 8643) → WroteAs (writing C (length bytes)) (wrote.Bytes r) bytes after
+    unfolding printed toldWrote
+    write-chart r after e g =
+        let i : writing C (length bytes) ≡ given (written C) = write-long ∙ rw e in
+        let n : r ≡ length (written C) = omega (arith, g .0 .next) in
+        let z : 0 + length (written C) ≡ length (written C) = omega arith in
+        (rw (i, n), rw i (g .0 .is ∙ sets-eq (written C) bytes 0 (omega (arith, g .1)) ∙ rw z))

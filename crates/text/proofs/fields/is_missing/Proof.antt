@@ -1,0 +1,16 @@
+use Rattle.text.proofs.Numbers.{missing-here, missing-not}
+use borrow.Author.Needs.{needs}
+use native.Mathlib.Omega.{arith}
+use Rattle.text.proofs.fields.is_missing.Statement.{statement}
+use Rattle.text.proofs.fields.is_missing.Tie as tie
+use Rattle.text.proofs.fields.is_missing.Reads as reads
+use Rattle.text.proofs.fields.is_missing.Lts as lts
+
+returns : tie.Need-returns
+returns c = search missing-here
+
+returns-2 : tie.Need-returns-2
+returns-2 c = search missing-not
+
+pub is-missing-spec : {M : Type 1} → statement M
+is-missing-spec = tie.close (tie.spec returns returns-2)

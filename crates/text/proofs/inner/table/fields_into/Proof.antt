@@ -1,0 +1,75 @@
+use Prim.Native.Nat.{_-_}
+use Rattle.text.proofs.Tables.{Reading, reading-start, reading-stop, reading-more, reading-done}
+use borrow.Author.Needs.{needs}
+use native.Mathlib.Omega.{arith}
+use Rattle.text.proofs.inner.table.fields_into.Statement.{statement}
+use Rattle.text.proofs.inner.table.fields_into.Tie as tie
+use Rattle.text.proofs.inner.table.fields_into.Reads as reads
+use Rattle.text.proofs.inner.table.fields_into.Lts as lts
+use Rattle.text.proofs.inner.table.put.Reads as put-reads
+use Rattle.text.proofs.walk.item.Reads as item-reads
+
+abbrev Inv-loop : tie.InvT-loop
+Inv-loop text at field n table₀ p₀ i₀ table p i = Reading n field text at table₀ table p i
+
+abbrev μ-loop : tie.MeasureT-loop
+μ-loop text at field n table₀ p₀ i₀ table p i = n - i
+
+loop-holds : tie.Need-loop-holds Inv-loop μ-loop
+loop-holds c = search reading-start
+
+add-item : tie.Need-add-item Inv-loop μ-loop
+add-item c = search needs
+
+item-requires : tie.Need-item-requires Inv-loop μ-loop
+item-requires c κs = search needs
+
+enum-known-number : tie.Need-enum-known-number Inv-loop μ-loop
+enum-known-number c = search needs
+
+same-length : tie.Need-same-length Inv-loop μ-loop
+same-length c = search needs
+
+returns : tie.Need-returns Inv-loop μ-loop
+returns c = (search reading-stop, search needs)
+
+enum-known-x : tie.Need-enum-known-x Inv-loop μ-loop
+enum-known-x c = search needs
+
+put-requires : tie.Need-put-requires Inv-loop μ-loop
+put-requires c κs = search needs
+
+add-i : tie.Need-add-i Inv-loop μ-loop
+add-i c = search needs
+
+loop-less : tie.Need-loop-less Inv-loop μ-loop
+loop-less c = search needs
+
+loop-again : tie.Need-loop-again Inv-loop μ-loop
+loop-again c = search reading-more
+
+same-length-2 : tie.Need-same-length-2 Inv-loop μ-loop
+same-length-2 c = search needs
+
+returns-2 : tie.Need-returns-2 Inv-loop μ-loop
+returns-2 c = (search reading-done, search needs)
+
+pub fields-into-spec : {M : Type 1} → statement M
+fields-into-spec =
+    tie.close
+    (tie.spec
+    Inv-loop
+    μ-loop
+    loop-holds
+    add-item
+    item-requires
+    enum-known-number
+    same-length
+    returns
+    enum-known-x
+    put-requires
+    add-i
+    loop-less
+    loop-again
+    same-length-2
+    returns-2)

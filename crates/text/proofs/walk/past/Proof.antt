@@ -1,0 +1,22 @@
+use Rattle.text.proofs.Numbers.{past-number, past-unfit}
+use native.Mathlib.Omega.{arith}
+use borrow.Author.Needs.{needs}
+use Rattle.text.proofs.walk.past.Statement.{statement}
+use Rattle.text.proofs.walk.past.Tie as tie
+use Rattle.text.proofs.walk.past.Reads as reads
+use Rattle.text.proofs.walk.past.Lts as lts
+
+enum-known-f : tie.Need-enum-known-f
+enum-known-f c = search needs
+
+enum-told : tie.Need-enum-told
+enum-told c = search needs
+
+returns : tie.Need-returns
+returns c = search past-number
+
+returns-2 : tie.Need-returns-2
+returns-2 c = search past-unfit
+
+pub past-spec : {M : Type 1} → statement M
+past-spec = tie.close (tie.spec enum-known-f enum-told returns returns-2)

@@ -1,0 +1,62 @@
+-- Whole texts: what the reader answers ("Chart text", "Who can cause a refusal").
+use mathlib.Core.List.{List, [], _∷_, _++_}
+use mathlib.Core.Bool.{Bool, true, false}
+use Prim.Native.Nat.{ℕ, _*_}
+use lib.Dec.{eqb, ltb}
+use lib.ListN.{length, getD, drop}
+use Rattle.base.specs.Answers.{Answer, given, refused}
+use Rattle.base.specs.Chains.{andThen}
+use Rattle.chart.specs.Charts.{Chart, size}
+use Rattle.chart.specs.Faults.{fault, unless}
+use Rattle.text.specs.declared.answers.Read.{Read}
+use Rattle.text.specs.declared.answers.Read.the-variants as answer
+use Rattle.text.specs.Spans.{Span, fieldsAt}
+
+-- ---- the sender of a text
+-- "14 [..] any byte after the CRLF of the last counted record (the first such offset)"
+unfoldable pub whole : List ℕ → ℕ → Chart → Answer Chart
+whole text at C = elim (ltb at (length text)) [ true ↦ refused 14 0 at | false ↦ given C ]
+
+-- "then the rows": as many as the first record counts, and then the end of the text
+unfoldable pub rowsAt : List ℕ → ℕ → ℕ → ℕ → ℕ → Answer Chart
+rowsAt text at n alarm count =
+    andThen (fieldsAt (6 * count) 6 text at [])
+    (λ (rows : Span). whole text (rows .next) (record { places = n; alarm = alarm; table = rows .numbers }))
+
+-- "The first record is n, alarm, row count, 0, 0, 0"; "11 no bytes"
+unfoldable pub parsed : List ℕ → Answer Chart
+parsed [] = refused 11 0 0
+parsed (b ∷ s) =
+    andThen (fieldsAt 6 0 (b ∷ s) 0 [])
+    (λ (first : Span). rowsAt (b ∷ s) (first .next) (getD (first .numbers) 0 0) (getD (first .numbers) 1 0) (getD (first .numbers) 2 0))
+
+-- ---- the chart's author: "The reader tests this once its text has been read to the end"
+abbrev pub faultless : Answer Chart → Answer Chart
+faultless a = andThen a (λ (C : Chart). unless (fault C) C)
+
+-- the reader's answer as a function of the bytes
+unfoldable pub readText : List ℕ → Answer Chart
+readText text = faultless (parsed text)
+
+-- ---- the calling program: "21, a lent length differs from the stated one [..] Always first"; "The table lent to the reader has 768 entries"
+unfoldable pub readInto : List ℕ → List ℕ → Answer Chart
+readInto text table = elim (eqb (length table) 768) [ true ↦ readText text | false ↦ refused 21 0 0 ]
+
+-- the table afterwards: the rows at the front, and "those past the rows stay"; "lent memory is untouched" by a refusal
+unfoldable pub filled : Answer Chart → List ℕ → List ℕ
+filled (given C) table = C .table ++ drop (length (C .table)) table
+filled (refused n c p) table = table
+
+-- what is answered of a chart that is read: places, alarm, row count
+pub record Heading : Type 0 where
+  pub places : ℕ
+  pub alarm : ℕ
+  pub rows : ℕ
+
+abbrev pub heading : Chart → Heading
+heading C = record { places = C .places; alarm = C .alarm; rows = size (C .table) }
+
+-- what the code's answer says: a text's chart is the sole one, 0
+unfoldable pub toldRead : Read → Answer Heading
+toldRead (answer.Chart head rows) = given (record { places = head .places; alarm = head .alarm; rows = rows })
+toldRead (answer.Refused number position) = refused number 0 position

@@ -1,0 +1,58 @@
+// Fields read into a table of numbers.
+ghost use mathlib.Core.Path.{_≡_};
+ghost use mathlib.Core.List.{[], _++_};
+ghost use Prim.Native.Nat.{_+_, _<_, _≤_};
+ghost use lib.ListN.{length, take, drop, set};
+ghost use Rattle.text.specs.Spans.{fieldsAt, toldReach};
+use crate::fields::Field;
+use crate::walk::item;
+
+// The offset after the fields read, or the refusal and its offset.
+pub enum Reach {
+    Past(usize),
+    Stopped(u32, usize),
+}
+
+// One number into a table.
+fn put(table: &mut [u32], i: usize, x: u32)
+    requires { ⌜ i < length (now table) ⌝ }
+    ensures { λ _. ⌜ now (table .exit) ≡ set (now (table .entry)) i x ⌝ }
+{
+    table[i] = x;
+}
+
+// So many fields of a text, from this field at an offset on, into the front of a table.
+pub fn fields_into(text: &[u8], at: usize, field: usize, n: usize, table: &mut [u32]) -> Reach
+    requires { ⌜ n ≤ length (now table) ⌝ }
+    requires { ⌜ field + n ≤ 774 ⌝ }
+    ensures { λ r. ⌜ (toldReach r (take n (now (table .exit))) ≡ fieldsAt n field (now (text .entry)) at [])
+        × (length (now (table .exit)) ≡ length (now (table .entry))) ⌝ }
+{
+    let mut p = at;
+    let mut i = 0;
+    while i < n {
+        match item(text, p, field + i) {
+            Field::Unfit(number, position) => {
+                return Reach::Stopped(number, position);
+            }
+            Field::Number(x, next) => {
+                put(table, i, x);
+                p = next;
+            }
+        }
+        i += 1;
+    }
+    Reach::Past(p)
+}
+
+// The numbers into the front of a table.
+pub fn copy(numbers: &[u32], table: &mut [u32])
+    requires { ⌜ length (now numbers) ≤ length (now table) ⌝ }
+    ensures { λ _. ⌜ now (table .exit) ≡ now (numbers .entry) ++ drop (length (now (numbers .entry))) (now (table .entry)) ⌝ }
+{
+    let mut i = 0;
+    while i < numbers.len() {
+        table[i] = numbers[i];
+        i += 1;
+    }
+}

@@ -1,0 +1,59 @@
+// Chart texts: the reader and the writer. Here stand the entry points, which refuse bad input themselves.
+ghost use mathlib.Core.Path.{_≡_};
+ghost use lib.ListN.{length};
+ghost use Rattle.base.specs.Chains.{mapped};
+ghost use Rattle.chart.specs.Charts.{charted};
+ghost use Rattle.text.specs.Texts.{readInto, filled, heading, toldRead};
+ghost use Rattle.text.specs.Written.{writing, printed, toldWrote};
+use answers::Read;
+use answers::Wrote;
+use chart::charts::Head;
+use chart::charts::Judged;
+use inner::reader::rows_into;
+use inner::table::Reach;
+use inner::table::fields_into;
+use inner::writer::put_chart;
+
+pub mod answers; // answers.rt: what reading and writing answer
+pub mod fields; // fields.rt: the fields of a text
+pub mod inner; // inner.rt: what reading and writing are made of
+pub mod walk; // walk.rt: the walk over a text
+
+// The chart of a text: its rows go to the front of the table, which has 768 entries. A refusal leaves the table as it was.
+pub fn read(text: &[u8], table: &mut [u32]) -> Read
+    ensures { λ r. ⌜ (toldRead r ≡ mapped heading (readInto (now (text .entry)) (now (table .entry))))
+        × (now (table .exit) ≡ filled (readInto (now (text .entry)) (now (table .entry))) (now (table .entry))) ⌝ }
+{
+    if table.len() != 768 {
+        return Read::Refused(21, 0);
+    }
+    if text.len() == 0 {
+        return Read::Refused(11, 0);
+    }
+    let mut first = [0u32; 6];
+    match fields_into(text, 0, 0, 6, &mut first) {
+        Reach::Stopped(number, position) => Read::Refused(number, position),
+        Reach::Past(at) => {
+            let head = Head {
+                places: first[0],
+                alarm: first[1],
+            };
+            rows_into(text, at, head, first[2], table)
+        }
+    }
+}
+
+// The text of a chart, at the front of the bytes, of which there are 8,643 or more. A refusal leaves them as they were.
+pub fn write(head: Head, rows: &[u32], bytes: &mut [u8]) -> Wrote
+    ensures { λ r. ⌜ (toldWrote r ≡ mapped length (writing (charted head (now (rows .entry))) (length (now (bytes .entry)))))
+        × (now (bytes .exit) ≡ printed (writing (charted head (now (rows .entry))) (length (now (bytes .entry)))) (now (bytes .entry))) ⌝ }
+{
+    if bytes.len() < 8643 {
+        return Wrote::Refused(21, 0);
+    }
+    match chart::judge(head, rows) {
+        Judged::Ragged => Wrote::Refused(21, 0),
+        Judged::Faulty { number, position } => Wrote::Refused(number, position),
+        Judged::Faultless => Wrote::Bytes(put_chart(head, rows, bytes)),
+    }
+}
