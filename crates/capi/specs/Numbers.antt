@@ -1,0 +1,26 @@
+-- An answer as one number.
+use mathlib.Core.List.{List}
+use Prim.Native.Nat.{ℕ, _+_, _*_, _^_}
+use lib.ListN.{length}
+use Rattle.base.specs.Answers.{Answer, given, refused}
+use Rattle.chart.specs.Charts.{Chart, size}
+
+-- up to four numbers that a call answers
+pub record Four : Type 0 where
+  pub a : ℕ
+  pub b : ℕ
+  pub c : ℕ
+  pub d : ℕ
+
+-- a success is a + b × 2^14 + c × 2^28 + d × 2^42, a refusal number × 2^56 + chart × 2^48 + position
+abbrev pub number : Answer Four → ℕ
+number (given f) = f .a + f .b * 2 ^ 14 + f .c * 2 ^ 28 + f .d * 2 ^ 42
+number (refused n chart p) = n * 2 ^ 56 + chart * 2 ^ 48 + p
+
+-- a chart that is read: places, alarm, rows, 0
+abbrev pub ofChart : Chart → Four
+ofChart C = record { a = C .places; b = C .alarm; c = size (C .table); d = 0 }
+
+-- a text that is written: the count of its bytes, 0, 0, 0
+abbrev pub ofText : List ℕ → Four
+ofText t = record { a = length t; b = 0; c = 0; d = 0 }

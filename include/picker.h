@@ -1,0 +1,27 @@
+/* The path picker, for C. Link target/staticlib/libcapi.a, which `rt staticlib capi` writes.
+ *
+ * A caller owes: pointers that are good for the lengths given with them, and lent memory that does not overlap. Everything else the
+ * functions test themselves, and refuse. A refusal writes to nothing that was lent.
+ *
+ * The answer is the returned number. A refusal is number * 2^56 + chart * 2^48 + position, with chart 0 for the old or sole chart and 1
+ * for the new one, so it is 2^56 or more; success is a + b * 2^14 + c * 2^28 + d * 2^42. */
+#ifndef PICKER_H
+#define PICKER_H
+
+#include <stddef.h>
+#include <stdint.h>
+
+/* The chart of a text, its rows at the front of the table, which has 768 entries: places, alarm, rows, 0. */
+uint64_t picker_read(const uint8_t *text, size_t text_len, uint32_t *table, size_t table_len);
+
+/* The text of a chart, at the front of the bytes, of which there are 8,643 or more: bytes written, 0, 0, 0. */
+uint64_t picker_write(uint32_t places, uint32_t alarm, const uint32_t *rows, size_t rows_len, uint8_t *bytes, size_t bytes_len);
+
+/* An answer taken apart. */
+static inline int picker_refused(uint64_t answer) { return answer >> 56 != 0; }
+static inline uint32_t picker_number(uint64_t answer) { return (uint32_t)(answer >> 56); }
+static inline uint32_t picker_chart(uint64_t answer) { return (uint32_t)(answer >> 48) & 0xff; }
+static inline uint32_t picker_position(uint64_t answer) { return (uint32_t)answer; }
+static inline uint32_t picker_value(uint64_t answer, int which) { return (uint32_t)(answer >> (14 * which)) & 0x3fff; }
+
+#endif
