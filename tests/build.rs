@@ -1,10 +1,12 @@
-// Links the static library that `rt staticlib testing` writes.
+// Links the static libraries that `rt staticlib testing` and `rt staticlib capi` write.
 use std::path::Path;
 
 fn main() {
     let here = std::env::var("CARGO_MANIFEST_DIR").unwrap();
     let archives = Path::new(&here).join("../target/staticlib");
     println!("cargo:rustc-link-search=native={}", archives.display());
-    println!("cargo:rustc-link-lib=static=testing");
-    println!("cargo:rerun-if-changed={}", archives.join("libtesting.a").display());
+    for name in ["testing", "capi"] {
+        println!("cargo:rustc-link-lib=static={name}");
+        println!("cargo:rerun-if-changed={}", archives.join(format!("lib{name}.a")).display());
+    }
 }

@@ -1,6 +1,7 @@
 //! The proved code as the tests call it, and what the tests share: charts, and numbers drawn from a fixed seed.
 
 pub mod model;
+pub mod texts;
 
 /// The operation of a row.
 #[derive(Clone, Copy, Debug, PartialEq, Eq)]
@@ -73,6 +74,11 @@ pub fn fault(chart: &Chart) -> (u32, usize) {
             linked::testing_fault_position(chart.places, chart.alarm, at, len),
         )
     }
+}
+
+/// The number of a chart's refusal alone, 0 where there is none.
+pub fn fault_number(chart: &Chart) -> u32 {
+    unsafe { linked::testing_fault(chart.places, chart.alarm, chart.rows.as_ptr(), chart.rows.len()) }
 }
 
 /// The value written, or 2^32 and a refusal's number.

@@ -109,8 +109,8 @@ pub fn row(rows: &[u32], i: usize) -> (u32, u32, Operation) {
     (r[0], r[1], Operation { code: r[2], a: r[3], b: r[4], c: r[5] })
 }
 
-/// The number and position of a chart's refusal, (0, 0) where there is none.
-pub fn fault(chart: &Chart) -> (u32, usize) {
+/// The number and position of a chart's refusal up to 7, (0, 0) where there is none.
+pub fn fault_of_rows(chart: &Chart) -> (u32, usize) {
     if chart.rows.len() % 6 != 0 {
         return (21, 0);
     }
@@ -141,7 +141,16 @@ pub fn fault(chart: &Chart) -> (u32, usize) {
             return (7, i);
         }
     }
-    for i in 0..count {
+    (0, 0)
+}
+
+/// The number and position of a chart's refusal, (0, 0) where there is none.
+pub fn fault(chart: &Chart) -> (u32, usize) {
+    let first = fault_of_rows(chart);
+    if first.0 != 0 {
+        return first;
+    }
+    for i in 0..chart.rows.len() / 6 {
         let (from, _, o) = row(&chart.rows, i);
         for j in 0..i {
             let (earlier, _, e) = row(&chart.rows, j);
