@@ -1,0 +1,182 @@
+//! The same work in plain Rust, over the same buffers, written for speed and not for proof.
+
+use picker_tests::{model, Chart, Operation};
+
+type Refusal = (u32, usize);
+
+/// A field's number and the offset after its digits and quotes. Kind: 0 plain, 1 row count, 2 spare.
+#[inline]
+fn field(text: &[u8], mut at: usize, kind: u8) -> Result<(u32, usize), Refusal> {
+    let quoted = at < text.len() && text[at] == b'"';
+    at += quoted as usize;
+    let first = at;
+    let mut x = 0u64;
+    while at < text.len() && text[at].is_ascii_digit() {
+        if at > first && x == 0 {
+            return Err((13, first));
+        }
+        x = x * 10 + (text[at] - b'0') as u64;
+        if x > u32::MAX as u64 {
+            return Err((13, first));
+        }
+        at += 1;
+    }
+    if at == first {
+        return Err((12, at));
+    }
+    match kind {
+        1 if x > 128 => return Err((2, first)),
+        2 if x != 0 => return Err((13, first)),
+        _ => {}
+    }
+    if quoted {
+        if at >= text.len() || text[at] != b'"' {
+            return Err((12, at));
+        }
+        at += 1;
+    }
+    Ok((x as u32, at))
+}
+
+#[inline]
+fn expect(text: &[u8], at: usize, b: u8) -> Result<usize, Refusal> {
+    if at < text.len() && text[at] == b {
+        Ok(at + 1)
+    } else {
+        Err((12, at))
+    }
+}
+
+fn record(text: &[u8], mut at: usize, kinds: [u8; 6], into: &mut [u32]) -> Result<usize, Refusal> {
+    for k in 0..6 {
+        let (x, next) = field(text, at, kinds[k])?;
+        into[k] = x;
+        at = if k < 5 {
+            expect(text, next, b',')?
+        } else if next == text.len() {
+            next
+        } else {
+            let cr = expect(text, next, b'\r')?;
+            expect(text, cr, b'\n')?
+        };
+    }
+    Ok(at)
+}
+
+/// Places, alarm and row count; the rows go to the table.
+pub fn read(text: &[u8], table: &mut [u32]) -> Result<(u32, u32, usize), Refusal> {
+    if table.len() != 768 {
+        return Err((21, 0));
+    }
+    if text.is_empty() {
+        return Err((11, 0));
+    }
+    let mut head = [0; 6];
+    let mut at = record(text, 0, [0, 0, 1, 2, 2, 2], &mut head)?;
+    let count = head[2] as usize;
+    let mut rows = [0u32; 768];
+    for i in 0..count {
+        if at == text.len() {
+            return Err((14, at));
+        }
+        at = record(text, at, [0; 6], &mut rows[6 * i..6 * i + 6])?;
+    }
+    if at < text.len() {
+        return Err((14, at));
+    }
+    let fault = judge(head[0], head[1], &rows[..6 * count]);
+    if fault.0 != 0 {
+        return Err(fault);
+    }
+    table[..6 * count].copy_from_slice(&rows[..6 * count]);
+    Ok((head[0], head[1], count))
+}
+
+/// The bytes of a chart's text; the chart is judged first.
+pub fn write(chart: &Chart, bytes: &mut [u8]) -> Result<usize, Refusal> {
+    let fault = judge(chart.places, chart.alarm, &chart.rows);
+    if fault.0 != 0 {
+        return Err(fault);
+    }
+    let mut at = 0;
+    let mut put = |x: u32, last: bool, bytes: &mut [u8]| {
+        let mut digits = [0u8; 10];
+        let (mut n, mut x) = (10, x);
+        loop {
+            n -= 1;
+            digits[n] = b'0' + (x % 10) as u8;
+            x /= 10;
+            if x == 0 {
+                break;
+            }
+        }
+        bytes[at..at + 10 - n].copy_from_slice(&digits[n..]);
+        at += 10 - n;
+        if last {
+            bytes[at..at + 2].copy_from_slice(b"\r\n");
+            at += 2;
+        } else {
+            bytes[at] = b',';
+            at += 1;
+        }
+    };
+    let head = [chart.places, chart.alarm, chart.rows.len() as u32 / 6, 0, 0, 0];
+    for (k, &x) in head.iter().chain(chart.rows.iter()).enumerate() {
+        put(x, k % 6 == 5, bytes);
+    }
+    Ok(at)
+}
+
+/// The number and position of a chart's first fault, (0, 0) where there is none.
+pub fn judge(n: u32, alarm: u32, rows: &[u32]) -> (u32, usize) {
+    let count = rows.len() / 6;
+    if n == 0 || count == 0 {
+        return (1, 0);
+    }
+    if n > 64 || count > 128 {
+        return (2, 0);
+    }
+    if alarm >= n {
+        return (3, 0);
+    }
+    let mut previous = 0;
+    for (i, r) in rows.chunks_exact(6).enumerate() {
+        if r[0] >= n || r[1] >= n {
+            return (4, i);
+        }
+        if r[0] < previous {
+            return (5, i);
+        }
+        previous = r[0];
+        let (b, c) = match r[2] {
+            0 | 16..=21 => (r[4] == 0, true),
+            1 | 5 | 32..=37 => (r[4] < 64, r[5] == 0),
+            2 => (r[4] < 64, true),
+            3 | 4 => (r[4] < 64, r[5] < 64),
+            _ => return (6, i),
+        };
+        if !(r[3] < 64 && b && c) {
+            return (7, i);
+        }
+    }
+    for i in 1..count {
+        let (e, r) = (&rows[6 * i - 6..6 * i], &rows[6 * i..6 * i + 6]);
+        if e[0] == r[0] && ((i > 1 && rows[6 * i - 12] == r[0]) || !apart(e, r)) {
+            return (8, i);
+        }
+    }
+    (0, 0)
+}
+
+/// Whether two rows are assumptions of which exactly one holds.
+fn apart(e: &[u32], r: &[u32]) -> bool {
+    if e[2] < 16 || r[2] < 16 {
+        return false;
+    }
+    const OPPOSITE: [u32; 6] = [1, 0, 5, 4, 3, 2];
+    if e[3..6] == r[3..6] && e[2] / 16 == r[2] / 16 && OPPOSITE[(e[2] % 16) as usize] == r[2] % 16 {
+        return true;
+    }
+    let operation = |r: &[u32]| Operation { code: r[2], a: r[3], b: r[4], c: r[5] };
+    model::exactly_one(operation(e), operation(r))
+}
