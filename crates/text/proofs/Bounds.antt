@@ -1,6 +1,6 @@
 -- How large the numbers of an answer are: a refusal is one of 1 to 21, and every position, count and place is small.
 -- Assumes nothing.
-use mathlib.Core.Path.{_≡_, refl, sym, ap, _∙_, subst}
+use mathlib.Core.Path.{_≡_, refl, sym, _∙_, subst}
 use mathlib.Core.List.{List, [], _∷_, _++_}
 use mathlib.Core.Bool.{Bool, true, false, _&&_, _||_, not}
 use mathlib.Core.Option.{Option, none, some}
@@ -8,12 +8,12 @@ use mathlib.Core.Logic.{dite}
 use Prim.Native.Nat.{ℕ, zero, suc, _+_, _*_, _%_, _≤_, _<_}
 use native.Mathlib.Decide.{decLt}
 use native.Mathlib.Omega.{arith}
-use borrow.Author.Tests.{eq-eqb, ne-eqb, le-leb, lt-leb, ltb-false}
+use borrow.Author.Tests.{ltb-false}
 use lib.Dec.{eqb, leb, ltb}
 use lib.ListN.{length, getD, drop}
 use Rattle.base.specs.Answers.{Answer, given, refused}
 use Rattle.base.specs.Chains.{andThen}
-use Rattle.base.specs.Options.{when, orElse, firstOf}
+use Rattle.base.specs.Options.{orElse, firstOf}
 use Rattle.base.specs.Tests.{someBelow}
 use Rattle.base.proofs.Options.{both-missing, not-due}
 use Rattle.base.proofs.Tests.{or-false}
@@ -26,7 +26,7 @@ use Rattle.text.specs.declared.fields.Kind.the-variants.{Plain, Count, S
 use Rattle.text.specs.declared.fields.Field.{Field}
 use Rattle.text.specs.declared.fields.Field.the-variants.{Number, Unfit}
 use Rattle.text.specs.Fields.{byteAt, digits, value, more, kind, judged, bounded, ended, numberOf, numberAt, followed, fieldAt, lineEnd, closed, missing, itemAt}
-use Rattle.text.specs.Spans.{Span, onField, fieldsAt}
+use Rattle.text.specs.Spans.{fieldsAt}
 use Rattle.text.specs.Texts.{whole, rowsAt, parsed, readText, readInto}
 use Rattle.text.specs.Written.{written, writing}
 use Rattle.text.proofs.Cases.{by-test, by-field}

@@ -1,29 +1,27 @@
 -- The fields of a chart's text: read to the end they are the chart, and the chart's text has them.
 -- Assumes nothing.
 use mathlib.Core.Path.{_≡_, refl, sym, ap, _∙_, subst}
-use mathlib.Core.List.{List, [], _∷_, _++_, append-assoc, append-nil}
-use mathlib.Core.Bool.{Bool, true, false}
+use mathlib.Core.List.{List, [], _∷_, _++_, append-assoc}
 use mathlib.Core.Option.{Option, none, some}
 use mathlib.Core.Logic.{dite}
-use Prim.Native.Nat.{ℕ, zero, suc, _+_, _*_, _-_, _/_, _%_, _≤_, _<_}
+use Prim.Native.Nat.{ℕ, suc, _+_, _*_, _-_, _/_, _%_, _≤_}
 use native.Mathlib.Decide.{decLt}
 use native.Mathlib.Omega.{arith}
-use borrow.Author.Tests.{eq-eqb, ne-eqb, ltb-false}
-use lib.Dec.{eqb, ltb}
-use lib.ListN.{length, getD, drop, drop-of-length-le, length-drop, length-append}
+use borrow.Author.Tests.{eq-eqb, ne-eqb}
+use lib.ListN.{length, getD, drop, drop-of-length-le, length-drop}
 use Rattle.base.specs.Answers.{Answer, given, refused}
 use Rattle.base.specs.Chains.{andThen}
 use Rattle.chart.specs.Charts.{Chart, size}
 use Rattle.chart.specs.Faults.{Fault, fault, unless}
 use Rattle.text.specs.Fields.{kind}
 use Rattle.text.specs.Spans.{Span, fieldsAt}
-use Rattle.text.specs.Texts.{whole, rowsAt, parsed, faultless, readText}
-use Rattle.text.specs.Written.{decimal, closing, fieldText, fieldsText, numbers, written}
+use Rattle.text.specs.Texts.{whole, rowsAt, parsed, readText}
+use Rattle.text.specs.Written.{decimal, closing, fieldText, fieldsText, numbers}
 use Rattle.text.specs.Files.{U32s}
 use Rattle.text.specs.declared.fields.Kind.{Kind}
 use Rattle.text.proofs.Numbers.{kind-high}
-use Rattle.text.proofs.Spelling.{Fits, Spelt, bare, Closing, comma, line, Item}
-use Rattle.text.proofs.Sequences.{Then, Items, FitAll, items-fit, OnGiven, Shown, fields-show, ReadsAll, items-read, items-join, Halves, items-split, items-some}
+use Rattle.text.proofs.Spelling.{Fits, bare, Closing, comma, line}
+use Rattle.text.proofs.Sequences.{Items, FitAll, items-fit, OnGiven, Shown, fields-show, items-read, items-join, items-split, items-some}
 use Rattle.text.proofs.Told.{whole-after, whole-end, parsed-some}
 
 -- ---- a text that is read has the chart's fields

@@ -4,19 +4,19 @@ use mathlib.Core.Path.{_≡_, refl, sym, ap, _∙_}
 use mathlib.Core.List.{List, [], _∷_, _++_}
 use mathlib.Core.Bool.{Bool, true, false}
 use mathlib.Core.Logic.{dite}
-use Prim.Native.Nat.{ℕ, zero, suc, _+_, _*_, _-_, _/_, _%_, _≤_, _<_}
+use Prim.Native.Nat.{ℕ, zero, suc, _+_, _-_, _%_, _≤_, _<_}
 use native.Mathlib.Decide.{decLt}
 use native.Mathlib.Omega.{arith}
-use borrow.Author.Tests.{eq-eqb, ne-eqb, le-leb, lt-leb}
-use lib.Dec.{eqb, leb}
+use borrow.Author.Tests.{le-leb, lt-leb}
+use lib.Dec.{eqb}
 use lib.ListN.{length, take, drop}
 use lib.Seq.{take-nil, take-all, getD-take, length-take-le}
-use Rattle.base.specs.Answers.{Answer, given, refused}
+use Rattle.base.specs.Answers.{Answer}
 use Rattle.text.specs.declared.fields.Kind.{Kind}
 use Rattle.text.specs.declared.fields.Field.{Field}
 use Rattle.text.specs.declared.fields.Field.the-variants.{Number, Unfit}
 use Rattle.text.specs.Fields.{byteAt, digitOf, digits, kind, numberOf, numberAt, followed, fieldAt, lineEnd, closed, missing, itemAt}
-use Rattle.text.specs.Spans.{Span, onField, fieldsAt}
+use Rattle.text.specs.Spans.{onField, fieldsAt}
 use Rattle.text.proofs.Numbers.{missing-inside}
 use Rattle.text.proofs.Positions.{end, number-long, number-ends, followed-ends, field-ends, reach, item-ends, reach-one}
 

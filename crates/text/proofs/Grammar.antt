@@ -4,15 +4,14 @@ use mathlib.Core.Path.{_≡_, refl, sym, ap, _∙_, subst}
 use mathlib.Core.List.{List, [], _∷_, _++_, map, append-assoc, append-nil}
 use Prim.Native.Nat.{ℕ, zero, suc, _+_, _*_, _-_, _%_, _≤_, _<_}
 use native.Mathlib.Omega.{arith}
-use lib.ListN.{length, take, drop, length-take, length-drop, take-append-drop, length-append, drop-of-length-le}
+use lib.ListN.{length, take, drop, length-drop, take-append-drop, drop-of-length-le}
 use lib.Seq.{length-take-le}
-use Rattle.text.specs.Fields.{kind}
 use Rattle.text.specs.Written.{digitsOf, decimal}
-use Rattle.text.specs.Rfc4180.{TextData, low, middle, high, NonEscaped, plainEnd, plain, Within, innerEnd, inner, innerComma, innerCr, innerLf, innerQuotes, Field, escaped, nonEscaped, Record, lastField, nextField, Records, lastRecord, nextRecord, File, unclosed, closed}
+use Rattle.text.specs.Rfc4180.{middle, high, NonEscaped, plainEnd, plain, Within, innerEnd, inner, innerComma, innerCr, innerLf, innerQuotes, Field, escaped, nonEscaped, Record, lastField, nextField, Records, lastRecord, nextRecord, File, unclosed, closed}
 use Rattle.text.specs.Files.{sixes, contents}
 use Rattle.text.proofs.Decimals.{Nines, spells}
-use Rattle.text.proofs.Spelling.{Fits, Spelt, bare, quoted, Closing, comma, line, over, Fielded, Item}
-use Rattle.text.proofs.Sequences.{Then, Items, FitAll, items-join, Halves, items-split, items-some}
+use Rattle.text.proofs.Spelling.{Spelt, bare, quoted, Closing, comma, line, over}
+use Rattle.text.proofs.Sequences.{Items, FitAll, items-join, Halves, items-split, items-some}
 
 -- ---- fields
 

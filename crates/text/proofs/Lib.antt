@@ -1,4 +1,4 @@
--- The laws that several proofs cite.
+-- What is stated of reading and writing as a whole stands in Theorems; the others are the laws that it and the functions' proofs cite.
 pub mod Cases
 pub mod Numbers
 pub mod Decimals
@@ -11,5 +11,7 @@ pub mod Sequences
 pub mod Grammar
 pub mod Told
 pub mod Charts
+pub mod Exactly
+pub mod Lengths
 pub mod Theorems
 pub mod Bounds

@@ -1,19 +1,19 @@
 -- Laws of bytes, digits, numbers and fields.
 -- Assumes nothing.
 use mathlib.Core.Path.{_≡_, refl, sym, ap, _∙_}
-use mathlib.Core.List.{List, [], _∷_, _++_}
+use mathlib.Core.List.{List, [], _∷_}
 use mathlib.Core.Bool.{Bool, true, false, _&&_}
 use Prim.Native.Nat.{ℕ, zero, suc, _+_, _*_, _-_, _%_, _≤_, _<_}
 use native.Mathlib.Numerals.{add-one}
 use native.Mathlib.Omega.{arith}
-use borrow.Author.Tests.{eq-eqb, ne-eqb, le-leb, lt-leb, leb-true, leb-false, eqb-true, eqb-false}
-use lib.Dec.{eqb, leb, ltb}
-use lib.ListN.{length, getD, take, drop, List·getD-eq-default, drop-of-length-le}
+use borrow.Author.Tests.{eq-eqb, ne-eqb, le-leb, lt-leb}
+use lib.Dec.{eqb, leb}
+use lib.ListN.{length, getD, drop, List·getD-eq-default, drop-of-length-le}
 use lib.Seq.{drop-cons}
 use Rattle.text.specs.declared.fields.Kind.{Kind}
 use Rattle.text.specs.declared.fields.Field.{Field}
 use Rattle.text.specs.declared.fields.Field.the-variants.{Number, Unfit}
-use Rattle.text.specs.Fields.{byteAt, digitOf, digits, value, more, kind, judged, bounded, ended, numberOf, numberAt, followed, fieldAt, lineEnd, closed, missing, itemAt, reached}
+use Rattle.text.specs.Fields.{byteAt, digitOf, digits, value, kind, judged, bounded, ended, numberOf, numberAt, followed, fieldAt, lineEnd, closed, missing, itemAt, reached}
 use Rattle.text.specs.declared.fields.Kind.the-variants.{Plain, Count, Spare}
 use native.Mathlib.Decide.{decLt}
 use mathlib.Core.Logic.{dite}

@@ -1,13 +1,13 @@
 -- Where a field ends: at most 13 bytes after its start, and one more for the sixth of a record. A refusal's position is there too.
 -- Assumes nothing.
-use mathlib.Core.Path.{_≡_, refl, sym, ap, _∙_, subst}
+use mathlib.Core.Path.{_≡_, sym, ap, _∙_}
 use mathlib.Core.List.{List, [], _∷_, _++_}
 use mathlib.Core.Bool.{Bool, true, false, _&&_}
 use mathlib.Core.Logic.{dite}
 use Prim.Native.Nat.{ℕ, zero, suc, _+_, _*_, _-_, _/_, _%_, _≤_, _<_}
-use native.Mathlib.Decide.{decLt, decLe}
+use native.Mathlib.Decide.{decLt}
 use native.Mathlib.Omega.{arith}
-use borrow.Author.Tests.{eq-eqb, ne-eqb, le-leb, lt-leb}
+use borrow.Author.Tests.{eq-eqb, ne-eqb, lt-leb}
 use lib.Dec.{eqb, leb}
 use lib.ListN.{length, drop}
 use Rattle.base.specs.Answers.{Answer, given, refused}
@@ -16,9 +16,9 @@ use Rattle.text.specs.declared.fields.Kind.the-variants.{Plain, Count, S
 use Rattle.text.specs.declared.fields.Field.{Field}
 use Rattle.text.specs.declared.fields.Field.the-variants.{Number, Unfit}
 use Rattle.text.specs.Fields.{byteAt, digits, value, more, kind, judged, bounded, ended, numberOf, numberAt, followed, fieldAt, lineEnd, closed, missing, itemAt}
-use Rattle.text.specs.Spans.{Span, onField, fieldsAt}
+use Rattle.text.specs.Spans.{Span, fieldsAt}
 use Rattle.text.proofs.Cases.{by-test, by-field}
-use Rattle.text.proofs.Numbers.{missing-here, missing-not, missing-inside}
+use Rattle.text.proofs.Numbers.{missing-inside}
 
 -- ---- one field
 

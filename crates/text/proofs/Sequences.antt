@@ -6,11 +6,10 @@ use Prim.Native.Nat.{ℕ, zero, suc, _+_, _≤_, _<_}
 use native.Mathlib.Omega.{arith}
 use lib.ListN.{length, drop, length-append}
 use Rattle.base.specs.Answers.{Answer, given, refused}
-use Rattle.text.specs.declared.fields.Field.{Field}
 use Rattle.text.specs.Fields.{kind, itemAt}
-use Rattle.text.specs.Spans.{Span, onField, fieldsAt}
+use Rattle.text.specs.Spans.{Span, fieldsAt}
 use Rattle.text.proofs.Cases.{by-field}
-use Rattle.text.proofs.Spelling.{OnNumber, Fits, Fielded, Item, item-shows, Reads, item-reads, spelt-some}
+use Rattle.text.proofs.Spelling.{OnNumber, Fits, Item, item-shows, item-reads, spelt-some}
 
 -- field k is x, and P holds of what follows it
 pub record Then (k : ℕ) (s : List ℕ) (x : ℕ) (P : List ℕ → Type 0) : Type 0 where

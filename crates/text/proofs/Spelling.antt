@@ -1,16 +1,16 @@
 -- What a field that is read says of the text's bytes, and the other way round: bytes that spell a field are read as it.
 -- Assumes nothing.
 use mathlib.Core.Path.{_≡_, refl, sym, ap, _∙_, subst}
-use mathlib.Core.List.{List, [], _∷_, _++_, map, append-assoc, append-nil}
+use mathlib.Core.List.{List, [], _∷_, _++_, map, append-assoc}
 use mathlib.Core.Bool.{Bool, true, false, _&&_}
 use mathlib.Core.Logic.{dite}
-use Prim.Native.Nat.{ℕ, zero, suc, _+_, _*_, _-_, _/_, _%_, _≤_, _<_}
+use Prim.Native.Nat.{ℕ, suc, _+_, _*_, _-_, _%_, _≤_, _<_}
 use native.Mathlib.Numerals.{add-one}
 use native.Mathlib.Decide.{decLt}
 use native.Mathlib.Omega.{arith}
-use borrow.Author.Tests.{eq-eqb, ne-eqb, le-leb, lt-leb, leb-true, leb-false, eqb-true, eqb-false}
+use borrow.Author.Tests.{eq-eqb, ne-eqb, le-leb, lt-leb, leb-true, eqb-true, eqb-false}
 use lib.Dec.{eqb, leb}
-use lib.ListN.{length, getD, take, drop, length-append, length-map, drop-of-length-le, length-drop}
+use lib.ListN.{length, getD, drop, length-append, length-map, drop-of-length-le, length-drop}
 use lib.Seq.{drop-drop, drop-cons, drop-append-seam, getD-drop}
 use Rattle.text.specs.declared.fields.Kind.{Kind}
 use Rattle.text.specs.declared.fields.Kind.the-variants.{Plain, Count, Spare}
@@ -19,7 +19,7 @@ use Rattle.text.specs.declared.fields.Field.the-variants.{Number, Unfit}
 use Rattle.text.specs.Fields.{byteAt, digitOf, digits, value, more, kind, judged, bounded, ended, numberOf, numberAt, followed, fieldAt, lineEnd, closed, missing, itemAt}
 use Rattle.text.specs.Written.{digitsOf, decimal}
 use Rattle.text.proofs.Cases.{by-test}
-use Rattle.text.proofs.Numbers.{byte-past, digit-is, digit-low, digit-high, digits-none, missing-inside, missing-not}
+use Rattle.text.proofs.Numbers.{byte-past, digit-is, digit-low, digit-high, digits-none, missing-inside}
 use Rattle.text.proofs.Decimals.{Nines, Leads, Spells, spells, decimal-one, decimal-value}
 
 -- ---- what a field shows

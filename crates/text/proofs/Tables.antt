@@ -2,17 +2,16 @@
 -- Assumes nothing.
 use mathlib.Core.Path.{_≡_, refl, sym, ap, _∙_, subst}
 use mathlib.Core.List.{List, [], _∷_, _++_}
-use Prim.Native.Nat.{ℕ, zero, suc, _+_, _-_, _≤_, _<_}
+use Prim.Native.Nat.{ℕ, suc, _+_, _-_, _≤_, _<_}
 use native.Mathlib.Numerals.{add-one}
 use native.Mathlib.Omega.{arith}
 use lib.ListN.{length, getD, take, drop, set, length-set}
 use lib.Seq.{take-suc-set, take-all, paste, paste-zero, paste-suc, length-paste}
-use Rattle.base.specs.Answers.{Answer, given, refused}
 use Rattle.text.specs.declared.fields.Field.{Field}
 use Rattle.text.specs.declared.fields.Field.the-variants.{Number, Unfit}
 use Rattle.text.specs.declared.inner.table.Reach.the-variants.{Past, Stopped}
 use Rattle.text.specs.Fields.{itemAt}
-use Rattle.text.specs.Spans.{Span, onField, fieldsAt, toldReach}
+use Rattle.text.specs.Spans.{fieldsAt, toldReach}
 
 -- ---- fields are read into a table
 

@@ -2,18 +2,17 @@
 -- Assumes nothing.
 use mathlib.Core.Path.{_≡_, refl, sym, ap, _∙_, subst}
 use mathlib.Core.List.{List, [], _∷_, _++_}
-use Prim.Native.Nat.{ℕ, zero, suc, _+_, _*_, _/_, _%_, _≤_, _<_}
+use Prim.Native.Nat.{ℕ, _+_, _*_, _/_, _%_, _≤_, _<_}
 use native.Mathlib.Omega.{arith}
 use borrow.Author.Tests.{eq-eqb, ne-eqb, le-leb, lt-leb, lt-ltb, le-ltb}
-use lib.Dec.{eqb, leb, ltb}
 use lib.ListN.{length, getD, take, drop}
-use lib.Seq.{sets, sets-eq, getD-take}
+use lib.Seq.{sets-eq, getD-take}
 use Rattle.base.specs.Answers.{Answer, given, refused}
 use Rattle.base.specs.Chains.{andThen, mapped}
 use Rattle.chart.specs.declared.charts.Head.{Head}
 use Rattle.chart.specs.declared.charts.Judged.{Judged}
 use Rattle.chart.specs.declared.charts.Judged.the-variants.{Faultless, Ragged, Faulty}
-use Rattle.chart.specs.Charts.{Chart, charted, size}
+use Rattle.chart.specs.Charts.{Chart, charted}
 use Rattle.chart.specs.Faults.{told, fault, refusal, unless}
 use Rattle.chart.proofs.Faultless.{faultless as sound}
 use Rattle.text.specs.declared.answers.Read.{Read}
@@ -25,7 +24,7 @@ use Rattle.text.specs.declared.inner.table.Reach.the-variants.{Past, Sto
 use Rattle.text.specs.Fields.{kind}
 use Rattle.text.specs.Spans.{Span, fieldsAt, toldReach}
 use Rattle.text.specs.Texts.{whole, rowsAt, parsed, faultless, readText, readInto, filled, heading, toldRead}
-use Rattle.text.specs.Written.{fieldsText, numbers, written, writing, printed, toldWrote, Put}
+use Rattle.text.specs.Written.{numbers, written, writing, printed, toldWrote, Put}
 use Rattle.text.proofs.Sequences.{FitAll, OnGiven, Shown, fields-show, items-fit}
 
 -- ---- faults

@@ -1,7 +1,7 @@
 -- The text of a chart: "The writer [..] uses no quotes and ends every record".
 use mathlib.Core.Path.{_≡_}
 use mathlib.Core.List.{List, [], _∷_, _++_, map}
-use mathlib.Core.Bool.{Bool, true, false}
+use mathlib.Core.Bool.{true, false}
 use Prim.Native.Nat.{ℕ, zero, suc, _+_, _*_, _-_, _/_, _%_}
 use lib.ListN.{length, drop}
 use lib.Dec.{ltb, leb, eqb}

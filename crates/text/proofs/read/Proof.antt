@@ -1,12 +1,8 @@
+-- `text::read` meets its contract: a law for each way through it. Assumes nothing.
 use Rattle.text.proofs.Told.{read-unsized, read-empty, read-stopped, read-few, read-rows}
-use native.Mathlib.Omega.{arith}
 use borrow.Author.Needs.{needs}
 use Rattle.text.proofs.read.Statement.{statement}
 use Rattle.text.proofs.read.Tie as tie
-use Rattle.text.proofs.read.Reads as reads
-use Rattle.text.proofs.read.Lts as lts
-use Rattle.text.proofs.inner.reader.rows_into.Reads as rows-into-reads
-use Rattle.text.proofs.inner.table.fields_into.Reads as fields-into-reads
 
 returns : tie.Need-returns
 returns c = read-unsized _ _ (c .if1 .taken)

@@ -1,12 +1,9 @@
+-- `text::write` meets its contract: a law for each way through it. Assumes nothing.
 use Rattle.text.proofs.Told.{short-table, write-short, write-ragged, write-faulty, write-chart}
 use native.Mathlib.Omega.{arith}
 use borrow.Author.Needs.{needs}
 use Rattle.text.proofs.write.Statement.{statement}
 use Rattle.text.proofs.write.Tie as tie
-use Rattle.text.proofs.write.Reads as reads
-use Rattle.text.proofs.write.Lts as lts
-use Rattle.chart.proofs.judge.Reads as judge-reads
-use Rattle.text.proofs.inner.writer.put_chart.Reads as put-chart-reads
 
 returns : tie.Need-returns
 returns c = write-short _ _ (c .if1 .taken)

@@ -1,12 +1,8 @@
+-- `text::fields::close` meets its contract: the sixth field of a record, and another. Assumes nothing.
 use Rattle.text.proofs.Numbers.{close-line, close-comma}
-use native.Mathlib.Omega.{arith}
 use borrow.Author.Needs.{needs}
 use Rattle.text.proofs.fields.close.Statement.{statement}
 use Rattle.text.proofs.fields.close.Tie as tie
-use Rattle.text.proofs.fields.close.Reads as reads
-use Rattle.text.proofs.fields.close.Lts as lts
-use Rattle.text.proofs.fields.follow.Reads as follow-reads
-use Rattle.text.proofs.fields.line_end.Reads as line-end-reads
 
 line-end-requires : tie.Need-line-end-requires
 line-end-requires c κs = search needs

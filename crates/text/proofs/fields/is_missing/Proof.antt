@@ -1,10 +1,7 @@
+-- `text::fields::is_missing` meets its contract: the first field of a record, and another. Assumes nothing.
 use Rattle.text.proofs.Numbers.{missing-here, missing-not}
-use borrow.Author.Needs.{needs}
-use native.Mathlib.Omega.{arith}
 use Rattle.text.proofs.fields.is_missing.Statement.{statement}
 use Rattle.text.proofs.fields.is_missing.Tie as tie
-use Rattle.text.proofs.fields.is_missing.Reads as reads
-use Rattle.text.proofs.fields.is_missing.Lts as lts
 
 returns : tie.Need-returns
 returns c = search missing-here

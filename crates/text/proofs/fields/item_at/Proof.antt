@@ -1,14 +1,8 @@
+-- `text::fields::item_at` meets its contract: from its callees. Assumes nothing.
 use Rattle.text.proofs.Numbers.{item-missing, item-there}
-use native.Mathlib.Omega.{arith}
 use borrow.Author.Needs.{needs}
 use Rattle.text.proofs.fields.item_at.Statement.{statement}
 use Rattle.text.proofs.fields.item_at.Tie as tie
-use Rattle.text.proofs.fields.item_at.Reads as reads
-use Rattle.text.proofs.fields.item_at.Lts as lts
-use Rattle.text.proofs.fields.close.Reads as close-reads
-use Rattle.text.proofs.fields.field_at.Reads as field-at-reads
-use Rattle.text.proofs.fields.is_missing.Reads as is-missing-reads
-use Rattle.text.proofs.fields.kind_of.Reads as kind-of-reads
 
 is-missing-requires : tie.Need-is-missing-requires
 is-missing-requires c κs = search needs

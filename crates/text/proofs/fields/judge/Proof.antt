@@ -1,10 +1,8 @@
+-- `text::fields::judge` meets its contract: a law for each kind of field and each answer. Assumes nothing.
 use Rattle.text.proofs.Numbers.{judge-plain, judge-count, judge-many, judge-spare, judge-used}
-use native.Mathlib.Omega.{arith}
 use borrow.Author.Needs.{needs}
 use Rattle.text.proofs.fields.judge.Statement.{statement}
 use Rattle.text.proofs.fields.judge.Tie as tie
-use Rattle.text.proofs.fields.judge.Reads as reads
-use Rattle.text.proofs.fields.judge.Lts as lts
 
 enum-told : tie.Need-enum-told
 enum-told c = search needs

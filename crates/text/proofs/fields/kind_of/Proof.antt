@@ -1,10 +1,8 @@
+-- `text::fields::kind_of` meets its contract: a law for each run of field numbers. Assumes nothing.
 use Rattle.text.proofs.Numbers.{kind-count, kind-spare, kind-low, kind-high}
-use borrow.Author.Needs.{needs}
 use native.Mathlib.Omega.{arith}
 use Rattle.text.proofs.fields.kind_of.Statement.{statement}
 use Rattle.text.proofs.fields.kind_of.Tie as tie
-use Rattle.text.proofs.fields.kind_of.Reads as reads
-use Rattle.text.proofs.fields.kind_of.Lts as lts
 
 returns : tie.Need-returns
 returns c = search kind-count

@@ -1,11 +1,8 @@
+-- `text::fields::line_end` meets its contract: answer by answer. Assumes nothing.
 use Rattle.text.proofs.Numbers.{end-unfit, end-text, end-line}
-use native.Mathlib.Omega.{arith}
 use borrow.Author.Needs.{needs}
 use Rattle.text.proofs.fields.line_end.Statement.{statement}
 use Rattle.text.proofs.fields.line_end.Tie as tie
-use Rattle.text.proofs.fields.line_end.Reads as reads
-use Rattle.text.proofs.fields.line_end.Lts as lts
-use Rattle.text.proofs.fields.follow.Reads as follow-reads
 
 enum-known-f : tie.Need-enum-known-f
 enum-known-f c = search needs

@@ -1,3 +1,4 @@
+-- `text::fields::number_at` meets its contract: the loop keeps the value of the digits passed (`Counting`); the measure is what is left of the text. Assumes nothing.
 use Prim.Native.Nat.{_-_, _<_}
 use lib.ListN.{length}
 use Rattle.text.proofs.Numbers.{Counting, number-none, number-start, number-stop, number-zero, number-above, number-more, inside-by}
@@ -5,10 +6,6 @@ use borrow.Author.Needs.{needs}
 use native.Mathlib.Omega.{arith}
 use Rattle.text.proofs.fields.number_at.Statement.{statement}
 use Rattle.text.proofs.fields.number_at.Tie as tie
-use Rattle.text.proofs.fields.number_at.Reads as reads
-use Rattle.text.proofs.fields.number_at.Lts as lts
-use Rattle.text.proofs.fields.digit.Reads as digit-reads
-use Rattle.text.proofs.fields.judge.Reads as judge-reads
 
 abbrev Inv-loop : tie.InvT-loop
 Inv-loop text first sort value₀ at₀ value at = Counting sort text first value at

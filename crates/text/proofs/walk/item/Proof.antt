@@ -46,7 +46,7 @@ use types.Tokens.{lft-new}
 use denote.Memory.{mem, cellAt, partOf}
 use denote.Plain.{uint-makes, uint-vals, uint-tells}
 use denote.Ref.{RefT, NamedLft, MutRef, now}
-use denote.Signature.{plain, namedLft}
+use denote.Signature.{plain}
 use denote.Slice.{sliceVal, ShrSlice, slice-vals, shr-slice-tells, shr-slice-lawful, shr-slice-copy}
 use denote.Steps.{owned, peeks, heard, nothing}
 use denote.Lend.{lends-ref, ref-back}

@@ -1,10 +1,8 @@
+-- `text::walk::past` meets its contract: answer by answer. Assumes nothing.
 use Rattle.text.proofs.Numbers.{past-number, past-unfit}
-use native.Mathlib.Omega.{arith}
 use borrow.Author.Needs.{needs}
 use Rattle.text.proofs.walk.past.Statement.{statement}
 use Rattle.text.proofs.walk.past.Tie as tie
-use Rattle.text.proofs.walk.past.Reads as reads
-use Rattle.text.proofs.walk.past.Lts as lts
 
 enum-known-f : tie.Need-enum-known-f
 enum-known-f c = search needs

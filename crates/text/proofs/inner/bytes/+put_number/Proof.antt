@@ -1,6 +1,6 @@
+-- `text::inner::bytes::put_number` meets its contract: its number falls with each call of itself. Assumes nothing.
 use Rattle.text.proofs.Puts.{number-first, number-front, number-room, number-one, number-more}
 use borrow.Author.Needs.{needs}
-use native.Mathlib.Omega.{arith}
 use Prim.Native.Nat.{ℕ, _<_}
 use borrow.Fn.Kinds.{In}
 use borrow.Fn.PlainCycle.{Measures, is, falls, and}

@@ -1,11 +1,8 @@
+-- `text::inner::bytes::put_closing` meets its contract: CRLF and a comma. Assumes nothing.
 use Rattle.text.proofs.Puts.{line-first, line-second, comma-first, line-put, comma-put}
-use native.Mathlib.Omega.{arith}
 use borrow.Author.Needs.{needs}
 use Rattle.text.proofs.inner.bytes.put_closing.Statement.{statement}
 use Rattle.text.proofs.inner.bytes.put_closing.Tie as tie
-use Rattle.text.proofs.inner.bytes.put_closing.Reads as reads
-use Rattle.text.proofs.inner.bytes.put_closing.Lts as lts
-use Rattle.text.proofs.inner.bytes.put_byte.Reads as put-byte-reads
 
 put-byte-requires : tie.Need-put-byte-requires
 put-byte-requires c κs = search line-first

@@ -1,13 +1,10 @@
+-- `text::inner::bytes::put_field` meets its contract: a number of at most ten digits, and what closes it. Assumes nothing.
 use Rattle.text.proofs.Decimals.{decimal-ten}
 use Rattle.text.proofs.Puts.{field-room, field-put}
 use native.Mathlib.Omega.{arith}
 use borrow.Author.Needs.{needs}
 use Rattle.text.proofs.inner.bytes.put_field.Statement.{statement}
 use Rattle.text.proofs.inner.bytes.put_field.Tie as tie
-use Rattle.text.proofs.inner.bytes.put_field.Reads as reads
-use Rattle.text.proofs.inner.bytes.put_field.Lts as lts
-use Rattle.text.proofs.inner.bytes.put_closing.Reads as put-closing-reads
-use Rattle.text.proofs.inner.bytes.put_number.Reads as put-number-reads
 
 put-number-requires : tie.Need-put-number-requires
 put-number-requires c κs = omega (arith, decimal-ten (c .before .before .args .x) (omega arith))

@@ -1,3 +1,4 @@
+-- `text::inner::bytes::put_fields` meets its contract: what is put of the numbers that are left is put as it should (`Putting`). Assumes nothing.
 use Prim.Native.Nat.{_-_}
 use lib.ListN.{length}
 use Rattle.text.proofs.Puts.{room-next, Putting, putting-start, putting-more, putting-done}
@@ -5,9 +6,6 @@ use borrow.Author.Needs.{needs}
 use native.Mathlib.Omega.{arith}
 use Rattle.text.proofs.inner.bytes.put_fields.Statement.{statement}
 use Rattle.text.proofs.inner.bytes.put_fields.Tie as tie
-use Rattle.text.proofs.inner.bytes.put_fields.Reads as reads
-use Rattle.text.proofs.inner.bytes.put_fields.Lts as lts
-use Rattle.text.proofs.inner.bytes.put_field.Reads as put-field-reads
 
 abbrev Inv-loop : tie.InvT-loop
 Inv-loop bytes₀ at field numbers p₀ i₀ bytes p i = Putting bytes₀ at field numbers bytes p i

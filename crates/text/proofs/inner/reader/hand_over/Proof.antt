@@ -1,12 +1,9 @@
+-- `text::inner::reader::hand_over` meets its contract: a law for each answer of the judge. Assumes nothing.
 use Rattle.text.proofs.Told.{hand-ragged, hand-faulty, hand-chart}
 use native.Mathlib.Omega.{arith}
 use borrow.Author.Needs.{needs}
 use Rattle.text.proofs.inner.reader.hand_over.Statement.{statement}
 use Rattle.text.proofs.inner.reader.hand_over.Tie as tie
-use Rattle.text.proofs.inner.reader.hand_over.Reads as reads
-use Rattle.text.proofs.inner.reader.hand_over.Lts as lts
-use Rattle.chart.proofs.judge.Reads as judge-reads
-use Rattle.text.proofs.inner.table.copy.Reads as copy-reads
 
 judge-requires : tie.Need-judge-requires
 judge-requires c κs = search needs

@@ -1,13 +1,10 @@
+-- `text::inner::reader::rows_into` meets its contract: the rows are refused, or bytes follow them, or they are judged. Assumes nothing.
 use lib.ListN.{length-take}
 use Rattle.text.proofs.Told.{rows-stopped, rows-after, rows-whole}
 use native.Mathlib.Omega.{arith}
 use borrow.Author.Needs.{needs}
 use Rattle.text.proofs.inner.reader.rows_into.Statement.{statement}
 use Rattle.text.proofs.inner.reader.rows_into.Tie as tie
-use Rattle.text.proofs.inner.reader.rows_into.Reads as reads
-use Rattle.text.proofs.inner.reader.rows_into.Lts as lts
-use Rattle.text.proofs.inner.reader.hand_over.Reads as hand-over-reads
-use Rattle.text.proofs.inner.table.fields_into.Reads as fields-into-reads
 
 mul-fields-into : tie.Need-mul-fields-into
 mul-fields-into c = search needs

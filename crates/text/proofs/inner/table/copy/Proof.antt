@@ -1,12 +1,10 @@
+-- `text::inner::table::copy` meets its contract: the front of the table is copied up to the index (`Copying`). Assumes nothing.
 use Prim.Native.Nat.{_-_}
 use lib.ListN.{length}
 use Rattle.text.proofs.Tables.{Copying, copying-start, copying-more, copying-done}
 use borrow.Author.Needs.{needs}
-use native.Mathlib.Omega.{arith}
 use Rattle.text.proofs.inner.table.copy.Statement.{statement}
 use Rattle.text.proofs.inner.table.copy.Tie as tie
-use Rattle.text.proofs.inner.table.copy.Reads as reads
-use Rattle.text.proofs.inner.table.copy.Lts as lts
 
 abbrev Inv-loop : tie.InvT-loop
 Inv-loop numbers table₀ i₀ table i = Copying numbers table₀ table i

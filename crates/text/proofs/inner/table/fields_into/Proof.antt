@@ -1,13 +1,9 @@
+-- `text::inner::table::fields_into` meets its contract: reading the fields that are left gives what reading all gives (`Reading`). Assumes nothing.
 use Prim.Native.Nat.{_-_}
 use Rattle.text.proofs.Tables.{Reading, reading-start, reading-stop, reading-more, reading-done}
 use borrow.Author.Needs.{needs}
-use native.Mathlib.Omega.{arith}
 use Rattle.text.proofs.inner.table.fields_into.Statement.{statement}
 use Rattle.text.proofs.inner.table.fields_into.Tie as tie
-use Rattle.text.proofs.inner.table.fields_into.Reads as reads
-use Rattle.text.proofs.inner.table.fields_into.Lts as lts
-use Rattle.text.proofs.inner.table.put.Reads as put-reads
-use Rattle.text.proofs.walk.item.Reads as item-reads
 
 abbrev Inv-loop : tie.InvT-loop
 Inv-loop text at field n table₀ p₀ i₀ table p i = Reading n field text at table₀ table p i

@@ -1,11 +1,8 @@
+-- `text::inner::writer::put_chart` meets its contract: the first record, and the rows after it. Assumes nothing.
 use Rattle.text.proofs.Puts.{chart-put}
-use native.Mathlib.Omega.{arith}
 use borrow.Author.Needs.{needs}
 use Rattle.text.proofs.inner.writer.put_chart.Statement.{statement}
 use Rattle.text.proofs.inner.writer.put_chart.Tie as tie
-use Rattle.text.proofs.inner.writer.put_chart.Reads as reads
-use Rattle.text.proofs.inner.writer.put_chart.Lts as lts
-use Rattle.text.proofs.inner.bytes.put_fields.Reads as put-fields-reads
 
 cast-count : tie.Need-cast-count
 cast-count c = search needs
