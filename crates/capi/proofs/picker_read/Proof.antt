@@ -1,11 +1,9 @@
+-- `capi::picker_read` meets its contract: the answers are small, so that no sum wraps. Assumes nothing.
 use Rattle.capi.proofs.Small.{chart-read, refusal-read}
 use native.Mathlib.Omega.{arith}
 use borrow.Author.Needs.{needs}
 use Rattle.capi.proofs.picker_read.Statement.{statement}
 use Rattle.capi.proofs.picker_read.Tie as tie
-use Rattle.capi.proofs.picker_read.Reads as reads
-use Rattle.capi.proofs.picker_read.Lts as lts
-use Rattle.text.proofs.read.Reads as read-reads
 
 read-requires : tie.Need-read-requires
 read-requires c κs = search needs

@@ -1,11 +1,9 @@
+-- `capi::picker_write` meets its contract: the answers are small, so that no sum wraps. Assumes nothing.
 use Rattle.capi.proofs.Small.{text-written, refusal-written}
 use native.Mathlib.Omega.{arith}
 use borrow.Author.Needs.{needs}
 use Rattle.capi.proofs.picker_write.Statement.{statement}
 use Rattle.capi.proofs.picker_write.Tie as tie
-use Rattle.capi.proofs.picker_write.Reads as reads
-use Rattle.capi.proofs.picker_write.Lts as lts
-use Rattle.text.proofs.write.Reads as write-reads
 
 write-requires : tie.Need-write-requires
 write-requires c κs = search needs
