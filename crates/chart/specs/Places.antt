@@ -7,6 +7,10 @@ use Rattle.chart.specs.declared.places.NewPlace.{NewPlace}
 abbrev pub pairNumber : OldPlace → NewPlace → ℕ
 pairNumber p q = 64 * p .0 + q .0
 
+-- "the kept new place q is 4,096 + q"
+abbrev pub keptNumber : NewPlace → ℕ
+keptNumber q = 4096 + q .0
+
 -- the two places of a pair
 abbrev pub oldOf : ℕ → OldPlace
 oldOf pair = record { 0 = pair / 64 }

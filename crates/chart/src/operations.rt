@@ -94,7 +94,8 @@ pub fn with_constant(o: Operation) -> bool
     }
 }
 
-fn operand_b(o: Operation) -> Operand
+// What b is to an operation.
+pub fn operand_b(o: Operation) -> Operand
     ensures { λ r. ⌜ r ≡ operandB o ⌝ }
 {
     match kind_of(o.code) {
@@ -124,7 +125,8 @@ fn assigned_c(code: u32) -> Operand
     }
 }
 
-fn operand_c(o: Operation) -> Operand
+// What c is to an operation.
+pub fn operand_c(o: Operation) -> Operand
     ensures { λ r. ⌜ r ≡ operandC o ⌝ }
 {
     match kind_of(o.code) {
@@ -135,7 +137,8 @@ fn operand_c(o: Operation) -> Operand
     }
 }
 
-fn fits(operand: Operand, x: u32) -> bool
+// Whether a number can stand in an operand's place.
+pub fn fits(operand: Operand, x: u32) -> bool
     ensures { λ r. ⌜ r ≡ fits operand x ⌝ }
 {
     match operand {

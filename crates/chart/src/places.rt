@@ -45,4 +45,11 @@ impl NewPlace {
     {
         self.0 < n
     }
+
+    // Whether it is the same place as another of the new chart.
+    pub fn same(self, other: NewPlace) -> bool
+        ensures { λ r. ⌜ r ≡ eqb (self .0) (other .0) ⌝ }
+    {
+        self.0 == other.0
+    }
 }

@@ -1,7 +1,7 @@
-// The number of a pair of places: the only place where an old and a new one are joined.
+// The numbers of nodes: a pair, the only place where an old and a new place are joined, and a kept new place; and sets of old places.
 ghost use mathlib.Core.Path.{_≡_};
-ghost use Prim.Native.Nat.{_<_};
-ghost use Rattle.chart.specs.Places.{pairNumber, oldOf, newOf};
+ghost use Prim.Native.Nat.{_^_, _<_};
+ghost use Rattle.chart.specs.Places.{pairNumber, keptNumber, oldOf, newOf};
 use crate::places::NewPlace;
 use crate::places::OldPlace;
 
@@ -10,6 +10,13 @@ pub fn pair(p: OldPlace, q: NewPlace) -> usize
     ensures { λ r. ⌜ r ≡ pairNumber p q ⌝ }
 {
     (64 * p.0 + q.0) as usize
+}
+
+pub fn kept(q: NewPlace) -> usize
+    requires { ⌜ q .0 < 64 ⌝ }
+    ensures { λ r. ⌜ r ≡ keptNumber q ⌝ }
+{
+    (4096 + q.0) as usize
 }
 
 pub fn old_of(pair: usize) -> OldPlace
@@ -23,4 +30,12 @@ pub fn new_of(pair: usize) -> NewPlace
     ensures { λ r. ⌜ r ≡ newOf pair ⌝ }
 {
     NewPlace((pair % 64) as u32)
+}
+
+// The set of an old place alone, as a bit of a set of old places.
+pub fn bit(p: OldPlace) -> u64
+    requires { ⌜ p .0 < 64 ⌝ }
+    ensures { λ r. ⌜ r ≡ 2 ^ p .0 ⌝ }
+{
+    1u64 << p.0
 }
