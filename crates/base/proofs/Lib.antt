@@ -2,3 +2,6 @@
 pub mod Tests
 pub mod Lists
 pub mod Options
+pub mod Says
+pub mod Maybe
+pub mod Picks

@@ -4,3 +4,5 @@ pub mod Chains
 pub mod Lists
 pub mod Options
 pub mod Tests
+pub mod Says
+pub mod Refusals
