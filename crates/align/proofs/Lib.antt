@@ -1,0 +1,9 @@
+-- Laws of sets, of the rows of a place and of the aligned step.
+pub mod Sets
+pub mod ReadSets
+pub mod Parts
+pub mod Agree
+pub mod Reach
+pub mod Onto
+pub mod Seek
+pub mod Moves

@@ -1,0 +1,238 @@
+-- The aligned step branch by branch, as the code comes upon it. Assumes nothing.
+use mathlib.Core.Path.{_≡_, refl, sym, ap, _∙_}
+use mathlib.Core.Bool.{Bool, true, false, _&&_, _||_, not}
+use mathlib.Core.List.{List}
+use mathlib.Core.Option.{Option, none, some}
+use Prim.Native.Nat.{ℕ, zero, suc, _-_, _^_, _<_, _≤_}
+use native.Mathlib.Omega.{arith}
+use Rattle.base.specs.Options.{orElse}
+use Rattle.base.specs.Says.{bool}
+use Rattle.base.proofs.Picks.{pick-true, pick-false, pick-none, pick-some}
+use Rattle.base.proofs.Maybe.{All, All-none, All-some, All-map, All-when, All-orElse}
+use Rattle.chart.specs.declared.operations.Operation.{Operation}
+use Rattle.chart.specs.declared.places.OldPlace.{OldPlace}
+use Rattle.chart.specs.declared.places.NewPlace.{NewPlace}
+use Rattle.chart.specs.Charts.{Chart, size, to, operation, leaving}
+use Rattle.chart.specs.Faultless.{FaultlessChart}
+use Rattle.chart.specs.Operations.{same, isAssignment, isAssumption}
+use Rattle.chart.specs.Trials.{implication}
+use Rattle.align.specs.declared.spots.Spot.{Spot}
+use Rattle.align.specs.Sets.{alone, joined, with, without, meets, readSet}
+use Rattle.align.specs.Steps.{find, isImplied, along, matching, matched, rewritten, rowsAt, atAlarm, assigned, onward, follow, followed, counterpart, assumed, moved, fair, arrived, step}
+use Rattle.align.proofs.Onto.{further, picked, Among, found}
+use Rattle.align.proofs.Parts.{row-of, row-same}
+
+-- ---- lines 7 and 8
+module _ (s : ℕ) (o : Operation) {rd : ℕ} {m : Bool} (e : rd ≡ readSet o) (t : m ≡ meets s rd) where
+  pub rewritten-with : {r : ℕ} → m ≡ true → r ≡ with s (o .a) → r ≡ rewritten s o
+  unfolding rewritten
+  rewritten-with u q = q ∙ sym (pick-true (meets s (readSet o)) (with s (o .a)) (without s (o .a)) (ap (meets s) (sym e) ∙ sym t ∙ u))
+
+  pub rewritten-without : {r : ℕ} → m ≡ false → r ≡ without s (o .a) → r ≡ rewritten s o
+  unfolding rewritten
+  rewritten-without u q = q ∙ sym (pick-false (meets s (readSet o)) (with s (o .a)) (without s (o .a)) (ap (meets s) (sym e) ∙ sym t ∙ u))
+
+-- ---- line 15
+abbrev byImplication : List ℕ → Operation → Option ℕ
+byImplication rows o = find rows (λ o′. isAssumption o′ && isImplied (implication o o′))
+
+module _ (rows : List ℕ) (o : Operation) {x : Option ℕ} (e : x ≡ find rows (λ o′. same o′ o)) where
+  pub matching-same : {k : ℕ} → x ≡ some k → some k ≡ matching rows o
+  unfolding matching
+  matching-same q = ap (λ (y : Option ℕ). orElse y (byImplication rows o)) (sym (sym e ∙ q))
+
+  pub matching-implied : {o′ : Operation} {r : Option ℕ} → x ≡ none → o′ ≡ o → r ≡ find rows (λ o″. isAssumption o″ && isImplied (implication o′ o″)) → r ≡ matching rows o
+  unfolding matching
+  matching-implied q p h = h ∙ ap (byImplication rows) p ∙ ap (λ (y : Option ℕ). orElse y (byImplication rows o)) (sym (sym e ∙ q))
+
+matching-there : (rows : List ℕ) (o : Operation) → All (Among rows (λ o. Unit {0})) (matching rows o)
+unfolding matching
+matching-there rows o = All-orElse (found rows (λ o′. same o′ o) (λ o t. tt)) (found rows (λ o′. isAssumption o′ && isImplied (implication o o′)) (λ o t. tt))
+
+pub matching-inside : (rows : List ℕ) (o : Operation) (k : ℕ) → some k ≡ matching rows o → k < size rows
+matching-inside rows o k e = matching-there rows o .of k (sym e) .inside
+
+-- ---- lines 6 to 10
+module _ (old : Chart) (h : Spot) (o : Operation) {rows : List ℕ} {x : Option ℕ} (r : rows ≡ rowsAt old (h .place)) (e : x ≡ find rows (λ o′. same o′ o)) where
+  sought : x ≡ find (rowsAt old (h .place)) (λ o′. same o′ o)
+  sought = e ∙ ap (λ (rows : List ℕ). find rows (λ o′. same o′ o)) r
+
+  pub assigned-equal : {k : ℕ} {t : OldPlace} {o′ : Operation} {s : ℕ} → x ≡ some k → t .0 ≡ to rows k → o′ ≡ o → s ≡ rewritten (h .set) o′
+      → record { place = t; set = s } ≡ assigned old h o (find (rowsAt old (h .place)) (λ o′. same o′ o))
+  unfolding assigned
+  assigned-equal {k} {t} q p i z =
+      (λ j. record { place = record { 0 = (p ∙ ap (λ (rows : List ℕ). to rows k) r) j }; set = (z ∙ ap (rewritten (h .set)) i) j })
+      ∙ ap (assigned old h o) (sym (sym sought ∙ q))
+
+  pub assigned-alone : {o′ : Operation} {s : ℕ} → x ≡ none → o′ ≡ o → s ≡ with (h .set) (o′ .a)
+      → record { place = h .place; set = s } ≡ assigned old h o (find (rowsAt old (h .place)) (λ o′. same o′ o))
+  unfolding assigned
+  assigned-alone q i z =
+      (λ j. record { place = h .place; set = (z ∙ ap (λ (o : Operation). with (h .set) (o .a)) i) j })
+      ∙ ap (assigned old h o) (sym (sym sought ∙ q))
+
+-- a place that a row of a faultless chart leads to is one of 64
+module _ (old : Chart) (F : FaultlessChart old) where
+  pub part-below : (p k : ℕ) → k < size (leaving (old .table) p) → to (leaving (old .table) p) k < 64
+  part-below p k l =
+      let (i, r) = row-of (old .table) p k l in
+      let b = F .rows i (r .inside) .to-below in
+      let f = F .few-places in
+      omega (arith, row-same (old .table) p r .to-same)
+
+  abbrev pub Below : Spot → Type 0
+  Below h = h .place .0 < 64
+
+  along-below : (p s : ℕ) (x : Option ℕ) → All (Among (leaving (old .table) p) (λ o. isAssignment o ≡ true)) x → All Below (along s (leaving (old .table) p) x)
+  unfolding along
+  along-below p s none q = All-none
+  along-below p s (some k) q = All-some (part-below p k (q .of k refl .inside))
+
+  pub onward-below : (h : Spot) → All Below (onward old h)
+  unfolding onward
+  onward-below h =
+      picked (atAlarm old (h .place)) none _ (λ t. All-none)
+      (λ t. along-below (h .place .0) (h .set) (find (rowsAt old (h .place)) isAssignment) (found (rowsAt old (h .place)) isAssignment (λ o t. t)))
+
+  follow-below : (n met : ℕ) (h : Spot) → Below h → All Below (follow old n met h)
+  unfolding follow
+  follow-below zero met h b = All-none
+  follow-below (suc n) met h b =
+      further (onward old h) (some h) _ (All-some b)
+      (All-map (λ h′ b′. picked (meets met (alone (h′ .place .0))) none _ (λ t. All-none) (λ t. follow-below n (with met (h′ .place .0)) h′ b′)) (onward-below h))
+
+  assumed-below : (h : Spot) (o : Operation) → Below h → (x : Option ℕ) → All (Among (rowsAt old (h .place)) (λ o. Unit {0})) x → All Below (assumed old h o x)
+  unfolding assumed matched
+  assumed-below h o b none q = All-some b
+  assumed-below h o b (some k) q =
+      All-when (not (meets (h .set) (readSet o) || meets (h .set) (readSet (operation (rowsAt old (h .place)) k)))) _ (λ t. part-below (h .place .0) k (q .of k refl .inside))
+
+  counterpart-there : (p : OldPlace) (o : Operation) → All (Among (rowsAt old p) (λ o. Unit {0})) (counterpart old p o)
+  unfolding counterpart
+  counterpart-there p o = picked (atAlarm old p) none _ (λ t. All-none) (λ t. matching-there (rowsAt old p) o)
+
+  assigned-below : (h : Spot) (o : Operation) → Below h → (x : Option ℕ) → All (Among (rowsAt old (h .place)) (λ o. Unit {0})) x → Below (assigned old h o x)
+  unfolding assigned
+  assigned-below h o b none q = b
+  assigned-below h o b (some k) q = part-below (h .place .0) k (q .of k refl .inside)
+
+  moved-below : (h : Spot) (o : Operation) → Below h → All Below (moved old h o)
+  unfolding moved followed
+  moved-below h o b =
+      picked (isAssignment o) _ _
+      (λ t. All-some (assigned-below h o b (find (rowsAt old (h .place)) (λ o′. same o′ o)) (found (rowsAt old (h .place)) (λ o′. same o′ o) (λ o t. tt))))
+      (λ t. further (follow old 64 (alone (h .place .0)) h) none _ All-none
+      (All-map (λ h′ b′. assumed-below h′ o b′ (counterpart old (h′ .place) o) (counterpart-there (h′ .place) o)) (follow-below 64 (alone (h .place .0)) h b)))
+
+  -- the old place that a step comes to is one of 64
+  pub step-below : (new : Chart) (h : Spot) (o : Operation) (q : NewPlace) → Below h → All Below (step old new h o q)
+  unfolding step arrived
+  step-below new h o q b = go (moved old h o) (moved-below h o b)
+    where
+      go : (x : Option Spot) → All Below x → All Below (arrived (old .alarm) (new .alarm) q x)
+      go none f = All-none
+      go (some h′) f = All-when (bool (fair (old .alarm) (new .alarm) (h′ .place) q)) h′ (λ t. f .of h′ refl)
+
+module _ (old : Chart) where
+  -- ---- lines 13 and 14
+  pub onward-ends : (h : Spot) → atAlarm old (h .place) ≡ true → none ≡ onward old h
+  unfolding onward
+  onward-ends h t = sym (pick-true (atAlarm old (h .place)) none _ t)
+
+  pub onward-by : (h : Spot) {rows : List ℕ} {x : Option ℕ} {r : Option Spot} → atAlarm old (h .place) ≡ false → rows ≡ rowsAt old (h .place)
+      → x ≡ find rows isAssignment → r ≡ along (h .set) rows x → r ≡ onward old h
+  unfolding onward
+  onward-by h {x = x} t e q p =
+      p ∙ ap (along (h .set) _) q ∙ ap (λ (rows : List ℕ). along (h .set) rows (find rows isAssignment)) e
+      ∙ sym (pick-false (atAlarm old (h .place)) none (along (h .set) (rowsAt old (h .place)) (find (rowsAt old (h .place)) isAssignment)) t)
+
+  module _ (n met : ℕ) (h : Spot) where
+    pub follow-ends : {r : Option Spot} → r ≡ onward old h → r ≡ none → some h ≡ follow old (suc n) met h
+    unfolding follow
+    follow-ends e q = sym (pick-none (onward old h) (some h) _ (sym e ∙ q))
+
+    pub follow-twice : {r : Option Spot} (h′ : Spot) → r ≡ onward old h → r ≡ some h′ → meets met (alone (h′ .place .0)) ≡ true → none ≡ follow old (suc n) met h
+    unfolding follow
+    follow-twice h′ e q t = sym (pick-some (onward old h) (some h) _ h′ (sym e ∙ q) ∙ pick-true (meets met (alone (h′ .place .0))) none _ t)
+
+    pub follow-on : {r : Option Spot} (h′ : Spot) → r ≡ onward old h → r ≡ some h′ → meets met (alone (h′ .place .0)) ≡ false
+        → follow old (suc n) met h ≡ follow old n (with met (h′ .place .0)) h′
+    unfolding follow
+    follow-on h′ e q t = pick-some (onward old h) (some h) _ h′ (sym e ∙ q) ∙ pick-false (meets met (alone (h′ .place .0))) none _ t
+
+  -- ---- line 15
+  pub counterpart-none : (p : OldPlace) (o : Operation) → atAlarm old p ≡ true → none ≡ counterpart old p o
+  unfolding counterpart
+  counterpart-none p o t = sym (pick-true (atAlarm old p) none (matching (rowsAt old p) o) t)
+
+  pub counterpart-by : (p : OldPlace) (o : Operation) {rows : List ℕ} {x : Option ℕ} → atAlarm old p ≡ false → rows ≡ rowsAt old p
+      → x ≡ matching rows o → x ≡ counterpart old p o
+  unfolding counterpart
+  counterpart-by p o t e q = q ∙ ap (λ (rows : List ℕ). matching rows o) e ∙ sym (pick-false (atAlarm old p) none (matching (rowsAt old p) o) t)
+
+  -- ---- lines 16 to 18
+  pub assumed-on : (h : Spot) (o : Operation) {x : Option ℕ} → x ≡ counterpart old (h .place) o → x ≡ none → some h ≡ assumed old h o (counterpart old (h .place) o)
+  unfolding assumed
+  assumed-on h o e q = ap (assumed old h o) (sym (sym e ∙ q))
+
+  pub assumed-by : (h : Spot) (o : Operation) (k : ℕ) {rows : List ℕ} {x : Option ℕ} {r : Option Spot} → x ≡ counterpart old (h .place) o → x ≡ some k
+      → rows ≡ rowsAt old (h .place) → r ≡ matched (h .set) rows k o → r ≡ assumed old h o (counterpart old (h .place) o)
+  unfolding assumed
+  assumed-by h o k e q s p = p ∙ ap (λ (rows : List ℕ). matched (h .set) rows k o) s ∙ ap (assumed old h o) (sym (sym e ∙ q))
+
+  -- ---- the step
+  module _ (h : Spot) (o : Operation) where
+    pub moved-assigned : {s : Spot} → isAssignment o ≡ true → s ≡ assigned old h o (find (rowsAt old (h .place)) (λ o′. same o′ o)) → some s ≡ moved old h o
+    unfolding moved
+    moved-assigned t e = ap some e ∙ sym (pick-true (isAssignment o) (some (assigned old h o (find (rowsAt old (h .place)) (λ o′. same o′ o)))) _ t)
+
+    pub moved-twice : {f : Option Spot} → isAssignment o ≡ false → f ≡ followed old h → f ≡ none → none ≡ moved old h o
+    unfolding moved
+    moved-twice t e q = sym (pick-false (isAssignment o) (some (assigned old h o (find (rowsAt old (h .place)) (λ o′. same o′ o)))) _ t ∙ pick-none (followed old h) none _ (sym e ∙ q))
+
+    pub moved-assumed : {f r : Option Spot} (h′ : Spot) → isAssignment o ≡ false → f ≡ followed old h → f ≡ some h′
+        → r ≡ assumed old h′ o (counterpart old (h′ .place) o) → r ≡ moved old h o
+    unfolding moved
+    moved-assumed h′ t e q p = p ∙ sym (pick-false (isAssignment o) (some (assigned old h o (find (rowsAt old (h .place)) (λ o′. same o′ o)))) _ t ∙ pick-some (followed old h) none _ h′ (sym e ∙ q))
+
+-- ---- the loop that follows: the walk so far and the walk from here on are one
+module _ (old : Chart) (h : Spot) where
+  pub record Walk (at : Spot) (met left : ℕ) : Type 0 where
+    pub below : at .place .0 < 64
+    pub rest : followed old h ≡ follow old left met at
+
+  pub walk-begins : {met : ℕ} → h .place .0 < 64 → met ≡ 2 ^ h .place .0 → Walk h met 64
+  unfolding followed alone
+  walk-begins b e = record { below = b; rest = ap (λ (m : ℕ). follow old 64 m h) (sym e) }
+
+  module _ {at : Spot} {met left : ℕ} (walk : Walk at met left) where
+    pub walk-over : left ≤ 0 → none ≡ followed old h
+    unfolding follow
+    walk-over l = let z : left ≡ 0 = omega arith in sym (walk .rest ∙ ap (λ (n : ℕ). follow old n met at) z)
+
+    module _ {r : Option Spot} (l : 0 < left) (e : r ≡ onward old at) where
+      again : left ≡ suc (left - 1)
+      again = omega arith
+
+      pub walk-ends : r ≡ none → some at ≡ followed old h
+      walk-ends q = sym (walk .rest ∙ ap (λ (n : ℕ). follow old n met at) again ∙ sym (follow-ends old (left - 1) met at e q))
+
+      pub next-below : {next : Spot} → FaultlessChart old → r ≡ some next → next .place .0 < 64
+      next-below {next} F q = onward-below old F at .of next (sym e ∙ q)
+
+      module _ {next : Spot} {b : ℕ} {m : Bool} (q : r ≡ some next) (p : b ≡ 2 ^ next .place .0) (t : m ≡ meets met b) where
+        come-to : meets met (alone (next .place .0)) ≡ m
+        unfolding alone
+        come-to = sym (t ∙ ap (meets met) p)
+
+        pub walk-twice : m ≡ true → none ≡ followed old h
+        walk-twice u = sym (walk .rest ∙ ap (λ (n : ℕ). follow old n met at) again ∙ sym (follow-twice old (left - 1) met at next e q (come-to ∙ u)))
+
+        pub walk-on : {b′ met′ : ℕ} → FaultlessChart old → m ≡ false → b′ ≡ 2 ^ next .place .0 → met′ ≡ joined met b′ → Walk next met′ (left - 1)
+        unfolding alone with
+        walk-on F u p′ j =
+            record {
+              below = next-below F q;
+              rest = walk .rest ∙ ap (λ (n : ℕ). follow old n met at) again ∙ follow-on old (left - 1) met at next e q (come-to ∙ u)
+                  ∙ ap (λ (m : ℕ). follow old (left - 1) m next) (sym (j ∙ ap (joined met) p′));
+            }

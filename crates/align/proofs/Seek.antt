@@ -1,0 +1,49 @@
+-- The loop that looks for the first row of a place that is as sought. Assumes nothing.
+use mathlib.Core.Path.{_≡_, refl, sym, ap, subst, _∙_}
+use mathlib.Core.Bool.{Bool, true, false}
+use mathlib.Core.List.{List}
+use mathlib.Core.Option.{Option, none, some}
+use Prim.Native.Nat.{ℕ, _+_, _≤_, _<_}
+use native.Mathlib.Omega.{arith}
+use Rattle.base.specs.Options.{when, orElse, missing, firstOf}
+use Rattle.base.proofs.Options.{first-at, none-at, none-all}
+use Rattle.base.proofs.Tests.{T-true}
+use Rattle.chart.specs.declared.operations.Operation.{Operation}
+use Rattle.chart.specs.Charts.{Chart, size, operation, leaving}
+use Rattle.chart.specs.Faultless.{FaultlessChart}
+use Rattle.chart.specs.Operations.{operandsFit}
+use Rattle.align.specs.Steps.{find}
+use Rattle.align.proofs.Onto.{found}
+use Rattle.align.proofs.Parts.{row-of, row-same}
+
+module _ (rows : List ℕ) (p : Operation → Bool) where
+  -- no row before row k is as sought
+  pub record None-before (k : ℕ) : Type 0 where
+    pub within : k ≤ size rows
+    pub rest : firstOf k (λ k. when (p (operation rows k)) k) ≡ none
+
+  pub none-at-first : None-before 0
+  unfolding firstOf
+  none-at-first = record { within = omega arith; rest = refl }
+
+  module _ {k : ℕ} (N : None-before k) where
+    pub found-here : k < size rows → {r : Bool} → r ≡ p (operation rows k) → r ≡ true → some k ≡ find rows p
+    unfolding find
+    found-here l e t = sym (first-at (λ k. when (p (operation rows k)) k) (size rows) k l (N .rest) (ap (λ (b : Bool). missing (when b k)) (sym e ∙ t)) ∙ ap (λ (b : Bool). when b k) (sym e ∙ t))
+
+    pub not-here : k < size rows → {r : Bool} → r ≡ p (operation rows k) → r ≡ false → None-before (k + 1)
+    not-here l e t = record { within = omega arith; rest = none-at (λ k. when (p (operation rows k)) k) k (N .rest) (ap (λ (b : Bool). missing (when b k)) (sym e ∙ t)) }
+
+    pub nowhere : size rows ≤ k → none ≡ find rows p
+    unfolding find
+    nowhere l = none-all (λ k. when (p (operation rows k)) k) (size rows) k (N .within) l (N .rest)
+
+  -- what is found is a row, and as sought
+  pub found-inside : (k : ℕ) → some k ≡ find rows p → k < size rows
+  found-inside k e = found rows p {P = λ o. p o ≡ true} (λ o t. t) .of k (sym e) .inside
+
+-- the operands of a row of a place of a faultless chart fit
+pub part-fits : (C : Chart) (p k : ℕ) → FaultlessChart C → k < size (leaving (C .table) p) → operandsFit (operation (leaving (C .table) p) k) ≡ true
+part-fits C p k F l =
+    let (i, r) = row-of (C .table) p k l in
+    subst (λ (o : Operation). operandsFit o ≡ true) (sym (row-same (C .table) p r .operation-same)) (F .rows i (r .inside) .fit)

@@ -1,0 +1,57 @@
+-- `align::inner::seek::implied` meets its contract. The invariant: no row passed is implied. Assumes nothing.
+use Rattle.align.proofs.Seek.{None-before, none-at-first, found-here, not-here, nowhere}
+use Rattle.chart.specs.Charts.{size}
+use Prim.Native.Nat.{_-_}
+use mathlib.Core.Bool.{_&&_}
+use Rattle.chart.specs.Operations.{isAssumption}
+use Rattle.chart.specs.Trials.{implication}
+use Rattle.align.specs.Steps.{isImplied}
+use borrow.Author.Needs.{needs}
+use native.Mathlib.Omega.{arith}
+use Rattle.align.proofs.inner.seek.implied.Statement.{statement}
+use Rattle.align.proofs.inner.seek.implied.Tie as tie
+
+abbrev Inv-loop : tie.InvT-loop
+Inv-loop rows o n k₀ k = None-before rows (λ o2. isAssumption o2 && isImplied (implication o o2)) k
+
+abbrev μ-loop : tie.MeasureT-loop
+μ-loop rows o n k₀ k = size rows - k
+
+loop-holds : tie.Need-loop-holds Inv-loop μ-loop
+loop-holds c = none-at-first _ _
+
+operation-at-requires : tie.Need-operation-at-requires Inv-loop μ-loop
+operation-at-requires c κs = search needs
+
+implies-requires : tie.Need-implies-requires Inv-loop μ-loop
+implies-requires c κs = search needs
+
+returns : tie.Need-returns Inv-loop μ-loop
+returns c = found-here _ _ (c .before .before .before .before .loop .inv) (search needs) (rw (c .before .before .operation-at .ensures) at (c .before .implies .ensures)) (c .if1 .taken)
+
+add-k : tie.Need-add-k Inv-loop μ-loop
+add-k c = search needs
+
+loop-less : tie.Need-loop-less Inv-loop μ-loop
+loop-less c = omega arith
+
+loop-again : tie.Need-loop-again Inv-loop μ-loop
+loop-again c = not-here _ _ (c .before .before .before .before .loop .inv) (search needs) (rw (c .before .before .operation-at .ensures) at (c .before .implies .ensures)) (c .if1 .left)
+
+returns-2 : tie.Need-returns-2 Inv-loop μ-loop
+returns-2 c = nowhere _ _ (c .before .loop .inv) (c .loop-test .left)
+
+pub implied-spec : {M : Type 1} → statement M
+implied-spec =
+    tie.close
+    (tie.spec
+    Inv-loop
+    μ-loop
+    loop-holds
+    operation-at-requires
+    implies-requires
+    returns
+    add-k
+    loop-less
+    loop-again
+    returns-2)

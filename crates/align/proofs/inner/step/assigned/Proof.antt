@@ -1,0 +1,59 @@
+-- `align::inner::step::assigned` meets its contract: with the equal row, or alone. Assumes nothing.
+use mathlib.Core.Path.{_≡_, sym, ap, subst, _∙_}
+use Rattle.align.proofs.Moves.{assigned-equal, assigned-alone}
+use Rattle.align.specs.Steps.{toldFound}
+use Rattle.align.proofs.Seek.{found-inside}
+use Rattle.chart.specs.declared.operations.Operation.{Operation}
+use Rattle.chart.specs.Operations.{operandsFit}
+use Rattle.chart.proofs.Faultless.{ascends, no-refusal}
+use mathlib.Core.Bool.{true}
+use Prim.Native.Nat.{_<_}
+use Rattle.chart.proofs.Codes.{fit-a}
+use borrow.Author.Needs.{needs}
+use Rattle.align.proofs.inner.step.assigned.Statement.{statement}
+use Rattle.align.proofs.inner.step.assigned.Tie as tie
+
+rows-of-requires : tie.Need-rows-of-requires
+rows-of-requires c κs = ascends _ (no-refusal _ (c .before .before .before .before .pre .0))
+
+operation-at-requires : tie.Need-operation-at-requires
+operation-at-requires c κs = search needs
+
+same-requires : tie.Need-same-requires
+same-requires c κs = search needs
+
+enum-known-k : tie.Need-enum-known-k
+enum-known-k c = search needs
+
+old-to-requires : tie.Need-old-to-requires
+old-to-requires c κs = found-inside _ _ _ (sym (ap toldFound (c .before .k .given .1)) ∙ c .before .before .before .same .ensures)
+
+rewritten-requires : tie.Need-rewritten-requires
+rewritten-requires c κs = subst (λ (o : Operation). operandsFit o ≡ true) (sym (c .before .before .before .before .before .operation-at .ensures)) (c .before .before .before .before .before .before .before .before .before .before .before .pre .1 .1)
+
+enum-told : tie.Need-enum-told
+enum-told c = search needs
+
+with-requires : tie.Need-with-requires
+with-requires c κs = subst (λ (o : Operation). o .a < 64) (sym (c .before .before .before .operation-at .ensures)) (fit-a _ (c .before .before .before .before .before .before .before .before .before .pre .1 .1))
+
+returns : tie.Need-returns
+returns c = assigned-equal _ _ _ (c .before .before .before .before .before .before .before .rows-of .ensures) (c .before .before .before .before .before .same .ensures) (ap toldFound (c .before .before .before .k .given .1)) (c .before .old-to .ensures) (c .before .before .before .before .before .before .operation-at .ensures) (c .rewritten .ensures)
+
+returns-2 : tie.Need-returns-2
+returns-2 c = assigned-alone _ _ _ (c .before .before .before .before .before .rows-of .ensures) (c .before .before .before .same .ensures) (ap toldFound (c .before .enum-told .given .1)) (c .before .before .before .before .operation-at .ensures) (c .with .ensures)
+
+pub assigned-spec : {M : Type 1} → statement M
+assigned-spec =
+    tie.close
+    (tie.spec
+    rows-of-requires
+    operation-at-requires
+    same-requires
+    enum-known-k
+    old-to-requires
+    rewritten-requires
+    enum-told
+    with-requires
+    returns
+    returns-2)

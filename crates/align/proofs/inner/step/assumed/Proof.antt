@@ -1,0 +1,63 @@
+-- `align::inner::step::assumed` meets its contract: at the alarm, matched, or not found. Assumes nothing.
+use mathlib.Core.Path.{_≡_, refl, sym, ap, subst, _∙_}
+use Rattle.align.proofs.Moves.{counterpart-none, counterpart-by, matching-inside, assumed-on, assumed-by}
+use Rattle.align.specs.Steps.{toldFound, matching, matched}
+use Rattle.align.proofs.Seek.{part-fits}
+use Rattle.chart.specs.Charts.{size, operation}
+use Rattle.chart.specs.declared.operations.Operation.{Operation}
+use Rattle.chart.specs.Operations.{operandsFit}
+use mathlib.Core.Bool.{true}
+use mathlib.Core.List.{List}
+use Prim.Native.Nat.{ℕ, _<_}
+use mathlib.Core.Path.{refl, sym, ap, _∙_}
+use Rattle.align.proofs.Moves.{counterpart-none, counterpart-by, assumed-on}
+use Rattle.align.specs.Steps.{toldFound, matching}
+use Rattle.chart.proofs.Faultless.{ascends, no-refusal}
+use borrow.Author.Needs.{needs}
+use Rattle.align.proofs.inner.step.assumed.Statement.{statement}
+use Rattle.align.proofs.inner.step.assumed.Tie as tie
+
+is-requires : tie.Need-is-requires
+is-requires c κs = search needs
+
+returns : tie.Need-returns
+returns c = assumed-on _ _ _ (counterpart-none _ _ _ (sym (c .before .is .ensures) ∙ c .if1 .taken)) refl
+
+rows-of-requires : tie.Need-rows-of-requires
+rows-of-requires c κs = ascends _ (no-refusal _ (c .before .before .before .before .before .before .pre .0))
+
+matching-requires : tie.Need-matching-requires
+matching-requires c κs = search needs
+
+enum-known-k : tie.Need-enum-known-k
+enum-known-k c = search needs
+
+operation-at-requires : tie.Need-operation-at-requires
+operation-at-requires c κs = search needs
+
+matched-requires : tie.Need-matched-requires
+matched-requires c κs = let l = matching-inside _ _ _ (sym (ap toldFound (c .before .before .k .given .1)) ∙ c .before .before .before .before .matching .ensures) in let e = c .before .before .before .before .before .rows-of .ensures in (l, subst (λ (rows : List ℕ). operandsFit (operation rows (c .before .before .k .given .0 .0)) ≡ true) (sym e) (part-fits _ _ _ (c .before .before .before .before .before .before .before .before .before .before .before .before .pre .0) (subst (λ (rows : List ℕ). c .before .before .k .given .0 .0 < size rows) e l)), subst (λ (o : Operation). operandsFit o ≡ true) (sym (c .operation-at .ensures)) (c .before .before .before .before .before .before .before .before .before .before .before .before .pre .1 .1))
+
+enum-told : tie.Need-enum-told
+enum-told c = search needs
+
+returns-2 : tie.Need-returns-2
+returns-2 c = assumed-by _ _ _ (c .before .before .before .k .given .0 .0) (counterpart-by _ _ _ (sym (c .before .before .before .before .before .before .before .before .is .ensures) ∙ c .before .before .before .before .before .before .before .if1 .left) (c .before .before .before .before .before .before .rows-of .ensures) (c .before .before .before .before .before .matching .ensures)) (ap toldFound (c .before .before .before .k .given .1)) (c .before .before .before .before .before .before .rows-of .ensures) (c .matched .ensures ∙ ap (matched _ _ _) (c .before .operation-at .ensures))
+
+returns-3 : tie.Need-returns-3
+returns-3 c = assumed-on _ _ _ (counterpart-by _ _ _ (sym (c .before .before .before .before .before .is .ensures) ∙ c .before .before .before .before .if1 .left) (c .before .before .before .rows-of .ensures) (c .before .before .matching .ensures)) (ap toldFound (c .enum-told .given .1))
+
+pub assumed-spec : {M : Type 1} → statement M
+assumed-spec =
+    tie.close
+    (tie.spec
+    is-requires
+    returns
+    rows-of-requires
+    matching-requires
+    enum-known-k
+    operation-at-requires
+    matched-requires
+    enum-told
+    returns-2
+    returns-3)

@@ -1,0 +1,56 @@
+-- `align::inner::step::moved` meets its contract: by an assignment, or by an assumption after what is followed. Assumes nothing.
+use mathlib.Core.Path.{_≡_, sym, ap, subst, _∙_}
+use Rattle.align.proofs.Moves.{moved-assigned, moved-twice, moved-assumed}
+use Rattle.align.specs.Steps.{toldFollowed}
+use Rattle.chart.specs.declared.operations.Operation.{Operation}
+use mathlib.Core.Bool.{true}
+use Rattle.chart.specs.Operations.{isAssignment}
+use mathlib.Core.Bool.{true, false}
+use borrow.Author.Needs.{needs}
+use Rattle.align.proofs.inner.step.moved.Statement.{statement}
+use Rattle.align.proofs.inner.step.moved.Tie as tie
+
+operation-at-requires : tie.Need-operation-at-requires
+operation-at-requires c κs = search needs
+
+is-assignment-requires : tie.Need-is-assignment-requires
+is-assignment-requires c κs = search needs
+
+assigned-requires : tie.Need-assigned-requires
+assigned-requires c κs = search needs
+
+returns : tie.Need-returns
+returns c = moved-assigned _ _ _ (subst (λ (o : Operation). isAssignment o ≡ true) (c .before .before .before .operation-at .ensures) (sym (c .before .before .is-assignment .ensures) ∙ c .before .if1 .taken)) (c .assigned .ensures)
+
+follow-requires : tie.Need-follow-requires
+follow-requires c κs = search needs
+
+enum-known-next : tie.Need-enum-known-next
+enum-known-next c = search needs
+
+assumed-requires : tie.Need-assumed-requires
+assumed-requires c κs = search needs
+
+enum-told : tie.Need-enum-told
+enum-told c = search needs
+
+returns-2 : tie.Need-returns-2
+returns-2 c = moved-assumed _ _ _ _ (subst (λ (o : Operation). isAssignment o ≡ false) (c .before .before .before .before .before .before .before .operation-at .ensures) (sym (c .before .before .before .before .before .before .is-assignment .ensures) ∙ c .before .before .before .before .before .if1 .left)) (c .before .before .before .before .follow .ensures) (ap toldFollowed (c .before .before .next .given .1)) (c .assumed .ensures)
+
+returns-3 : tie.Need-returns-3
+returns-3 c = moved-twice _ _ _ (subst (λ (o : Operation). isAssignment o ≡ false) (c .before .before .before .before .before .operation-at .ensures) (sym (c .before .before .before .before .is-assignment .ensures) ∙ c .before .before .before .if1 .left)) (c .before .before .follow .ensures) (ap toldFollowed (c .enum-told .given .1))
+
+pub moved-spec : {M : Type 1} → statement M
+moved-spec =
+    tie.close
+    (tie.spec
+    operation-at-requires
+    is-assignment-requires
+    assigned-requires
+    returns
+    follow-requires
+    enum-known-next
+    assumed-requires
+    enum-told
+    returns-2
+    returns-3)

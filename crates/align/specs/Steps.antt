@@ -1,0 +1,142 @@
+-- One aligned step ("One aligned step"): lines 5 to 18 and 27 of the source's Algorithm 2, for a pair, a set V and a new row.
+use mathlib.Core.Bool.{Bool, true, false, _&&_, _||_, not}
+use mathlib.Core.List.{List}
+use mathlib.Core.Option.{Option, none, some}
+use Prim.Native.Nat.{ℕ, zero, suc}
+use lib.Dec.{eqb}
+use Rattle.base.specs.Options.{when, orElse, firstOf}
+use Rattle.base.specs.Says.{Test, eq, ne, so, _and_, _or_, bool}
+use Rattle.chart.specs.declared.operations.Operation.{Operation}
+use Rattle.chart.specs.declared.assumptions.Implication.{Implication}
+use Rattle.chart.specs.declared.assumptions.Implication.the-variants.{Never, Implied, NotImplied}
+use Rattle.chart.specs.declared.places.OldPlace.{OldPlace}
+use Rattle.chart.specs.declared.places.NewPlace.{NewPlace}
+use Rattle.chart.specs.Operations.{isAssignment, isAssumption, same}
+use Rattle.chart.specs.Charts.{Chart, size, to, operation, leaving}
+use Rattle.chart.specs.Trials.{implication}
+use Rattle.align.specs.declared.spots.Spot.{Spot}
+use Rattle.align.specs.declared.spots.Found.{Found}
+use Rattle.align.specs.declared.spots.Found.the-variants as founds
+use Rattle.align.specs.declared.spots.Onward.{Onward}
+use Rattle.align.specs.declared.spots.Onward.the-variants as onwards
+use Rattle.align.specs.declared.spots.Followed.{Followed}
+use Rattle.align.specs.declared.spots.Followed.the-variants as followeds
+use Rattle.align.specs.declared.spots.Aligned.{Aligned}
+use Rattle.align.specs.declared.spots.Aligned.the-variants as aligneds
+use Rattle.align.specs.Sets.{alone, with, without, meets, readSet}
+
+-- what the code's answers say: a row that is there or not, a spot come to or not
+abbrev pub toldFound : Found → Option ℕ
+toldFound (founds.At k) = some k
+toldFound founds.Nothing = none
+
+abbrev pub toldOnward : Onward → Option Spot
+toldOnward (onwards.To h) = some h
+toldOnward onwards.Ends = none
+
+abbrev pub toldFollowed : Followed → Option Spot
+toldFollowed (followeds.At h) = some h
+toldFollowed followeds.Twice = none
+
+abbrev pub told : Aligned → Option Spot
+told (aligneds.To h) = some h
+told aligneds.Failed = none
+
+-- ---- rows of a place
+-- the first row, in table order, whose operation passes
+unfoldable pub find : List ℕ → (Operation → Bool) → Option ℕ
+find rows f = firstOf (size rows) (λ k. when (f (operation rows k)) k)
+
+abbrev pub oldTo : List ℕ → ℕ → OldPlace
+oldTo rows k = record { 0 = to rows k }
+
+-- the answer that lets an assumption match by implication: "only if some values meet the new assumption, the old assumption [..] that
+-- it implies"
+abbrev pub isImplied : Implication → Bool
+isImplied Never = false
+isImplied Implied = true
+isImplied NotImplied = false
+
+-- an assignment that is followed, if there is one: what it writes joins the set
+unfoldable pub along : ℕ → List ℕ → Option ℕ → Option Spot
+along s rows none = none
+along s rows (some k) = some (record { place = oldTo rows k; set = with s (operation rows k .a) })
+
+-- "seek the old row at p whose operation is equal; failing that, and only if some values meet the new assumption, the old assumption at p
+-- that it implies" (line 15)
+unfoldable pub matching : List ℕ → Operation → Option ℕ
+matching rows o = orElse (find rows (λ o′. same o′ o)) (find rows (λ o′. isAssumption o′ && isImplied (implication o o′)))
+
+-- "If found and V meets the variables read by either row, the step fails. If found otherwise, go to (p2, q2)." (lines 16 and 17)
+unfoldable pub matched : ℕ → List ℕ → ℕ → Operation → Option Spot
+matched s rows k o =
+    when (not (meets s (readSet o) || meets s (readSet (operation rows k)))) (record { place = oldTo rows k; set = s })
+
+-- "The set is V with the written variable if V meets the read ones, else V without it." (lines 7 and 8)
+unfoldable pub rewritten : ℕ → Operation → ℕ
+rewritten s o = elim (meets s (readSet o)) [ true ↦ with s (o .a) | false ↦ without s (o .a) ]
+
+module _ (old : Chart) where
+  -- the old rows that leave a place, as a table of their own
+  abbrev pub rowsAt : OldPlace → List ℕ
+  rowsAt p = leaving (old .table) (p .0)
+
+  abbrev pub atAlarm : OldPlace → Bool
+  atAlarm p = eqb (p .0) (old .alarm)
+
+  -- ---- lines 6 to 10, an assignment, with its equal row in the old chart if there is one
+  unfoldable pub assigned : Spot → Operation → Option ℕ → Spot
+  -- "Assignment, no such row: go to (p, q2) with V plus the written variable." (line 10)
+  assigned h o none = record { place = h .place; set = with (h .set) (o .a) }
+  -- "Assignment, equal row p→p2 in the old chart: go to (p2, q2)." (lines 6 and 9)
+  assigned h o (some k) = record { place = oldTo (rowsAt (h .place)) k; set = rewritten (h .set) o }
+
+  -- ---- lines 12 to 14, what comes before an assumption
+  -- "while p isn't the old alarm and an assignment leaves it, follow that and add what it writes to V" (lines 13 and 14)
+  unfoldable pub onward : Spot → Option Spot
+  onward h = elim (atAlarm (h .place)) [ true ↦ none | false ↦ along (h .set) (rowsAt (h .place)) (find (rowsAt (h .place)) isAssignment) ]
+
+  -- "Coming to a place twice here is a failed step": the places come to are a set too. A walk of n rows at most
+  unfoldable pub follow : ℕ → ℕ → Spot → Option Spot
+  follow zero met h = none
+  follow (suc n) met h =
+      elim (onward h) [
+        | none ↦ some h
+        | some h′ ↦ elim (meets met (alone (h′ .place .0))) [ true ↦ none | false ↦ follow n (with met (h′ .place .0)) h′ ]
+      ]
+
+  -- from a place, which counts as come to: no more than 64 rows can be followed without coming to one of 64 places twice
+  unfoldable pub followed : Spot → Option Spot
+  followed h = follow 64 (alone (h .place .0)) h
+
+  -- ---- lines 15 to 18, an assumption
+  -- "unless p is the old alarm, seek" (line 15)
+  unfoldable pub counterpart : OldPlace → Operation → Option ℕ
+  counterpart p o = elim (atAlarm p) [ true ↦ none | false ↦ matching (rowsAt p) o ]
+
+  -- "If not found or at the alarm, go to (p, q2). The set is V." (line 18)
+  unfoldable pub assumed : Spot → Operation → Option ℕ → Option Spot
+  assumed h o none = some h
+  assumed h o (some k) = matched (h .set) (rowsAt (h .place)) k o
+
+  -- ---- the step, up to the rule of the new alarm
+  unfoldable pub moved : Spot → Operation → Option Spot
+  moved h o =
+      elim (isAssignment o) [
+        | true ↦ some (assigned h o (find (rowsAt (h .place)) (λ o′. same o′ o)))
+        | false ↦ elim (followed h) [ none ↦ none | some h′ ↦ assumed h′ o (counterpart (h′ .place) o) ]
+      ]
+
+-- an old and a new place, and the alarms of both charts: where the new place is the new alarm, the old one is the old alarm
+abbrev pub fair : ℕ → ℕ → OldPlace → NewPlace → Test
+fair oldAlarm newAlarm p q = ne (q .0) newAlarm or eq (p .0) oldAlarm
+
+-- "A step to the new alarm with an old place that isn't the old alarm fails." (line 27)
+unfoldable pub arrived : ℕ → ℕ → NewPlace → Option Spot → Option Spot
+arrived oldAlarm newAlarm q none = none
+arrived oldAlarm newAlarm q (some h) = when (bool (fair oldAlarm newAlarm (h .place) q)) h
+
+-- the aligned step from an old place and its set by a new row with operation o that leads to q: none where it fails, else the old place
+-- it comes to and the set there
+unfoldable pub step : Chart → Chart → Spot → Operation → NewPlace → Option Spot
+step old new h o q = arrived (old .alarm) (new .alarm) q (moved old h o)

@@ -1,0 +1,78 @@
+// Following old assignments to the old alarm or the next assumption.
+ghost use mathlib.Core.Path.{_≡_};
+ghost use mathlib.Core.Bool.{true};
+ghost use mathlib.Core.Option.{some};
+ghost use Prim.Native.Nat.{_<_};
+ghost use Rattle.chart.specs.Charts.{charted, size, operation};
+ghost use Rattle.chart.specs.Faultless.{FaultlessChart};
+ghost use Rattle.chart.specs.Operations.{operandsFit};
+ghost use Rattle.align.specs.Steps.{toldOnward, toldFollowed, along, onward, followed};
+use crate::inner::seek;
+use crate::inner::sets;
+use crate::spots::Followed;
+use crate::spots::Found;
+use crate::spots::Onward;
+use crate::spots::Spot;
+use chart::charts::Head;
+use chart::inner::pairs::bit;
+use chart::inner::rows::old_to;
+use chart::inner::rows::operation_at;
+use chart::inner::rows::rows_of;
+use chart::places::Place;
+
+// By row k of a place: what it writes joins the set.
+fn along(set: u64, rows: &[u32], k: usize) -> Spot
+    requires { ⌜ (k < size (now rows)) × (operandsFit (operation (now rows) k) ≡ true) ⌝ }
+    ensures { λ r. ⌜ some r ≡ along set (now (rows .entry)) (some k) ⌝ }
+{
+    let o = operation_at(rows, k);
+    Spot {
+        place: old_to(rows, k),
+        set: sets::with(set, o.a),
+    }
+}
+
+// By the assignment that leaves the place, unless it is the old alarm or none does.
+fn onward<'a>(old: Head, old_rows: &'a [u32], new_rows: &'a [u32], h: Spot) -> Onward
+    requires { ⌜ FaultlessChart (charted old (now «old_rows»)) ⌝ }
+    ensures { λ r. ⌜ toldOnward r ≡ onward (charted old (now («old_rows» .entry))) h ⌝ }
+{
+    let p = h.place;
+    if p.is(old.alarm) {
+        return Onward::Ends;
+    }
+    let rows = rows_of(old_rows, new_rows, Place::Old(p));
+    match seek::assignment(rows) {
+        Found::At(k) => Onward::To(along(h.set, rows, k)),
+        Found::Nothing => Onward::Ends,
+    }
+}
+
+// All of them, from a place that counts as come to: a walk that comes to no place twice follows no more than 64.
+pub fn follow<'a>(old: Head, old_rows: &'a [u32], new_rows: &'a [u32], h: Spot) -> Followed
+    requires { ⌜ FaultlessChart (charted old (now «old_rows»)) ⌝ }
+    requires { ⌜ h .place .0 < 64 ⌝ }
+    ensures { λ r. ⌜ toldFollowed r ≡ followed (charted old (now («old_rows» .entry))) h ⌝ }
+{
+    let p = h.place;
+    let mut at = h;
+    let mut met = bit(p);
+    let mut left: u32 = 64;
+    while 0 < left {
+        match onward(old, old_rows, new_rows, at) {
+            Onward::Ends => {
+                return Followed::At(at);
+            }
+            Onward::To(next) => {
+                let q = next.place;
+                if sets::meets(met, bit(q)) {
+                    return Followed::Twice;
+                }
+                met = sets::joined(met, bit(q));
+                at = next;
+            }
+        }
+        left -= 1;
+    }
+    Followed::Twice
+}

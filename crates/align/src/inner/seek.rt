@@ -1,0 +1,85 @@
+// The first row of a place that is as sought, in table order. `rows` is the part of a table that leaves the place.
+ghost use mathlib.Core.Path.{_≡_};
+ghost use mathlib.Core.Bool.{_&&_};
+ghost use Prim.Native.Nat.{_<_};
+ghost use Rattle.chart.specs.Charts.{size, operation};
+ghost use Rattle.chart.specs.Operations.{same, isAssignment, isAssumption};
+ghost use Rattle.chart.specs.Trials.{implication};
+ghost use Rattle.align.specs.Steps.{toldFound, find, isImplied, matching};
+use crate::spots::Found;
+use chart::assumptions;
+use chart::assumptions::Implication;
+use chart::inner::rows::operation_at;
+use chart::inner::rows::same_operation;
+use chart::operations;
+use chart::operations::Operation;
+
+// The row whose operation is equal to that of row j of another part.
+pub fn same(rows: &[u32], part: &[u32], j: usize) -> Found
+    requires { ⌜ j < size (now part) ⌝ }
+    ensures { λ r. ⌜ toldFound r ≡ find (now (rows .entry)) (λ o. same o (operation (now (part .entry)) j)) ⌝ }
+{
+    let n = rows.len() / 6;
+    let mut k = 0;
+    while k < n {
+        if same_operation(rows, k, part, j) {
+            return Found::At(k);
+        }
+        k += 1;
+    }
+    Found::Nothing
+}
+
+pub fn assignment(rows: &[u32]) -> Found
+    ensures { λ r. ⌜ toldFound r ≡ find (now (rows .entry)) isAssignment ⌝ }
+{
+    let n = rows.len() / 6;
+    let mut k = 0;
+    while k < n {
+        if operations::is_assignment(operation_at(rows, k)) {
+            return Found::At(k);
+        }
+        k += 1;
+    }
+    Found::Nothing
+}
+
+// Whether o2 is an assumption that o implies, o being one that some values meet.
+fn implies(o: Operation, o2: Operation) -> bool
+    ensures { λ r. ⌜ r ≡ isAssumption o2 && isImplied (implication o o2) ⌝ }
+{
+    if !operations::is_assumption(o2) {
+        return false;
+    }
+    match assumptions::implies(o, o2) {
+        Implication::Never => false,
+        Implication::Implied => true,
+        Implication::NotImplied => false,
+    }
+}
+
+// The assumption that o implies.
+fn implied(rows: &[u32], o: Operation) -> Found
+    ensures { λ r. ⌜ toldFound r ≡ find (now (rows .entry)) (λ o2. isAssumption o2 && isImplied (implication o o2)) ⌝ }
+{
+    let n = rows.len() / 6;
+    let mut k = 0;
+    while k < n {
+        if implies(o, operation_at(rows, k)) {
+            return Found::At(k);
+        }
+        k += 1;
+    }
+    Found::Nothing
+}
+
+// The row that an assumption, row j of another part, is matched with: the equal one, else the one that it implies.
+pub fn matching(rows: &[u32], part: &[u32], j: usize) -> Found
+    requires { ⌜ j < size (now part) ⌝ }
+    ensures { λ r. ⌜ toldFound r ≡ matching (now (rows .entry)) (operation (now (part .entry)) j) ⌝ }
+{
+    match same(rows, part, j) {
+        Found::At(k) => Found::At(k),
+        Found::Nothing => implied(rows, operation_at(part, j)),
+    }
+}

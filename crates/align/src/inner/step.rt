@@ -1,0 +1,176 @@
+// One aligned step by a new row. `part` is the part of the new table that leaves a place, and j the row's number in it.
+ghost use mathlib.Core.Path.{_≡_};
+ghost use mathlib.Core.Bool.{true};
+ghost use Prim.Native.Nat.{_<_};
+ghost use Rattle.base.specs.Says.{bool};
+ghost use Rattle.chart.specs.Charts.{charted, size, to, operation};
+ghost use Rattle.chart.specs.Faultless.{FaultlessChart};
+ghost use Rattle.chart.specs.Operations.{same, operandsFit};
+ghost use Rattle.align.specs.Steps.{told, find, rewritten, assigned, matched, counterpart, assumed, moved, fair, arrived, rowsAt, step};
+use crate::inner::follow::follow;
+use crate::inner::seek;
+use crate::inner::sets;
+use crate::spots::Aligned;
+use crate::spots::Followed;
+use crate::spots::Found;
+use crate::spots::Spot;
+use chart::charts::Head;
+use chart::inner::rows::new_to;
+use chart::inner::rows::old_to;
+use chart::inner::rows::operation_at;
+use chart::inner::rows::rows_of;
+use chart::operations;
+use chart::operations::Operation;
+use chart::places::NewPlace;
+use chart::places::OldPlace;
+use chart::places::Place;
+
+// The set after an assignment that both charts take.
+fn rewritten(set: u64, o: Operation) -> u64
+    requires { ⌜ operandsFit o ≡ true ⌝ }
+    ensures { λ r. ⌜ r ≡ rewritten set o ⌝ }
+{
+    if sets::meets(set, sets::reads(o)) {
+        return sets::with(set, o.a);
+    }
+    sets::without(set, o.a)
+}
+
+// By a new assignment: together with the equal old row, if there is one.
+fn assigned<'a>(
+    old: Head,
+    old_rows: &'a [u32],
+    new_rows: &'a [u32],
+    h: Spot,
+    part: &'a [u32],
+    j: usize,
+) -> Spot
+    requires { ⌜ FaultlessChart (charted old (now «old_rows»)) ⌝ }
+    requires { ⌜ (j < size (now part)) × (operandsFit (operation (now part) j) ≡ true) ⌝ }
+    ensures { λ r. ⌜ r ≡ assigned (charted old (now («old_rows» .entry))) h (operation (now (part .entry)) j) (find (rowsAt (charted old (now («old_rows» .entry))) (h .place)) (λ o. same o (operation (now (part .entry)) j))) ⌝ }
+{
+    let p = h.place;
+    let rows = rows_of(old_rows, new_rows, Place::Old(p));
+    let o = operation_at(part, j);
+    match seek::same(rows, part, j) {
+        Found::At(k) => Spot {
+            place: old_to(rows, k),
+            set: rewritten(h.set, o),
+        },
+        Found::Nothing => Spot {
+            place: p,
+            set: sets::with(h.set, o.a),
+        },
+    }
+}
+
+// By an assumption and row k of the old place, which is matched with it.
+fn matched(set: u64, rows: &[u32], k: usize, o: Operation) -> Aligned
+    requires { ⌜ (k < size (now rows)) × (operandsFit (operation (now rows) k) ≡ true) × (operandsFit o ≡ true) ⌝ }
+    ensures { λ r. ⌜ told r ≡ matched set (now (rows .entry)) k o ⌝ }
+{
+    if sets::meets(set, sets::reads(o)) {
+        return Aligned::Failed;
+    }
+    if sets::meets(set, sets::reads(operation_at(rows, k))) {
+        return Aligned::Failed;
+    }
+    Aligned::To(Spot {
+        place: old_to(rows, k),
+        set,
+    })
+}
+
+// By a new assumption, once old assignments have been followed.
+fn assumed<'a>(
+    old: Head,
+    old_rows: &'a [u32],
+    new_rows: &'a [u32],
+    h: Spot,
+    part: &'a [u32],
+    j: usize,
+) -> Aligned
+    requires { ⌜ FaultlessChart (charted old (now «old_rows»)) ⌝ }
+    requires { ⌜ (j < size (now part)) × (operandsFit (operation (now part) j) ≡ true) ⌝ }
+    ensures { λ r. ⌜ told r ≡ assumed (charted old (now («old_rows» .entry))) h (operation (now (part .entry)) j) (counterpart (charted old (now («old_rows» .entry))) (h .place) (operation (now (part .entry)) j)) ⌝ }
+{
+    let p = h.place;
+    if p.is(old.alarm) {
+        return Aligned::To(h);
+    }
+    let rows = rows_of(old_rows, new_rows, Place::Old(p));
+    match seek::matching(rows, part, j) {
+        Found::At(k) => matched(h.set, rows, k, operation_at(part, j)),
+        Found::Nothing => Aligned::To(h),
+    }
+}
+
+// The step up to the rule of the new alarm.
+fn moved<'a>(
+    old: Head,
+    old_rows: &'a [u32],
+    new_rows: &'a [u32],
+    h: Spot,
+    part: &'a [u32],
+    j: usize,
+) -> Aligned
+    requires { ⌜ FaultlessChart (charted old (now «old_rows»)) ⌝ }
+    requires { ⌜ h .place .0 < 64 ⌝ }
+    requires { ⌜ (j < size (now part)) × (operandsFit (operation (now part) j) ≡ true) ⌝ }
+    ensures { λ r. ⌜ told r ≡ moved (charted old (now («old_rows» .entry))) h (operation (now (part .entry)) j) ⌝ }
+{
+    if operations::is_assignment(operation_at(part, j)) {
+        return Aligned::To(assigned(old, old_rows, new_rows, h, part, j));
+    }
+    match follow(old, old_rows, new_rows, h) {
+        Followed::At(next) => assumed(old, old_rows, new_rows, next, part, j),
+        Followed::Twice => Aligned::Failed,
+    }
+}
+
+// Whether the old place is the old alarm if the new one is the new alarm.
+pub fn fair(old: Head, new: Head, p: OldPlace, q: NewPlace) -> bool
+    ensures { λ r. ⌜ r ≡ bool (fair (old .alarm) (new .alarm) p q) ⌝ }
+{
+    if !q.is(new.alarm) {
+        return true;
+    }
+    p.is(old.alarm)
+}
+
+fn arrived(old: Head, new: Head, q: NewPlace, came: Aligned) -> Aligned
+    ensures { λ r. ⌜ told r ≡ arrived (old .alarm) (new .alarm) q (told came) ⌝ }
+{
+    match came {
+        Aligned::To(h) => {
+            if fair(old, new, h.place, q) {
+                return Aligned::To(h);
+            }
+            Aligned::Failed
+        }
+        Aligned::Failed => Aligned::Failed,
+    }
+}
+
+// The aligned step from an old place and its set by row j of the part.
+pub fn step<'a>(
+    old: Head,
+    old_rows: &'a [u32],
+    new: Head,
+    new_rows: &'a [u32],
+    h: Spot,
+    part: &'a [u32],
+    j: usize,
+) -> Aligned
+    requires { ⌜ FaultlessChart (charted old (now «old_rows»)) ⌝ }
+    requires { ⌜ h .place .0 < 64 ⌝ }
+    requires { ⌜ (j < size (now part)) × (operandsFit (operation (now part) j) ≡ true) ⌝ }
+    ensures { λ r. ⌜ told r ≡ step (charted old (now («old_rows» .entry))) (charted new (now («new_rows» .entry))) h (operation (now (part .entry)) j) (record { 0 = to (now (part .entry)) j }) ⌝ }
+{
+    arrived(
+        old,
+        new,
+        new_to(part, j),
+        moved(old, old_rows, new_rows, h, part, j),
+    )
+}
