@@ -1,0 +1,29 @@
+-- `checker::inner::rules::target_fault` meets its contract: no row, one that fits, or one at fault. Assumes nothing.
+use Rattle.checker.proofs.Targets.{no-row, row-fine, row-fails}
+use Rattle.checker.specs.Records.{graphOf}
+use Prim.Native.Nat.{_-_}
+use borrow.Author.Needs.{needs}
+use Rattle.checker.proofs.inner.rules.target_fault.Statement.{statement}
+use Rattle.checker.proofs.inner.rules.target_fault.Tie as tie
+
+returns : tie.Need-returns
+returns c = no-row _ _ (graphOf _ _ _) _ _ _ (c .if1 .taken)
+
+row-fits-requires : tie.Need-row-fits-requires
+row-fits-requires c κs = search needs
+
+returns-2 : tie.Need-returns-2
+returns-2 c = row-fine _ _ (graphOf _ _ _) _ _ _ (c .before .before .if1 .left) (c .before .row-fits .ensures) (c .if2 .taken)
+
+mul-t12 : tie.Need-mul-t12
+mul-t12 c = search needs
+
+add-t15 : tie.Need-add-t15
+add-t15 c = search needs
+
+returns-3 : tie.Need-returns-3
+returns-3 c = row-fails _ _ (graphOf _ _ _) _ _ _ (c .before .before .if1 .left) (c .before .row-fits .ensures) (c .if2 .left)
+
+pub target-fault-spec : {M : Type 1} → statement M
+target-fault-spec =
+    tie.close (tie.spec returns row-fits-requires returns-2 mul-t12 add-t15 returns-3)

@@ -1,0 +1,17 @@
+-- `checker::inner::shape::marks_pair` meets its contract: test by test. Assumes nothing.
+use borrow.Author.Tests.{eq-eqb, ne-eqb}
+use Prim.Native.Nat.{_-_}
+use Rattle.checker.proofs.inner.shape.marks_pair.Statement.{statement}
+use Rattle.checker.proofs.inner.shape.marks_pair.Tie as tie
+
+returns : tie.Need-returns
+returns c = rw (eq-eqb _ _ (c .if1 .taken))
+
+returns-2 : tie.Need-returns-2
+returns-2 c = rw (ne-eqb _ _ (c .before .if1 .left), eq-eqb _ _ (c .if2 .taken))
+
+returns-3 : tie.Need-returns-3
+returns-3 c = rw (ne-eqb _ _ (c .before .if1 .left), ne-eqb _ _ (c .if2 .left))
+
+pub marks-pair-spec : {M : Type 1} → statement M
+marks-pair-spec = tie.close (tie.spec returns returns-2 returns-3)

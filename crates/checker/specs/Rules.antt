@@ -1,0 +1,117 @@
+-- What a record must be like: its shape (refusal 31) and the rules of refusal 32 ("The checker", "Who can cause a refusal").
+use mathlib.Core.Path.{_≡_}
+use mathlib.Core.Bool.{Bool, true, false}
+use mathlib.Core.List.{List, []}
+use mathlib.Core.Option.{Option, none, some}
+use Prim.Native.Nat.{ℕ}
+use lib.ListN.{length, getD}
+use Rattle.base.specs.Says.{Test, eq, ne, le, so, _and_, _or_, each, below, bool, Says}
+use Rattle.chart.specs.declared.charts.Head.{Head}
+use Rattle.chart.specs.declared.operations.Operation.{Operation}
+use Rattle.chart.specs.declared.places.OldPlace.{OldPlace}
+use Rattle.chart.specs.declared.places.NewPlace.{NewPlace}
+use Rattle.chart.specs.Charts.{Chart, charted, start, to, operation, leaving}
+use Rattle.chart.specs.Faultless.{FaultlessChart}
+use Rattle.chart.specs.Places.{pairNumber, keptNumber, oldOf, newOf}
+use Rattle.align.specs.declared.spots.Spot.{Spot}
+use Rattle.align.specs.Sets.{holdsAll}
+use Rattle.align.specs.Steps.{fair, step}
+use Rattle.checker.specs.Records.{Graph, spot, target}
+
+-- ---- the start
+-- a chart's head, and the start place of a chart with that head
+abbrev pub headOf : Chart → Head
+headOf C = record { places = C .places; alarm = C .alarm }
+
+abbrev pub oldStart : Head → OldPlace
+oldStart old = record { 0 = start (charted old []) }
+
+abbrev pub newStart : Head → NewPlace
+newStart new = record { 0 = start (charted new []) }
+
+-- the two nodes that a record can start from: the pair of both starts, and the kept new start
+abbrev pub startPair : Head → Head → ℕ
+startPair old new = pairNumber (oldStart old) (newStart new)
+
+abbrev pub startKept : Head → ℕ
+startKept new = keptNumber (newStart new)
+
+-- ---- refusal 31
+-- "start neither 0 nor 4,096"
+abbrev pub startNamed : Head → Head → ℕ → Test
+startNamed old new s = eq s (startPair old new) or eq s (startKept new)
+
+-- a mark x of node n: none is "above 4", "on places that don't exist", "a pair marked 2 or a kept node marked 1, 3 or 4". The new place of
+-- a node of either kind is its number modulo 64
+abbrev pub markFits : Head → Head → ℕ → ℕ → Test
+markFits old new n x =
+    eq x 0
+    or below (newOf n .0) (new .places)
+    and (below n 4096 and below (oldOf n .0) (old .places) and (eq x 1 or eq x 3 or eq x 4) or le 4096 n and eq x 2)
+
+unfoldable pub marksFit : Head → Head → List ℕ → Test
+marksFit old new marks = each 4160 (λ n. markFits old new n (getD marks n 0))
+
+-- "a target neither below 4,160 nor 65535": all 8,192 fall under it, unused ones too
+abbrev pub targetFits : ℕ → Test
+targetFits t = below t 4160 or eq t 65535
+
+unfoldable pub targetsFit : List ℕ → Test
+targetsFit targets = each 8192 (λ i. targetFits (getD targets i 0))
+
+-- all of 31
+unfoldable pub shaped : Head → Head → ℕ → List ℕ → List ℕ → Test
+shaped old new s marks targets = startNamed old new s and marksFit old new marks and targetsFit targets
+
+-- ---- refusal 32
+-- "Start 0: mark 1, and place 0 isn't the new alarm unless it is also the old one. Start 4,096: mark 2."
+unfoldable pub startFits : Head → Head → ℕ → List ℕ → Test
+startFits old new s marks =
+    eq s (startPair old new) and eq (getD marks (startPair old new) 0) 1 and fair (old .alarm) (new .alarm) (oldStart old) (newStart new)
+    or eq s (startKept new) and eq (getD marks (startKept new) 0) 2
+
+-- "the target is kept q2, marked 2"
+unfoldable pub keeps : List ℕ → NewPlace → ℕ → Test
+keeps marks q t = eq t (keptNumber q) and eq (getD marks t 0) 2
+
+-- "or the pair that the aligned step under its set gives, present, its set holding the step's set"
+unfoldable pub joins : List ℕ → List ℕ → NewPlace → ℕ → Spot → Test
+joins marks sets q t h = eq t (pairNumber (h .place) q) and ne (getD marks t 0) 0 and so (holdsAll (getD sets t 0) (h .set))
+
+-- a failed step gives no pair
+unfoldable pub joinsStep : List ℕ → List ℕ → NewPlace → ℕ → Option Spot → Bool
+joinsStep marks sets q t none = false
+joinsStep marks sets q t (some h) = bool (joins marks sets q t h)
+
+-- "For each present pair at the old alarm, and each of its rows q→q2, the target is 65535, or kept q2, marked 2, or a present pair with new
+-- place q2."
+unfoldable pub restsAt : List ℕ → NewPlace → ℕ → Test
+restsAt marks q t = eq t 65535 or keeps marks q t or below t 4096 and eq (newOf t .0) (q .0) and ne (getD marks t 0) 0
+
+-- "Of these targets, 65535 excepted, those from mark 1 have mark 1, 2 or 3; those from 3 or 4 have 3 or 4."
+unfoldable pub ranked : List ℕ → ℕ → ℕ → Test
+ranked marks m t =
+    eq t 65535
+    or eq (getD marks m 0) 1 and le 1 (getD marks t 0) and le (getD marks t 0) 3
+    or ne (getD marks m 0) 1 and le 3 (getD marks t 0) and le (getD marks t 0) 4
+
+module _ (old new : Chart) (G : Graph) where
+  -- a target t of the pair m by a new row with operation o that leads to q
+  unfoldable pub leads : ℕ → Operation → NewPlace → ℕ → Test
+  leads m o q t =
+      eq (oldOf m .0) (old .alarm) and restsAt (G .marks) q t
+      or ne (oldOf m .0) (old .alarm)
+      and (keeps (G .marks) q t or so (joinsStep (G .marks) (G .sets) q t (step old new (spot G m) o q)))
+
+  -- the target of row k of a pair's new place; rows is the part of the new table that leaves it
+  unfoldable pub rowFits : ℕ → List ℕ → ℕ → Test
+  rowFits m rows k = leads m (operation rows k) (record { 0 = to rows k }) (target G m k) and ranked (G .marks) m (target G m k)
+
+-- what the rules are judged upon: two faultless charts, and a graph of the stated lengths whose targets are nodes or 65535
+pub record Judged (old new : Chart) (G : Graph) : Type 0 where
+  pub old-faultless : FaultlessChart old
+  pub new-faultless : FaultlessChart new
+  pub marks-length : length (G .marks) ≡ 4160
+  pub targets-length : length (G .targets) ≡ 8192
+  pub sets-length : length (G .sets) ≡ 4096
+  pub targets-fit : Says (targetsFit (G .targets))

@@ -1,0 +1,205 @@
+// All rules of refusal 32, in order: the start, then the targets by index.
+ghost use mathlib.Core.Path.{_≡_};
+ghost use Prim.Native.Nat.{_<_};
+ghost use lib.ListN.{length};
+ghost use Rattle.base.specs.Options.{missing, firstOf};
+ghost use Rattle.base.specs.Says.{bool};
+ghost use Rattle.chart.specs.Charts.{charted, leaving};
+ghost use Rattle.chart.specs.Places.{newOf};
+ghost use Rattle.checker.specs.Records.{graphOf, recordOf};
+ghost use Rattle.checker.specs.Rules.{startFits, Judged};
+ghost use Rattle.checker.specs.Checks.{told, targetFault, rowsFault, pairFault, ruleFault};
+use crate::inner::targets::row_fits;
+use crate::records::Checked;
+use align::inner::step::fair;
+use chart::charts::Head;
+use chart::inner::pairs::new_of;
+use chart::inner::pairs::old_of;
+use chart::inner::rows::rows_of;
+use chart::places::Place;
+
+pub fn is_passed(c: Checked) -> bool
+    ensures { λ r. ⌜ r ≡ missing (told c) ⌝ }
+{
+    match c {
+        Checked::Passed => true,
+        Checked::Lengths => false,
+        Checked::OldFault {
+            number: _,
+            position: _,
+        } => false,
+        Checked::NewFault {
+            number: _,
+            position: _,
+        } => false,
+        Checked::Shape => false,
+        Checked::Start => false,
+        Checked::Target(_) => false,
+    }
+}
+
+// The rule of the start, which is one of the two that can be.
+fn start_fits(old: Head, new: Head, start: u32, marks: &[u8]) -> bool
+    requires { ⌜ length (now marks) ≡ 4160 ⌝ }
+    ensures { λ r. ⌜ r ≡ bool (startFits old new start (now (marks .entry))) ⌝ }
+{
+    if start == 0 {
+        if marks[0] != 1 {
+            return false;
+        }
+        return fair(old, new, old_of(0), new_of(0));
+    }
+    if start == 4096 {
+        return marks[4096] == 2;
+    }
+    false
+}
+
+// The rules for row k of the pair's new place, if there is such a row.
+fn target_fault<'a>(
+    old: Head,
+    old_rows: &'a [u32],
+    new: Head,
+    new_rows: &'a [u32],
+    marks: &[u8],
+    targets: &[u16],
+    sets: &[u64],
+    m: usize,
+    rows: &'a [u32],
+    k: usize,
+) -> Checked
+    requires { ⌜ Judged (charted old (now «old_rows»)) (charted new (now «new_rows»)) (graphOf (now marks) (now targets) (now sets)) ⌝ }
+    requires { ⌜ (m < 4096) × (now rows ≡ leaving (now «new_rows») (newOf m .0)) × (k < 2) ⌝ }
+    ensures { λ r. ⌜ told r ≡ targetFault (charted old (now («old_rows» .entry))) (charted new (now («new_rows» .entry))) (graphOf (now (marks .entry)) (now (targets .entry)) (now (sets .entry))) m (now (rows .entry)) k ⌝ }
+{
+    let n = rows.len() / 6;
+    if n <= k {
+        return Checked::Passed;
+    }
+    if row_fits(
+        old,
+        old_rows,
+        new,
+        new_rows,
+        marks,
+        targets,
+        sets,
+        m,
+        rows,
+        k,
+    ) {
+        return Checked::Passed;
+    }
+    Checked::Target(2 * m + k)
+}
+
+// The rules for a pair's first and second row.
+fn rows_fault<'a>(
+    old: Head,
+    old_rows: &'a [u32],
+    new: Head,
+    new_rows: &'a [u32],
+    marks: &[u8],
+    targets: &[u16],
+    sets: &[u64],
+    m: usize,
+    rows: &'a [u32],
+) -> Checked
+    requires { ⌜ Judged (charted old (now «old_rows»)) (charted new (now «new_rows»)) (graphOf (now marks) (now targets) (now sets)) ⌝ }
+    requires { ⌜ (m < 4096) × (now rows ≡ leaving (now «new_rows») (newOf m .0)) ⌝ }
+    ensures { λ r. ⌜ told r ≡ rowsFault (charted old (now («old_rows» .entry))) (charted new (now («new_rows» .entry))) (graphOf (now (marks .entry)) (now (targets .entry)) (now (sets .entry))) m (now (rows .entry)) ⌝ }
+{
+    let first = target_fault(
+        old,
+        old_rows,
+        new,
+        new_rows,
+        marks,
+        targets,
+        sets,
+        m,
+        rows,
+        0,
+    );
+    if !is_passed(first) {
+        return first;
+    }
+    target_fault(
+        old,
+        old_rows,
+        new,
+        new_rows,
+        marks,
+        targets,
+        sets,
+        m,
+        rows,
+        1,
+    )
+}
+
+// The rules for a pair, if it is present.
+fn pair_fault<'a>(
+    old: Head,
+    old_rows: &'a [u32],
+    new: Head,
+    new_rows: &'a [u32],
+    marks: &[u8],
+    targets: &[u16],
+    sets: &[u64],
+    m: usize,
+) -> Checked
+    requires { ⌜ Judged (charted old (now «old_rows»)) (charted new (now «new_rows»)) (graphOf (now marks) (now targets) (now sets)) ⌝ }
+    requires { ⌜ m < 4096 ⌝ }
+    ensures { λ r. ⌜ told r ≡ pairFault (charted old (now («old_rows» .entry))) (charted new (now («new_rows» .entry))) (graphOf (now (marks .entry)) (now (targets .entry)) (now (sets .entry))) m ⌝ }
+{
+    if marks[m] == 0 {
+        return Checked::Passed;
+    }
+    let rows = rows_of(old_rows, new_rows, Place::New(new_of(m)));
+    rows_fault(old, old_rows, new, new_rows, marks, targets, sets, m, rows)
+}
+
+// The lowest target index at fault.
+fn first_fault<'a>(
+    old: Head,
+    old_rows: &'a [u32],
+    new: Head,
+    new_rows: &'a [u32],
+    marks: &[u8],
+    targets: &[u16],
+    sets: &[u64],
+) -> Checked
+    requires { ⌜ Judged (charted old (now «old_rows»)) (charted new (now «new_rows»)) (graphOf (now marks) (now targets) (now sets)) ⌝ }
+    ensures { λ r. ⌜ told r ≡ firstOf 4096 (pairFault (charted old (now («old_rows» .entry))) (charted new (now («new_rows» .entry))) (graphOf (now (marks .entry)) (now (targets .entry)) (now (sets .entry)))) ⌝ }
+{
+    let mut m = 0;
+    while m < 4096 {
+        let f = pair_fault(old, old_rows, new, new_rows, marks, targets, sets, m);
+        if !is_passed(f) {
+            return f;
+        }
+        m += 1;
+    }
+    Checked::Passed
+}
+
+// The start before the targets.
+pub fn rule_fault<'a>(
+    old: Head,
+    old_rows: &'a [u32],
+    new: Head,
+    new_rows: &'a [u32],
+    start: u32,
+    marks: &[u8],
+    targets: &[u16],
+    sets: &[u64],
+) -> Checked
+    requires { ⌜ Judged (charted old (now «old_rows»)) (charted new (now «new_rows»)) (graphOf (now marks) (now targets) (now sets)) ⌝ }
+    ensures { λ r. ⌜ told r ≡ ruleFault (charted old (now («old_rows» .entry))) (charted new (now («new_rows» .entry))) (recordOf start (now (marks .entry)) (now (targets .entry)) (now (sets .entry))) ⌝ }
+{
+    if !start_fits(old, new, start, marks) {
+        return Checked::Start;
+    }
+    first_fault(old, old_rows, new, new_rows, marks, targets, sets)
+}
