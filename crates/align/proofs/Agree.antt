@@ -1,13 +1,13 @@
 -- Values that agree outside a set, and what the operations make of them. Assumes nothing.
-use mathlib.Core.Path.{_≡_, refl, sym, ap, subst, _∙_}
+use mathlib.Core.Path.{_≡_, refl, sym, subst, _∙_}
 use mathlib.Core.Bool.{Bool, true, false}
-use mathlib.Core.Logic.{dite, _⊎_, inl, inr}
+use mathlib.Core.Logic.{dite}
 use mathlib.Core.List.{List, [], _∷_}
-use Prim.Native.Nat.{ℕ, zero, suc, _^_, _≤_, _<_}
+use Prim.Native.Nat.{ℕ, _^_, _<_}
 use native.Mathlib.Decide.{ℕ-discrete, decLt}
 use native.Mathlib.Omega.{arith}
 use lib.Dec.{T, eqb, eqb-refl}
-use lib.ListN.{length, getD, set, length-set, List·getD-eq-default}
+use lib.ListN.{length, set, length-set, List·getD-eq-default}
 use lib.Seq.{getD-set-same, getD-set-other, set-out}
 use Rattle.base.proofs.Lists.{has as among, All}
 use Rattle.base.proofs.Tests.{T-or-l, T-or-r, T-true}
@@ -17,8 +17,8 @@ use Rattle.chart.specs.declared.operations.Kind.the-variants.{Assignment, Const
 use Rattle.chart.specs.Operations.{kind, byKind, isAssignment, isAssumption, reads, value, holds}
 use Rattle.chart.specs.Runs.{Values, var, lets, after}
 use Rattle.chart.proofs.Meaning.{Agree as SameOn, value-reads, value-small, holds-reads}
-use Rattle.align.specs.Sets.{joined, with, without, meets, holdsAll, setOf, readSet}
-use Rattle.align.proofs.Sets.{In, with-here, with-old, without-kept, meet-none, holds-in, set-of-in}
+use Rattle.align.specs.Sets.{with, without, meets, holdsAll, setOf, readSet}
+use Rattle.align.proofs.Sets.{In, with-old, without-kept, meet-none, holds-in, set-of-in}
 
 -- two lists of 64 values that agree on every variable outside the set
 pub record Agree (s : ℕ) (v w : List ℕ) : Type 0 where

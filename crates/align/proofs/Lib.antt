@@ -7,3 +7,4 @@ pub mod Reach
 pub mod Onto
 pub mod Seek
 pub mod Moves
+pub mod Enough

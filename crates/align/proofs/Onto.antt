@@ -1,13 +1,12 @@
 -- The aligned step simulates: where old values lead from its end to the old alarm, they do so from its beginning. Assumes nothing.
-use mathlib.Core.Path.{_≡_, refl, sym, ap, subst, _∙_}
+use mathlib.Core.Path.{_≡_, refl, sym, subst, _∙_}
 use mathlib.Core.Bool.{Bool, true, false, _&&_, _||_, not}
-use mathlib.Core.List.{List, [], _∷_}
+use mathlib.Core.List.{List}
 use mathlib.Core.Option.{Option, none, some}
 use Prim.Native.Nat.{ℕ, zero, suc, _^_, _<_}
-use lib.Dec.{T, eqb, eqb→eq}
+use lib.Dec.{eqb, eqb→eq}
 use lib.ListN.{getD, set}
 use borrow.Author.Tests.{not-true}
-use Rattle.base.specs.Options.{when, orElse, firstOf}
 use Rattle.base.specs.Says.{Says, bool}
 use Rattle.base.proofs.Tests.{T-and, T-true, is-true, and-true, or-false}
 use Rattle.base.proofs.Says.{says}
@@ -19,7 +18,7 @@ use Rattle.chart.specs.declared.places.OldPlace.{OldPlace}
 use Rattle.chart.specs.declared.places.NewPlace.{NewPlace}
 use Rattle.chart.specs.Operations.{isAssignment, isAssumption, same, value, holds}
 use Rattle.chart.specs.Assumptions.{Operands, Implies, Means}
-use Rattle.chart.specs.Charts.{Chart, size, to, operation, leaving}
+use Rattle.chart.specs.Charts.{Chart, size, operation}
 use Rattle.chart.specs.Faultless.{FaultlessChart}
 use Rattle.chart.specs.Runs.{Values, var, lets, after}
 use Rattle.chart.specs.Trials.{implication}

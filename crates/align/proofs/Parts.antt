@@ -1,22 +1,19 @@
 -- The rows that leave a place, as a table of their own, and the rows of the chart that they are. Assumes nothing.
 use mathlib.Core.Path.{_≡_, refl, sym, ap, subst, _∙_}
-use mathlib.Core.Bool.{Bool, true, false, cond, not}
+use mathlib.Core.Bool.{Bool, true, false, not}
 use mathlib.Core.List.{List, [], _∷_, _++_, append-assoc, append-nil}
-use mathlib.Core.Logic.{dite, _⊎_, inl, inr, ⊎-elim}
-use Prim.Native.Nat.{ℕ, zero, suc, _+_, _-_, _*_, _/_, _%_, _^_, _≤_, _<_}
-use native.Mathlib.Nat.{eq-or-lt-of-le, le-of-suc-le-suc}
+use mathlib.Core.Logic.{dite}
+use Prim.Native.Nat.{ℕ, zero, suc, _+_, _-_, _*_, _%_, _^_, _≤_, _<_}
 use native.Mathlib.Decide.{ℕ-discrete, decLe, decLt}
 use native.Mathlib.Omega.{arith}
-use borrow.Author.Tests.{eq-eqb, ne-eqb, eqb-true}
-use lib.Dec.{eqb}
+use borrow.Author.Tests.{eq-eqb, ne-eqb}
 use lib.ListN.{length, getD, take, drop, length-append, length-take, length-drop, List·getD-append}
 use lib.Seq.{getD-append-add, getD-drop, getD-take}
 use Rattle.base.proofs.Tests.{T-true, differ}
-use Rattle.chart.specs.declared.operations.Operation.{Operation}
 use Rattle.chart.specs.Charts.{Chart, size, from, to, operation, leavingOf, leaving}
 use Rattle.chart.specs.Operations.{holds}
 use Rattle.chart.specs.Assumptions.{Operands}
-use Rattle.chart.specs.Runs.{Values, var}
+use Rattle.chart.specs.Runs.{var}
 use Rattle.chart.specs.Faultless.{FaultlessChart}
 use Rattle.chart.proofs.Codes.{fit-a, fit-b}
 use Rattle.chart.proofs.Exact.{exclusive-exact}

@@ -2,12 +2,11 @@
 use mathlib.Core.Path.{_≡_, refl, sym, ap, subst, _∙_}
 use mathlib.Core.Bool.{Bool, true, false}
 use mathlib.Core.List.{List}
-use mathlib.Core.Option.{Option, none, some}
+use mathlib.Core.Option.{none, some}
 use Prim.Native.Nat.{ℕ, _+_, _≤_, _<_}
 use native.Mathlib.Omega.{arith}
-use Rattle.base.specs.Options.{when, orElse, missing, firstOf}
+use Rattle.base.specs.Options.{when, missing, firstOf}
 use Rattle.base.proofs.Options.{first-at, none-at, none-all}
-use Rattle.base.proofs.Tests.{T-true}
 use Rattle.chart.specs.declared.operations.Operation.{Operation}
 use Rattle.chart.specs.Charts.{Chart, size, operation, leaving}
 use Rattle.chart.specs.Faultless.{FaultlessChart}

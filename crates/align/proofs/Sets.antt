@@ -1,7 +1,7 @@
 -- Membership in sets, bit by bit: what each set of Sets.antt has. Assumes nothing.
 use mathlib.Core.Path.{_≡_, refl, sym, ap, _∙_}
-use mathlib.Core.Bool.{Bool, true, false, not}
-use mathlib.Core.List.{List, [], _∷_, _++_}
+use mathlib.Core.Bool.{true, false}
+use mathlib.Core.List.{List, [], _∷_}
 use mathlib.Core.Logic.{_⊎_, inl, inr, dite}
 use Prim.Native.Nat.{ℕ, zero, suc, _-_, _/_, _%_, _^_, _<_, min, max}
 use native.Mathlib.Nat.{pow-suc, zero-div, lt-of-le-of-lt}
@@ -12,7 +12,7 @@ use borrow.Author.Tests.{eqb-true, eqb-false, eq-eqb, not-true, not-false}
 use lib.Dec.{T, eqb, eqb→eq}
 use lib.Pow.{shr-shr, pow-lt}
 use lib.Arith.{digits-mod}
-use lib.Bits.{bitAnd, bitOr, or-step, and-step, or-shr, and-shr, or-lt, and-le-l, or-zero-l, or-zero-r}
+use lib.Bits.{bitAnd, bitOr, or-step, and-step, or-shr, and-shr, or-lt, and-le-l}
 use Rattle.base.proofs.Lists.{has as among}
 use Rattle.base.proofs.Tests.{T-or}
 use Rattle.align.specs.Sets.{bit, alone, joined, with, without, meets, holdsAll, setOf}

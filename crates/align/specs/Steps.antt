@@ -5,7 +5,7 @@ use mathlib.Core.Option.{Option, none, some}
 use Prim.Native.Nat.{ℕ, zero, suc}
 use lib.Dec.{eqb}
 use Rattle.base.specs.Options.{when, orElse, firstOf}
-use Rattle.base.specs.Says.{Test, eq, ne, so, _and_, _or_, bool}
+use Rattle.base.specs.Says.{Test, eq, ne, _or_, bool}
 use Rattle.chart.specs.declared.operations.Operation.{Operation}
 use Rattle.chart.specs.declared.assumptions.Implication.{Implication}
 use Rattle.chart.specs.declared.assumptions.Implication.the-variants.{Never, Implied, NotImplied}
@@ -119,7 +119,7 @@ module _ (old : Chart) where
   assumed h o none = some h
   assumed h o (some k) = matched (h .set) (rowsAt (h .place)) k o
 
-  -- ---- the step, up to the rule of the new alarm
+  -- ---- the step, up to the rule of the new alarm: by an assignment (line 5) or an assumption (line 11)
   unfoldable pub moved : Spot → Operation → Option Spot
   moved h o =
       elim (isAssignment o) [

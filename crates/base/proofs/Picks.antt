@@ -1,5 +1,5 @@
 -- What a choice by a test, or by a value that may be missing, comes to. Assumes nothing.
-use mathlib.Core.Path.{_≡_, refl, sym, _∙_}
+use mathlib.Core.Path.{_≡_, refl, sym}
 use mathlib.Core.Bool.{Bool, true, false}
 use mathlib.Core.Option.{Option, none, some, Option·none-ne-some, Option·some-injective}
 use Rattle.base.proofs.Tests.{T-true}

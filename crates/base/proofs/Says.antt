@@ -1,15 +1,14 @@
 -- A test computes to true exactly where what it says is so. Assumes nothing.
-use mathlib.Core.Path.{_≡_, refl, sym, subst, _∙_}
-use mathlib.Core.Bool.{Bool, true, false, _&&_, _||_, not}
-use mathlib.Core.Logic.{_≢_, _⊎_, inl, inr, ⊎-elim}
+use mathlib.Core.Path.{_≡_, refl, sym, subst}
+use mathlib.Core.Bool.{Bool, true, false, not}
+use mathlib.Core.Logic.{_⊎_, inl, inr, ⊎-elim}
 use Prim.Native.Nat.{ℕ, zero, suc, _+_, _≤_, _<_}
 use native.Mathlib.Nat.{eq-or-lt-of-le, le-of-suc-le-suc}
 use native.Mathlib.Numerals.{add-one}
 use native.Mathlib.Omega.{arith}
 use lib.Dec.{T, T-not, not-T, eqb, leb, eqb→eq, eqb-refl, leb→le, le→leb}
-use borrow.Author.Tests.{ne-eqb, eq-eqb}
 use Rattle.base.specs.Says.{every, Test, eq, ne, le, so, _and_, _or_, each, bool, Says}
-use Rattle.base.proofs.Tests.{T-and, T-both, T-or, T-or-l, T-or-r, T-true, is-true, and-true}
+use Rattle.base.proofs.Tests.{T-and, T-both, T-or, T-or-l, T-or-r}
 
 -- a test that is passed or is not
 pub T-split : (b : Bool) → T b ⊎ T (not b)

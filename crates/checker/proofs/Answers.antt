@@ -1,22 +1,20 @@
 -- The refusal that is due, step by step, as the code comes upon it. Assumes nothing.
-use mathlib.Core.Path.{_≡_, refl, sym, ap, _∙_}
-use mathlib.Core.Bool.{Bool, true, false, not}
-use mathlib.Core.List.{List}
+use mathlib.Core.Path.{_≡_, sym, ap, _∙_}
+use mathlib.Core.Bool.{Bool, true, false}
 use mathlib.Core.Option.{Option, none, some}
-use Prim.Native.Nat.{ℕ, _%_, _<_}
 use lib.ListN.{length}
 use Rattle.base.specs.Options.{orElse, missing, firstOf}
-use Rattle.base.specs.Refusals.{Refusal, refusedIf}
+use Rattle.base.specs.Refusals.{Refusal}
 use Rattle.base.specs.Says.{bool, Says}
 use Rattle.base.proofs.Options.{gone, picked-first, picked-second}
 use Rattle.base.proofs.Says.{says}
-use Rattle.base.proofs.Tests.{T-true, and-true}
+use Rattle.base.proofs.Tests.{T-true}
 use Rattle.chart.specs.Charts.{Chart}
 use Rattle.chart.specs.Faultless.{FaultlessChart}
 use Rattle.chart.specs.Faults.{Fault, fault}
 use Rattle.chart.proofs.Faultless.{faultless}
-use Rattle.checker.specs.Records.{Graph, Record, recordOf}
-use Rattle.checker.specs.Rules.{headOf, startNamed, marksFit, targetsFit, shaped, startFits, Judged}
+use Rattle.checker.specs.Records.{Record}
+use Rattle.checker.specs.Rules.{headOf, shaped, startFits, Admitted}
 use Rattle.checker.specs.Checks.{sized, inChart, pairFault, ruleFault, recordFault, refusal}
 use Rattle.checker.specs.Promise.{Words, Promise}
 use Rattle.checker.proofs.Passed.{no-fault, unrefused}
@@ -45,7 +43,7 @@ module _ (old new : Chart) (R : Record) where
 
     -- what the rules are judged upon
     pub judged : b ≡ true → FaultlessChart old → FaultlessChart new → length (R .graph .marks) ≡ 4160 → length (R .graph .targets) ≡ 8192 → length (R .graph .sets) ≡ 4096
-        → Judged old new (R .graph)
+        → Admitted old new (R .graph)
     unfolding shaped
     judged u f g m t s =
         record {

@@ -5,9 +5,9 @@ use mathlib.Core.Bool.{Bool, true, false}
 use mathlib.Core.Logic.{_≢_, _⊎_, inl, inr}
 use mathlib.Core.List.{List, [], _∷_}
 use mathlib.Core.Option.{Option, none, some}
-use Prim.Native.Nat.{ℕ, zero, suc, _+_, _*_, _/_, _%_, _^_, _≤_, _<_}
+use Prim.Native.Nat.{ℕ, _+_, _*_, _/_, _%_, _≤_, _<_}
 use native.Mathlib.Omega.{arith}
-use native.Mathlib.Decide.{decLt, ℕ-discrete}
+use native.Mathlib.Decide.{ℕ-discrete}
 use lib.Dec.{T, eqb, eqb→eq, ltb, ltb→lt}
 use Rattle.base.specs.Lists.{any}
 use Rattle.base.specs.Says.{Says, bool}
@@ -16,17 +16,17 @@ use Rattle.base.proofs.Says.{says}
 use Rattle.base.proofs.Tests.{T-and, T-or, T-true, is-true}
 use Rattle.chart.specs.declared.operations.Operation.{Operation}
 use Rattle.chart.specs.declared.places.NewPlace.{NewPlace}
-use Rattle.chart.specs.Charts.{Chart, size, from, to, operation, row, leaving, start}
-use Rattle.chart.specs.Places.{pairNumber, keptNumber, oldOf, newOf}
-use Rattle.chart.specs.Runs.{State, Values, lets, after, taken, begin, ready, reaches}
+use Rattle.chart.specs.Charts.{Chart, size, from, to, operation, row}
+use Rattle.chart.specs.Places.{oldOf, newOf}
+use Rattle.chart.specs.Runs.{State, Values, lets, after, taken, begin, ready}
 use Rattle.align.specs.declared.spots.Spot.{Spot}
 use Rattle.align.specs.Steps.{fair, step}
-use Rattle.align.proofs.Agree.{Agree, agree-wider, agree-same-values, values-after}
+use Rattle.align.proofs.Agree.{agree-wider, agree-same-values, values-after}
 use Rattle.align.proofs.Onto.{Onto, step-onto}
-use Rattle.align.proofs.Parts.{SameRow, before, stands, same-row, operands, two-at-most}
+use Rattle.align.proofs.Parts.{before, stands, same-row, operands, two-at-most}
 use Rattle.align.proofs.Reach.{reachesFrom, from-begin, reaches-nil, reaches-cons, Hits, hits-here}
 use Rattle.checker.specs.Records.{Graph, Record, mark, setAt, spot, target, rank, targetOf, goesOn, nodes, covered}
-use Rattle.checker.specs.Rules.{markFits, startFits, keeps, joins, joinsStep, restsAt, ranked, leads, rowFits}
+use Rattle.checker.specs.Rules.{startFits, keeps, joins, joinsStep, ranked, leads, rowFits}
 use Rattle.checker.specs.Checks.{refusal}
 use Rattle.checker.specs.Promise.{Words, Promise}
 use Rattle.checker.proofs.Passed.{Passed, passed}

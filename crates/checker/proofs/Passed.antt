@@ -1,16 +1,16 @@
 -- What a record is known by for which no refusal is due. Assumes nothing.
-use mathlib.Core.Path.{_≡_, refl, sym, subst}
-use mathlib.Core.Bool.{Bool, true, false, _&&_, not}
+use mathlib.Core.Path.{_≡_, refl}
+use mathlib.Core.Bool.{not}
 use mathlib.Core.Logic.{_≢_}
 use mathlib.Core.List.{List}
 use mathlib.Core.Option.{Option, none, some}
-use Prim.Native.Nat.{ℕ, zero, suc, _%_, _≤_, _<_}
+use Prim.Native.Nat.{ℕ, zero, suc, _%_, _<_}
 use native.Mathlib.Omega.{arith}
 use native.Mathlib.Decide.{decLt}
 use borrow.Author.Tests.{eq-eqb, ne-eqb, lt-ltb, not-false}
-use lib.Dec.{eqb, ltb}
+use lib.Dec.{ltb}
 use lib.ListN.{length, List·getD-eq-default}
-use Rattle.base.specs.Options.{when, orElse, firstOf}
+use Rattle.base.specs.Options.{when, firstOf}
 use Rattle.base.specs.Refusals.{Refusal, refusedIf}
 use Rattle.base.specs.Says.{Test, bool, Says}
 use Rattle.base.proofs.Options.{both-missing, not-due, none-of}
@@ -21,7 +21,7 @@ use Rattle.chart.specs.Faults.{Fault, fault, refusal as chartRefusal}
 use Rattle.chart.specs.Faultless.{FaultlessChart}
 use Rattle.chart.specs.Places.{newOf}
 use Rattle.chart.proofs.Faultless.{faultless}
-use Rattle.checker.specs.Records.{Graph, Record, mark, index}
+use Rattle.checker.specs.Records.{Record, mark}
 use Rattle.checker.specs.Rules.{headOf, markFits, marksFit, shaped, startFits, rowFits}
 use Rattle.checker.specs.Checks.{sized, inChart, targetFault, rowsFault, pairFault, ruleFault, recordFault, refusal}
 

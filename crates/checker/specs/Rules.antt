@@ -1,6 +1,6 @@
 -- What a record must be like: its shape (refusal 31) and the rules of refusal 32 ("The checker", "Who can cause a refusal").
 use mathlib.Core.Path.{_≡_}
-use mathlib.Core.Bool.{Bool, true, false}
+use mathlib.Core.Bool.{Bool, false}
 use mathlib.Core.List.{List, []}
 use mathlib.Core.Option.{Option, none, some}
 use Prim.Native.Nat.{ℕ}
@@ -10,7 +10,7 @@ use Rattle.chart.specs.declared.charts.Head.{Head}
 use Rattle.chart.specs.declared.operations.Operation.{Operation}
 use Rattle.chart.specs.declared.places.OldPlace.{OldPlace}
 use Rattle.chart.specs.declared.places.NewPlace.{NewPlace}
-use Rattle.chart.specs.Charts.{Chart, charted, start, to, operation, leaving}
+use Rattle.chart.specs.Charts.{Chart, charted, start, to, operation}
 use Rattle.chart.specs.Faultless.{FaultlessChart}
 use Rattle.chart.specs.Places.{pairNumber, keptNumber, oldOf, newOf}
 use Rattle.align.specs.declared.spots.Spot.{Spot}
@@ -108,7 +108,7 @@ module _ (old new : Chart) (G : Graph) where
   rowFits m rows k = leads m (operation rows k) (record { 0 = to rows k }) (target G m k) and ranked (G .marks) m (target G m k)
 
 -- what the rules are judged upon: two faultless charts, and a graph of the stated lengths whose targets are nodes or 65535
-pub record Judged (old new : Chart) (G : Graph) : Type 0 where
+pub record Admitted (old new : Chart) (G : Graph) : Type 0 where
   pub old-faultless : FaultlessChart old
   pub new-faultless : FaultlessChart new
   pub marks-length : length (G .marks) ≡ 4160

@@ -30,7 +30,8 @@ fn rewritten(set: u64, o: Operation) -> u64
     requires { ⌜ operandsFit o ≡ true ⌝ }
     ensures { λ r. ⌜ r ≡ rewritten set o ⌝ }
 {
-    if sets::meets(set, sets::reads(o)) {
+    let read = sets::reads(o);
+    if sets::meets(set, read) {
         return sets::with(set, o.a);
     }
     sets::without(set, o.a)

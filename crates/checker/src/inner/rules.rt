@@ -7,7 +7,7 @@ ghost use Rattle.base.specs.Says.{bool};
 ghost use Rattle.chart.specs.Charts.{charted, leaving};
 ghost use Rattle.chart.specs.Places.{newOf};
 ghost use Rattle.checker.specs.Records.{graphOf, recordOf};
-ghost use Rattle.checker.specs.Rules.{startFits, Judged};
+ghost use Rattle.checker.specs.Rules.{startFits, Admitted};
 ghost use Rattle.checker.specs.Checks.{told, targetFault, rowsFault, pairFault, ruleFault};
 use crate::inner::targets::row_fits;
 use crate::records::Checked;
@@ -68,7 +68,7 @@ fn target_fault<'a>(
     rows: &'a [u32],
     k: usize,
 ) -> Checked
-    requires { ⌜ Judged (charted old (now «old_rows»)) (charted new (now «new_rows»)) (graphOf (now marks) (now targets) (now sets)) ⌝ }
+    requires { ⌜ Admitted (charted old (now «old_rows»)) (charted new (now «new_rows»)) (graphOf (now marks) (now targets) (now sets)) ⌝ }
     requires { ⌜ (m < 4096) × (now rows ≡ leaving (now «new_rows») (newOf m .0)) × (k < 2) ⌝ }
     ensures { λ r. ⌜ told r ≡ targetFault (charted old (now («old_rows» .entry))) (charted new (now («new_rows» .entry))) (graphOf (now (marks .entry)) (now (targets .entry)) (now (sets .entry))) m (now (rows .entry)) k ⌝ }
 {
@@ -105,7 +105,7 @@ fn rows_fault<'a>(
     m: usize,
     rows: &'a [u32],
 ) -> Checked
-    requires { ⌜ Judged (charted old (now «old_rows»)) (charted new (now «new_rows»)) (graphOf (now marks) (now targets) (now sets)) ⌝ }
+    requires { ⌜ Admitted (charted old (now «old_rows»)) (charted new (now «new_rows»)) (graphOf (now marks) (now targets) (now sets)) ⌝ }
     requires { ⌜ (m < 4096) × (now rows ≡ leaving (now «new_rows») (newOf m .0)) ⌝ }
     ensures { λ r. ⌜ told r ≡ rowsFault (charted old (now («old_rows» .entry))) (charted new (now («new_rows» .entry))) (graphOf (now (marks .entry)) (now (targets .entry)) (now (sets .entry))) m (now (rows .entry)) ⌝ }
 {
@@ -149,7 +149,7 @@ fn pair_fault<'a>(
     sets: &[u64],
     m: usize,
 ) -> Checked
-    requires { ⌜ Judged (charted old (now «old_rows»)) (charted new (now «new_rows»)) (graphOf (now marks) (now targets) (now sets)) ⌝ }
+    requires { ⌜ Admitted (charted old (now «old_rows»)) (charted new (now «new_rows»)) (graphOf (now marks) (now targets) (now sets)) ⌝ }
     requires { ⌜ m < 4096 ⌝ }
     ensures { λ r. ⌜ told r ≡ pairFault (charted old (now («old_rows» .entry))) (charted new (now («new_rows» .entry))) (graphOf (now (marks .entry)) (now (targets .entry)) (now (sets .entry))) m ⌝ }
 {
@@ -170,7 +170,7 @@ fn first_fault<'a>(
     targets: &[u16],
     sets: &[u64],
 ) -> Checked
-    requires { ⌜ Judged (charted old (now «old_rows»)) (charted new (now «new_rows»)) (graphOf (now marks) (now targets) (now sets)) ⌝ }
+    requires { ⌜ Admitted (charted old (now «old_rows»)) (charted new (now «new_rows»)) (graphOf (now marks) (now targets) (now sets)) ⌝ }
     ensures { λ r. ⌜ told r ≡ firstOf 4096 (pairFault (charted old (now («old_rows» .entry))) (charted new (now («new_rows» .entry))) (graphOf (now (marks .entry)) (now (targets .entry)) (now (sets .entry)))) ⌝ }
 {
     let mut m = 0;
@@ -195,7 +195,7 @@ pub fn rule_fault<'a>(
     targets: &[u16],
     sets: &[u64],
 ) -> Checked
-    requires { ⌜ Judged (charted old (now «old_rows»)) (charted new (now «new_rows»)) (graphOf (now marks) (now targets) (now sets)) ⌝ }
+    requires { ⌜ Admitted (charted old (now «old_rows»)) (charted new (now «new_rows»)) (graphOf (now marks) (now targets) (now sets)) ⌝ }
     ensures { λ r. ⌜ told r ≡ ruleFault (charted old (now («old_rows» .entry))) (charted new (now («new_rows» .entry))) (recordOf start (now (marks .entry)) (now (targets .entry)) (now (sets .entry))) ⌝ }
 {
     if !start_fits(old, new, start, marks) {

@@ -9,7 +9,7 @@ ghost use Rattle.chart.specs.Charts.{charted, size, to, operation, leaving};
 ghost use Rattle.chart.specs.Places.{newOf};
 ghost use Rattle.align.specs.Steps.{step};
 ghost use Rattle.checker.specs.Records.{graphOf, spot};
-ghost use Rattle.checker.specs.Rules.{targetFits, keeps, joins, joinsStep, restsAt, ranked, leads, rowFits, Judged};
+ghost use Rattle.checker.specs.Rules.{targetFits, keeps, joins, joinsStep, restsAt, ranked, leads, rowFits, Admitted};
 use align::inner::sets::holds_all;
 use align::inner::step::step;
 use align::spots::Aligned;
@@ -107,7 +107,7 @@ fn joins_step<'a>(
     k: usize,
     t: usize,
 ) -> bool
-    requires { ⌜ Judged (charted old (now «old_rows»)) (charted new (now «new_rows»)) (graphOf (now marks) (now targets) (now sets)) ⌝ }
+    requires { ⌜ Admitted (charted old (now «old_rows»)) (charted new (now «new_rows»)) (graphOf (now marks) (now targets) (now sets)) ⌝ }
     requires { ⌜ (m < 4096) × (now rows ≡ leaving (now «new_rows») (newOf m .0)) × (k < size (now rows)) ⌝ }
     ensures { λ r. ⌜ r ≡ joinsStep (now (marks .entry)) (now (sets .entry)) (record { 0 = to (now (rows .entry)) k }) t (step (charted old (now («old_rows» .entry))) (charted new (now («new_rows» .entry))) (spot (graphOf (now (marks .entry)) (now (targets .entry)) (now (sets .entry))) m) (operation (now (rows .entry)) k) (record { 0 = to (now (rows .entry)) k })) ⌝ }
 {
@@ -135,7 +135,7 @@ fn leads<'a>(
     k: usize,
     t: usize,
 ) -> bool
-    requires { ⌜ Judged (charted old (now «old_rows»)) (charted new (now «new_rows»)) (graphOf (now marks) (now targets) (now sets)) ⌝ }
+    requires { ⌜ Admitted (charted old (now «old_rows»)) (charted new (now «new_rows»)) (graphOf (now marks) (now targets) (now sets)) ⌝ }
     requires { ⌜ (m < 4096) × (now rows ≡ leaving (now «new_rows») (newOf m .0)) × (k < size (now rows)) ⌝ }
     ensures { λ r. ⌜ r ≡ bool (leads (charted old (now («old_rows» .entry))) (charted new (now («new_rows» .entry))) (graphOf (now (marks .entry)) (now (targets .entry)) (now (sets .entry))) m (operation (now (rows .entry)) k) (record { 0 = to (now (rows .entry)) k }) t) ⌝ }
 {
@@ -175,7 +175,7 @@ pub fn row_fits<'a>(
     rows: &'a [u32],
     k: usize,
 ) -> bool
-    requires { ⌜ Judged (charted old (now «old_rows»)) (charted new (now «new_rows»)) (graphOf (now marks) (now targets) (now sets)) ⌝ }
+    requires { ⌜ Admitted (charted old (now «old_rows»)) (charted new (now «new_rows»)) (graphOf (now marks) (now targets) (now sets)) ⌝ }
     requires { ⌜ (m < 4096) × (now rows ≡ leaving (now «new_rows») (newOf m .0)) × (k < size (now rows)) × (k < 2) ⌝ }
     ensures { λ r. ⌜ r ≡ bool (rowFits (charted old (now («old_rows» .entry))) (charted new (now («new_rows» .entry))) (graphOf (now (marks .entry)) (now (targets .entry)) (now (sets .entry))) m (now (rows .entry)) k) ⌝ }
 {

@@ -4,7 +4,6 @@ use mathlib.Core.Path.{_≡_, sym, _∙_}
 use Rattle.align.specs.Sets.{alone, joined, setOf}
 use lib.Bits.{or-zero-r}
 use borrow.Author.Tests.{leb-true}
-use Rattle.chart.specs.Operations.{fits}
 use mathlib.Core.Bool.{true}
 use native.Mathlib.Omega.{arith}
 use borrow.Author.Needs.{needs}

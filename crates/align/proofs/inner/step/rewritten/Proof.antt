@@ -1,8 +1,6 @@
 -- `align::inner::step::rewritten` meets its contract: by the test. Assumes nothing.
 use Rattle.align.proofs.Moves.{rewritten-with, rewritten-without}
-use mathlib.Core.Path.{sym, _∙_}
 use Rattle.align.specs.Sets.{with, without, meets}
-use Rattle.align.specs.Steps.{rewritten}
 use Rattle.chart.proofs.Codes.{fit-a}
 use native.Mathlib.Omega.{arith}
 use borrow.Author.Needs.{needs}
