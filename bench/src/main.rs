@@ -1,6 +1,8 @@
 //! One table: the proved code and plain Rust on the same work over the same buffers, in one run, side by side.
 
+mod conditions;
 mod plain;
+mod plain_build;
 
 use picker_tests::{texts, Chart};
 use std::hint::black_box;
@@ -98,4 +100,5 @@ fn main() {
             },
         ),
     );
+    conditions::table();
 }

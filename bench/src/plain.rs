@@ -1,6 +1,7 @@
 //! The same work in plain Rust, over the same buffers, written for speed and not for proof.
 
-use picker_tests::{model, Chart, Operation};
+use crate::plain_build::exactly_one;
+use picker_tests::Chart;
 
 type Refusal = (u32, usize);
 
@@ -177,6 +178,5 @@ fn apart(e: &[u32], r: &[u32]) -> bool {
     if e[3..6] == r[3..6] && e[2] / 16 == r[2] / 16 && OPPOSITE[(e[2] % 16) as usize] == r[2] % 16 {
         return true;
     }
-    let operation = |r: &[u32]| Operation { code: r[2], a: r[3], b: r[4], c: r[5] };
-    model::exactly_one(operation(e), operation(r))
+    exactly_one(e, r)
 }

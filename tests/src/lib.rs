@@ -1,5 +1,10 @@
 //! The proved code as the tests call it, and what the tests share: charts, and numbers drawn from a fixed seed.
 
+pub mod algorithms;
+pub mod checker;
+#[cfg(feature = "builder")]
+pub mod conditions;
+pub mod drawn;
 pub mod model;
 pub mod texts;
 

@@ -14,7 +14,7 @@ mod linked {
 pub type Refusal = (u32, u32, usize);
 
 /// The answer's four numbers, or the refusal.
-fn taken_apart(answer: u64) -> Result<[u64; 4], Refusal> {
+pub fn taken_apart(answer: u64) -> Result<[u64; 4], Refusal> {
     if answer >> 56 != 0 {
         return Err(((answer >> 56) as u32, (answer >> 48) as u32 & 255, (answer & 0xFFFF_FFFF_FFFF) as usize));
     }

@@ -1,0 +1,464 @@
+//! The builder and the checker in plain Rust, over the same buffers, written for speed and not for proof: rows found by an index of places,
+//! waiting pairs in a bit set of a word for each old place, open marks propagated over lists of predecessors.
+
+use crate::plain::judge;
+use picker_tests::Chart;
+
+/// Number, chart and position.
+type Refusal = (u32, u32, usize);
+
+/// A chart with the first row of each place.
+struct Index<'a> {
+    rows: &'a [u32],
+    first: [u8; 65],
+    alarm: usize,
+}
+
+impl<'a> Index<'a> {
+    fn new(chart: &'a Chart) -> Index<'a> {
+        let mut first = [0u8; 65];
+        for row in chart.rows.chunks_exact(6) {
+            first[row[0] as usize + 1] += 1;
+        }
+        for p in 0..64 {
+            first[p + 1] += first[p];
+        }
+        Index { rows: &chart.rows, first, alarm: chart.alarm as usize }
+    }
+
+    /// The rows of a place: none, one or two.
+    #[inline]
+    fn rows(&self, place: usize) -> std::slice::ChunksExact<'a, u32> {
+        self.rows[6 * self.first[place] as usize..6 * self.first[place + 1] as usize].chunks_exact(6)
+    }
+}
+
+fn judged(old: &Chart, new: &Chart) -> Result<(), Refusal> {
+    if old.rows.len() % 6 != 0 || new.rows.len() % 6 != 0 {
+        return Err((21, 0, 0));
+    }
+    for (which, chart) in [old, new].into_iter().enumerate() {
+        let (number, position) = judge(chart.places, chart.alarm, &chart.rows);
+        if number != 0 {
+            return Err((number, which as u32, position));
+        }
+    }
+    Ok(())
+}
+
+// ---- two assumptions
+
+/// Which of below (1), at (2) and above (4) a relation lets through.
+const LETS: [u8; 6] = [2, 5, 1, 3, 4, 6];
+
+/// Which of them there are: for the comparison of a variable with itself or with a constant at an end, not all.
+#[inline]
+fn there(o: &[u32]) -> u8 {
+    if o[2] >= 32 {
+        if o[3] == o[4] {
+            2
+        } else {
+            7
+        }
+    } else {
+        (o[5] > 0) as u8 | 2 | ((o[5] < u32::MAX) as u8) << 2
+    }
+}
+
+/// The only value that a comparison with a constant lets through, if that is 0 or the largest.
+fn end(lets: u8, c: u32) -> Option<u32> {
+    match (lets, c) {
+        (2 | 3, 0) | (1, 1) => Some(0),
+        (2 | 6, u32::MAX) | (4, 4294967294) => Some(u32::MAX),
+        _ => None,
+    }
+}
+
+fn turned(lets: u8) -> u8 {
+    lets & 2 | lets >> 2 | (lets & 1) << 2
+}
+
+/// Some values meet the first assumption, and all that do meet the second.
+pub fn implied(f: &[u32], g: &[u32]) -> bool {
+    let (f_lets, g_lets) = (LETS[(f[2] % 16) as usize], LETS[(g[2] % 16) as usize]);
+    let (f_there, g_there) = (there(f), there(g));
+    if f_lets & f_there == 0 {
+        return false;
+    }
+    if g_lets & g_there == g_there {
+        return true;
+    }
+    if g_lets & g_there == 0 || f_lets & f_there == f_there {
+        return false;
+    }
+    match (f[2] < 32, g[2] < 32) {
+        (true, true) => {
+            let lets = |lets: u8, c: u32, x: u32| lets >> (1 + (x > c) as u8 - (x < c) as u8) & 1 == 1;
+            let points = [0, u32::MAX, f[5].wrapping_sub(1), f[5], f[5].wrapping_add(1), g[5].wrapping_sub(1), g[5], g[5].wrapping_add(1)];
+            f[3] == g[3] && points.iter().all(|&x| !lets(f_lets, f[5], x) || lets(g_lets, g[5], x))
+        }
+        (true, false) => {
+            let lets = if f[3] == g[3] {
+                g_lets
+            } else if f[3] == g[4] {
+                turned(g_lets)
+            } else {
+                return false;
+            };
+            matches!((lets, end(f_lets, f[5])), (3, Some(0)) | (6, Some(u32::MAX)))
+        }
+        (false, true) => {
+            let lets = if g[3] == f[3] {
+                f_lets
+            } else if g[3] == f[4] {
+                turned(f_lets)
+            } else {
+                return false;
+            };
+            matches!((lets, end(7 - g_lets, g[5])), (1, Some(u32::MAX)) | (4, Some(0)))
+        }
+        (false, false) => {
+            if f[3..5] == g[3..5] {
+                f_lets & !g_lets == 0
+            } else {
+                f[3] == g[4] && f[4] == g[3] && turned(f_lets) & !g_lets == 0
+            }
+        }
+    }
+}
+
+/// Exactly one of two assumptions holds, for all values.
+pub fn exactly_one(f: &[u32], g: &[u32]) -> bool {
+    const OPPOSITE: [u32; 6] = [1, 0, 5, 4, 3, 2];
+    let not = |o: &[u32]| [o[0], o[1], o[2] / 16 * 16 + OPPOSITE[(o[2] % 16) as usize], o[3], o[4], o[5]];
+    let never = |o: &[u32]| LETS[(o[2] % 16) as usize] & there(o) == 0;
+    let (not_f, not_g) = (not(f), not(g));
+    (never(f) || implied(f, &not_g)) && (never(&not_f) || implied(&not_f, g))
+}
+
+// ---- the step
+
+#[inline]
+fn read_by(o: &[u32]) -> u64 {
+    match o[2] {
+        0 => 0,
+        1 | 2 | 5 => 1 << o[4],
+        3 | 4 => 1 << o[4] | 1 << o[5],
+        16..=21 => 1 << o[3],
+        _ => 1 << o[3] | 1 << o[4],
+    }
+}
+
+/// The old place that a step comes to and its set; none where it fails.
+#[inline]
+fn step(old: &Index, new_alarm: usize, mut p: usize, mut set: u64, row: &[u32]) -> Option<(usize, u64)> {
+    if row[2] < 16 {
+        let written = 1u64 << row[3];
+        match old.rows(p).next() {
+            Some(e) if e[2..] == row[2..] => {
+                set = if set & read_by(row) != 0 { set | written } else { set & !written };
+                p = e[1] as usize;
+            }
+            _ => set |= written,
+        }
+    } else {
+        let mut come_to = 1u64 << p;
+        let mut here = old.rows(p);
+        while p != old.alarm {
+            match here.clone().next() {
+                Some(e) if e[2] < 16 => {
+                    set |= 1 << e[3];
+                    p = e[1] as usize;
+                    if come_to >> p & 1 == 1 {
+                        return None;
+                    }
+                    come_to |= 1 << p;
+                    here = old.rows(p);
+                }
+                _ => break,
+            }
+        }
+        if p != old.alarm {
+            if let Some(e) = here.clone().find(|e| e[2..] == row[2..]).or_else(|| here.clone().find(|e| implied(row, e))) {
+                if set & (read_by(row) | read_by(e)) != 0 {
+                    return None;
+                }
+                p = e[1] as usize;
+            }
+        }
+    }
+    (row[1] as usize != new_alarm || p == old.alarm).then_some((p, set))
+}
+
+// ---- the builder
+
+/// The places whose bits are set, lowest first.
+fn bits(mut word: u64) -> impl Iterator<Item = usize> {
+    std::iter::from_fn(move || {
+        let at = word.trailing_zeros() as usize;
+        word &= word.wrapping_sub(1);
+        (at < 64).then_some(at)
+    })
+}
+
+/// Start and counts of marks 1, 2 and 3.
+pub fn build(old: &Chart, new: &Chart, marks: &mut [u8], targets: &mut [u16], sets: &mut [u64], waiting: &mut [u8]) -> Result<[u32; 4], Refusal> {
+    if marks.len() != 4160 || targets.len() != 8192 || sets.len() != 4096 || waiting.len() != 4096 {
+        return Err((21, 0, 0));
+    }
+    judged(old, new)?;
+    let (old, new) = (Index::new(old), Index::new(new));
+    marks.fill(0);
+    targets.fill(65535);
+    sets.fill(0);
+    waiting.fill(0);
+
+    // Words by old place, a bit for each new place; `some` has a bit for each word that waits.
+    let (mut present, mut waits) = ([0u64; 64], [0u64; 64]);
+    let (mut some, mut kept) = (1u64, 0u64);
+    present[0] = 1;
+    waits[0] = 1;
+    while some != 0 {
+        let p = some.trailing_zeros() as usize;
+        let q = waits[p].trailing_zeros() as usize;
+        waits[p] &= waits[p] - 1;
+        if waits[p] == 0 {
+            some &= !(1 << p);
+        }
+        let pair = 64 * p + q;
+        let mut set = sets[pair];
+        for (which, row) in new.rows(q).enumerate() {
+            let q2 = row[1] as usize;
+            if kept >> q & 1 == 0 {
+                set = sets[pair];
+            }
+            let to = match step(&old, new.alarm, p, set, row) {
+                None => {
+                    if kept >> q2 & 1 == 0 {
+                        kept |= 1 << q2;
+                        for p in 0..64 {
+                            if present[p] >> q2 & 1 == 1 {
+                                present[p] &= !(1 << q2);
+                                waits[p] &= !(1 << q2);
+                                if waits[p] == 0 {
+                                    some &= !(1 << p);
+                                }
+                                let gone = 64 * p + q2;
+                                sets[gone] = 0;
+                                targets[2 * gone..2 * gone + 2].fill(65535);
+                            }
+                        }
+                    }
+                    4096 + q2
+                }
+                Some(_) if kept >> q2 & 1 == 1 => 4096 + q2,
+                Some((p2, joined)) => {
+                    let to = 64 * p2 + q2;
+                    let is_new = present[p2] >> q2 & 1 == 0;
+                    if p2 != old.alarm && (is_new || joined & !sets[to] != 0) {
+                        waits[p2] |= 1 << q2;
+                        some |= 1 << p2;
+                    }
+                    present[p2] |= 1 << q2;
+                    sets[to] |= joined;
+                    to
+                }
+            };
+            if kept >> q & 1 == 0 {
+                targets[2 * pair + which] = to as u16;
+            }
+        }
+    }
+
+    if kept & 1 == 1 || (new.alarm == 0 && old.alarm != 0) {
+        for p in 0..64 {
+            for q in bits(present[p]) {
+                let pair = 64 * p + q;
+                sets[pair] = 0;
+                targets[2 * pair..2 * pair + 2].fill(65535);
+            }
+        }
+        marks[4096] = 2;
+        return Ok([4096, 0, 1, 0]);
+    }
+
+    // Targets that are kept by now, and who leads to whom: for each pair the last edge to it, for each edge its pair and the one before.
+    let mut last = [0u16; 4096];
+    let mut edges: Vec<(u16, u16)> = Vec::with_capacity(512);
+    let mut open: Vec<u16> = Vec::with_capacity(256);
+    marks[0] = 1;
+    open.push(0);
+    for p in 0..64 {
+        for q in bits(present[p]) {
+            let pair = 64 * p + q;
+            if marks[pair] == 0 {
+                marks[pair] = 4;
+            }
+            for target in &mut targets[2 * pair..2 * pair + 2] {
+                let to = *target as usize;
+                if to == 65535 {
+                    continue;
+                }
+                if kept >> (to % 64) & 1 == 1 {
+                    *target = (4096 + to % 64) as u16;
+                    if marks[pair] != 1 {
+                        marks[pair] = 1;
+                        open.push(pair as u16);
+                    }
+                } else {
+                    edges.push((pair as u16, last[to]));
+                    last[to] = edges.len() as u16;
+                }
+            }
+        }
+    }
+    let mut taken = 0;
+    while taken < open.len() {
+        let mut edge = last[open[taken] as usize];
+        taken += 1;
+        while edge != 0 {
+            let (pair, before) = edges[edge as usize - 1];
+            if marks[pair as usize] != 1 {
+                marks[pair as usize] = 1;
+                open.push(pair);
+            }
+            edge = before;
+        }
+    }
+    let mut covered = 0;
+    for &pair in &open {
+        for &to in &targets[2 * pair as usize..2 * pair as usize + 2] {
+            if to < 4096 && marks[to as usize] == 4 {
+                marks[to as usize] = 3;
+                covered += 1;
+            }
+        }
+    }
+    for q in bits(kept) {
+        marks[4096 + q] = 2;
+    }
+    Ok([0, open.len() as u32, kept.count_ones(), covered])
+}
+
+// ---- the checker
+
+pub fn check(old: &Chart, new: &Chart, start: u32, marks: &[u8], targets: &[u16], sets: &[u64]) -> Result<(), Refusal> {
+    if marks.len() != 4160 || targets.len() != 8192 || sets.len() != 4096 {
+        return Err((21, 0, 0));
+    }
+    judged(old, new)?;
+    let (m, n) = (old.places as usize, new.places as usize);
+    let (old, new) = (Index::new(old), Index::new(new));
+    if start != 0 && start != 4096 {
+        return Err((31, 0, 0));
+    }
+    for (p, of_p) in marks.chunks_exact(64).enumerate() {
+        let here = if p == 64 || p < m { n } else { 0 };
+        // Without an early end, so that many are tested at once.
+        let odd = if p == 64 {
+            of_p[..here].iter().fold(false, |odd, &mark| odd | (mark & !2 != 0))
+        } else {
+            of_p[..here].iter().fold(false, |odd, &mark| odd | (mark > 4) | (mark == 2))
+        };
+        if of_p[here..].iter().fold(odd, |odd, &mark| odd | (mark != 0)) {
+            return Err((31, 0, 0));
+        }
+    }
+    if targets.iter().fold(false, |odd, &t| odd | ((t >= 4160) & (t != 65535))) {
+        return Err((31, 0, 0));
+    }
+    let started = if start == 0 { marks[0] == 1 && (new.alarm != 0 || old.alarm == 0) } else { marks[4096] == 2 };
+    if !started {
+        return Err((32, 0, 8192));
+    }
+    for p in 0..m {
+        let mut here = 0u64;
+        for (eighth, marks) in marks[64 * p..64 * p + 64].chunks_exact(8).enumerate() {
+            if marks != [0; 8] {
+                for (q, &mark) in marks.iter().enumerate() {
+                    here |= ((mark != 0) as u64) << (8 * eighth + q);
+                }
+            }
+        }
+        for q in bits(here) {
+            let pair = 64 * p + q;
+            let mark = marks[pair];
+            for (which, row) in new.rows(q).enumerate() {
+                let index = 2 * pair + which;
+                let to = targets[index] as usize;
+                let q2 = row[1] as usize;
+                if to == 65535 {
+                    if p == old.alarm {
+                        continue;
+                    }
+                    return Err((32, 0, index));
+                }
+                let reached = marks[to];
+                let allowed = if mark == 1 { (1..=3).contains(&reached) } else { reached >= 3 };
+                let leads = if to >= 4096 {
+                    to == 4096 + q2 && reached == 2
+                } else if p == old.alarm {
+                    to % 64 == q2 && reached != 0
+                } else {
+                    match step(&old, new.alarm, p, sets[pair], row) {
+                        Some((p2, set)) => to == 64 * p2 + q2 && reached != 0 && set & !sets[to] == 0,
+                        None => false,
+                    }
+                };
+                if !(allowed && leads) {
+                    return Err((32, 0, index));
+                }
+            }
+        }
+    }
+    Ok(())
+}
+
+#[cfg(test)]
+mod tests {
+    use super::*;
+    use picker_tests::checker::{self, Record};
+    use picker_tests::drawn::{self, Sort, SORTS};
+    use picker_tests::{algorithms, cases, model, texts, Operation, Random};
+
+    fn row(o: Operation) -> [u32; 6] {
+        [0, 0, o.code, o.a, o.b, o.c]
+    }
+
+    #[test]
+    fn assumptions() {
+        let mut random = Random::new(20283);
+        for _ in 0..cases(300_000) {
+            let f = model::operation(&mut random, &model::CODES[6..]);
+            let g = model::operation(&mut random, &model::CODES[6..]);
+            assert_eq!(implied(&row(f), &row(g)), algorithms::implies(f, g) == 1, "{f:?} {g:?}");
+            assert_eq!(exactly_one(&row(f), &row(g)), texts::opposite(f, g), "{f:?} {g:?}");
+        }
+    }
+
+    #[test]
+    fn builds_and_checks() {
+        let mut random = Random::new(20284);
+        for sort in SORTS {
+            for _ in 0..cases(if sort == Sort::Wide { 4 } else { 200 }) {
+                let (old, new) = drawn::pair(&mut random, sort);
+                let expected = algorithms::build(&old, &new);
+                let (mut marks, mut targets, mut sets, mut waiting) = (vec![9; 4160], vec![9; 8192], vec![9; 4096], vec![9; 4096]);
+                let answer = build(&old, &new, &mut marks, &mut targets, &mut sets, &mut waiting);
+                assert_eq!(answer, Ok([expected.start, expected.open, expected.kept, expected.covered]), "{old:?} {new:?}");
+                assert!(
+                    marks == expected.marks && targets == expected.targets && sets == expected.sets && waiting == expected.waiting,
+                    "{old:?} {new:?}"
+                );
+                let built = Record::from(expected);
+                for changes in 0..4 {
+                    let mut r = built.clone();
+                    for _ in 0..changes {
+                        drawn::spoil(&mut random, &mut r);
+                    }
+                    assert_eq!(check(&old, &new, r.start, &r.marks, &r.targets, &r.sets), checker::check(&old, &new, &r), "{old:?} {new:?} {r:?}");
+                }
+            }
+        }
+    }
+}

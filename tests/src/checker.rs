@@ -1,0 +1,189 @@
+//! The checker once more, in plain Rust, written from "One aligned step", "The checker" and "Who can cause a refusal" of document 01, and
+//! following a run. It shares nothing with the proved code, and its step nothing with the detector of `algorithms`.
+
+use crate::texts::{self, Refusal};
+use crate::{algorithms, model, Chart, Operation};
+
+/// A record, whoever made it: any start and any lengths.
+#[derive(Clone, Debug, PartialEq, Eq)]
+pub struct Record {
+    pub start: u32,
+    pub marks: Vec<u8>,
+    pub targets: Vec<u16>,
+    pub sets: Vec<u64>,
+}
+
+impl From<algorithms::Built> for Record {
+    fn from(built: algorithms::Built) -> Record {
+        Record { start: built.start, marks: built.marks, targets: built.targets, sets: built.sets }
+    }
+}
+
+/// A row: its number, where it leads, its operation.
+type Row = (usize, u32, Operation);
+
+/// The rows that leave each place.
+fn rows_by_place(chart: &Chart) -> Vec<Vec<Row>> {
+    let mut all = vec![Vec::new(); chart.places as usize];
+    for i in 0..chart.rows.len() / 6 {
+        let (from, to, o) = model::row(&chart.rows, i);
+        all[from as usize].push((i, to, o));
+    }
+    all
+}
+
+fn bit(v: u32) -> u64 {
+    1 << v
+}
+
+fn read_by(o: Operation) -> u64 {
+    match o.code {
+        0 => 0,
+        1 | 2 | 5 => bit(o.b),
+        3 | 4 => bit(o.b) | bit(o.c),
+        16..=21 => bit(o.a),
+        _ => bit(o.a) | bit(o.b),
+    }
+}
+
+/// "One aligned step": the old place it comes to and its set, none where it fails.
+fn step(old: &[Vec<Row>], old_alarm: u32, new_alarm: u32, p: u32, set: u64, (_, q2, o): Row) -> Option<(u32, u64)> {
+    let (to, set) = if model::is_assignment(o) {
+        match old[p as usize].iter().find(|r| r.2 == o) {
+            Some(&(_, p2, _)) if set & read_by(o) != 0 => (p2, set | bit(o.a)),
+            Some(&(_, p2, _)) => (p2, set & !bit(o.a)),
+            None => (p, set | bit(o.a)),
+        }
+    } else {
+        let (mut p, mut set) = (p, set);
+        let mut come_to = vec![p];
+        while p != old_alarm && old[p as usize].len() == 1 && model::is_assignment(old[p as usize][0].2) {
+            let (_, p2, e) = old[p as usize][0];
+            set |= bit(e.a);
+            p = p2;
+            if come_to.contains(&p) {
+                return None;
+            }
+            come_to.push(p);
+        }
+        let here = if p == old_alarm { &[] } else { &old[p as usize][..] };
+        let equal = here.iter().find(|r| r.2 == o);
+        match equal.or_else(|| here.iter().find(|r| algorithms::implies(o, r.2) == 1)) {
+            Some(&(_, _, e)) if set & (read_by(o) | read_by(e)) != 0 => return None,
+            Some(&(_, p2, _)) => (p2, set),
+            None => (p, set),
+        }
+    };
+    (q2 != new_alarm || to == old_alarm).then_some((to, set))
+}
+
+/// Whether the checker passes a record, else its refusal.
+pub fn check(old: &Chart, new: &Chart, record: &Record) -> Result<(), Refusal> {
+    let lengths =
+        [record.marks.len() == 4160, record.targets.len() == 8192, record.sets.len() == 4096, old.rows.len() % 6 == 0, new.rows.len() % 6 == 0];
+    if lengths.contains(&false) {
+        return Err((21, 0, 0));
+    }
+    for (which, chart) in [old, new].into_iter().enumerate() {
+        let (number, position) = texts::fault(chart);
+        if number != 0 {
+            return Err((number, which as u32, position));
+        }
+    }
+    if !in_form(old, new, record) {
+        return Err((31, 0, 0));
+    }
+    match broken_rule(old, new, record) {
+        Some(position) => Err((32, 0, position)),
+        None => Ok(()),
+    }
+}
+
+/// No refusal 31 is due.
+fn in_form(old: &Chart, new: &Chart, record: &Record) -> bool {
+    let mark_fits = |(node, &mark): (usize, &u8)| {
+        let (p, q) = (node as u32 / 64, node as u32 % 64);
+        if node < 4096 {
+            mark == 0 || (p < old.places && q < new.places && [1, 3, 4].contains(&mark))
+        } else {
+            mark == 0 || (q < new.places && mark == 2)
+        }
+    };
+    (record.start == 0 || record.start == 4096)
+        && record.marks.iter().enumerate().all(mark_fits)
+        && record.targets.iter().all(|&t| t < 4160 || t == 65535)
+}
+
+/// The position of refusal 32.
+fn broken_rule(old: &Chart, new: &Chart, record: &Record) -> Option<usize> {
+    let marks = &record.marks;
+    let started = if record.start == 0 { marks[0] == 1 && (new.alarm != 0 || old.alarm == 0) } else { marks[4096] == 2 };
+    if !started {
+        return Some(8192);
+    }
+    let (old_rows, new_rows) = (rows_by_place(old), rows_by_place(new));
+    for pair in (0..4096).filter(|&n| marks[n] != 0) {
+        let (p, q) = (pair as u32 / 64, pair % 64);
+        for (which, &row) in new_rows[q].iter().enumerate() {
+            let index = 2 * pair + which;
+            let target = record.targets[index] as usize;
+            let q2 = row.1 as usize;
+            let is_kept = target == 4096 + q2 && marks[target] == 2;
+            let leads = if p == old.alarm {
+                target == 65535 || is_kept || (target < 4096 && target % 64 == q2 && marks[target] != 0)
+            } else {
+                is_kept
+                    || step(&old_rows, old.alarm, new.alarm, p, record.sets[pair], row)
+                        .is_some_and(|(p2, set)| target == 64 * p2 as usize + q2 && marks[target] != 0 && set & !record.sets[target] == 0)
+            };
+            let allowed: &[u8] = if marks[pair] == 1 { &[1, 2, 3] } else { &[3, 4] };
+            if !leads || (target != 65535 && !allowed.contains(&marks[target])) {
+                return Some(index);
+            }
+        }
+    }
+    None
+}
+
+/// Whether a run of the new chart, given by its row numbers, is covered by a record.
+pub fn covers(new: &Chart, record: &Record, run: &[usize]) -> bool {
+    let mut node = record.start as usize;
+    if record.marks[node] == 3 {
+        return true;
+    }
+    for &row in run {
+        if node >= 4096 || record.marks[node] != 1 {
+            return false;
+        }
+        let from = new.rows[6 * row];
+        let first = (0..row).find(|i| new.rows[6 * i] == from).unwrap_or(row);
+        let target = record.targets[2 * node + row - first];
+        if target == 65535 {
+            return false;
+        }
+        node = target as usize;
+        if record.marks[node] == 3 {
+            return true;
+        }
+    }
+    false
+}
+
+/// The rows that a chart takes from given values, at most so many, and whether they reach its alarm. A faultless chart lets at most one
+/// row go on from any place and values.
+pub fn run(chart: &Chart, values: &[u32; 64], most: usize) -> (Vec<usize>, bool) {
+    let rows = rows_by_place(chart);
+    let (mut place, mut values, mut taken) = (0, *values, Vec::new());
+    let mut reached = chart.alarm == 0;
+    while taken.len() < most {
+        let next = rows[place as usize].iter().find(|r| model::is_assignment(r.2) || model::holds(r.2, &values));
+        let Some(&(i, to, o)) = next else { break };
+        if model::is_assignment(o) {
+            values[o.a as usize] = model::value(o, &values);
+        }
+        place = to;
+        taken.push(i);
+        reached |= place == chart.alarm;
+    }
+    (taken, reached)
+}

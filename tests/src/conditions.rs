@@ -1,0 +1,106 @@
+//! The proved builder and checker as the tests call them.
+
+use crate::checker::Record;
+use crate::texts::{taken_apart, Refusal};
+use crate::Chart;
+
+mod linked {
+    extern "C" {
+        pub fn picker_build(
+            old_places: u32,
+            old_alarm: u32,
+            old_rows: *const u32,
+            old_rows_len: usize,
+            new_places: u32,
+            new_alarm: u32,
+            new_rows: *const u32,
+            new_rows_len: usize,
+            marks: *mut u8,
+            marks_len: usize,
+            targets: *mut u16,
+            targets_len: usize,
+            sets: *mut u64,
+            sets_len: usize,
+            waiting: *mut u8,
+            waiting_len: usize,
+        ) -> u64;
+        pub fn picker_check(
+            old_places: u32,
+            old_alarm: u32,
+            old_rows: *const u32,
+            old_rows_len: usize,
+            new_places: u32,
+            new_alarm: u32,
+            new_rows: *const u32,
+            new_rows_len: usize,
+            start: u32,
+            marks: *const u8,
+            marks_len: usize,
+            targets: *const u16,
+            targets_len: usize,
+            sets: *const u64,
+            sets_len: usize,
+        ) -> u64;
+    }
+}
+
+/// The four buffers that a build is lent.
+#[derive(Clone, Debug, PartialEq, Eq)]
+pub struct Buffers {
+    pub marks: Vec<u8>,
+    pub targets: Vec<u16>,
+    pub sets: Vec<u64>,
+    pub waiting: Vec<u8>,
+}
+
+/// Start and counts of marks 1, 2 and 3.
+pub fn build(old: &Chart, new: &Chart, buffers: &mut Buffers) -> Result<[u64; 4], Refusal> {
+    taken_apart(unsafe {
+        linked::picker_build(
+            old.places,
+            old.alarm,
+            old.rows.as_ptr(),
+            old.rows.len(),
+            new.places,
+            new.alarm,
+            new.rows.as_ptr(),
+            new.rows.len(),
+            buffers.marks.as_mut_ptr(),
+            buffers.marks.len(),
+            buffers.targets.as_mut_ptr(),
+            buffers.targets.len(),
+            buffers.sets.as_mut_ptr(),
+            buffers.sets.len(),
+            buffers.waiting.as_mut_ptr(),
+            buffers.waiting.len(),
+        )
+    })
+}
+
+/// Four times 0 where the record is passed.
+pub fn check(old: &Chart, new: &Chart, record: &Record) -> Result<[u64; 4], Refusal> {
+    check_parts(old, new, record.start, &record.marks, &record.targets, &record.sets)
+}
+
+/// As `check`, of a record that stands in parts.
+pub fn check_parts(old: &Chart, new: &Chart, start: u32, marks: &[u8], targets: &[u16], sets: &[u64]) -> Result<[u64; 4], Refusal> {
+    taken_apart(unsafe {
+        linked::picker_check(
+            old.places,
+            old.alarm,
+            old.rows.as_ptr(),
+            old.rows.len(),
+            new.places,
+            new.alarm,
+            new.rows.as_ptr(),
+            new.rows.len(),
+            start,
+            marks.as_ptr(),
+            marks.len(),
+            targets.as_ptr(),
+            targets.len(),
+            sets.as_ptr(),
+            sets.len(),
+        )
+    })
+}

@@ -1,0 +1,513 @@
+//! Algorithms 1 and 2 and the checker in plain Rust against the vectors; with the feature `builder`, the proved builder and checker, through
+//! the C interface, against both.
+
+use picker_tests::algorithms::{self, printed};
+use picker_tests::checker::{self, Record};
+use picker_tests::drawn::{self, Sort, SORTS};
+use picker_tests::texts::{plain_read, Refusal, Wrong};
+use picker_tests::{cases, model, Chart, Operation, Random};
+
+/// A chart's text as the vectors give it.
+fn text_of(line: &str) -> Vec<u8> {
+    (line.replace(' ', "\r\n") + "\r\n").into_bytes()
+}
+
+fn chart_of(line: &str) -> Chart {
+    plain_read(&text_of(line), Wrong::Not).unwrap_or_else(|refused| panic!("{refused:?}: {line}"))
+}
+
+/// The blocks of a file of vectors, each line without its first word, which is checked.
+fn blocks<'a>(file: &'a str, words: &'a [&str]) -> impl Iterator<Item = Vec<&'a str>> + 'a {
+    file.split("\n\n").filter(|block| !block.trim().is_empty()).map(move |block| {
+        let lines: Vec<&str> = block.trim_matches('\n').lines().collect();
+        assert_eq!(lines.len(), words.len(), "{block}");
+        lines.iter().zip(words).map(|(line, word)| line.strip_prefix(word).unwrap_or_else(|| panic!("{line}")).trim()).collect()
+    })
+}
+
+/// Old chart, new chart and what the program prints.
+fn pairs() -> Vec<(Chart, Chart, Vec<&'static str>)> {
+    let all: Vec<_> = blocks(include_str!("../vectors/pairs.txt"), &["old", "new", "out"])
+        .map(|lines| (chart_of(lines[0]), chart_of(lines[1]), lines[2].split(' ').collect()))
+        .collect();
+    assert!(all.len() >= 300, "only {} pairs", all.len());
+    all
+}
+
+/// Old chart, new chart, the edits of the built record and the checker's answer.
+fn records() -> Vec<(Chart, Chart, &'static str, Result<(), Refusal>)> {
+    let all: Vec<_> = blocks(include_str!("../vectors/records.txt"), &["old", "new", "edits", "answer"])
+        .map(|lines| {
+            let answer = match lines[3].split_whitespace().collect::<Vec<_>>()[..] {
+                ["passed"] => Ok(()),
+                ["refused", number, chart, position] => Err((number.parse().unwrap(), chart.parse().unwrap(), position.parse().unwrap())),
+                _ => panic!("{}", lines[3]),
+            };
+            (chart_of(lines[0]), chart_of(lines[1]), lines[2], answer)
+        })
+        .collect();
+    assert!(all.len() >= 400, "only {} records", all.len());
+    all
+}
+
+fn edit(record: &mut Record, edits: &str) {
+    for change in edits.split(';').map(str::trim).filter(|change| !change.is_empty()) {
+        match change.split_whitespace().collect::<Vec<_>>()[..] {
+            ["start", v] => record.start = v.parse().unwrap(),
+            ["mark", node, v] => record.marks[node.parse::<usize>().unwrap()] = v.parse().unwrap(),
+            ["target", index, v] => record.targets[index.parse::<usize>().unwrap()] = v.parse().unwrap(),
+            ["set", pair, v] => record.sets[pair.parse::<usize>().unwrap()] = v.parse().unwrap(),
+            _ => panic!("{change}"),
+        }
+    }
+}
+
+// ---- the plain Rust by itself
+
+#[test]
+fn vectors_of_pairs_as_rendered() {
+    for (old, new, expected) in pairs() {
+        let built = algorithms::build(&old, &new);
+        let counts = [built.open, built.kept, built.covered];
+        assert_eq!(printed(&new, built.start, counts, &built.marks, &built.targets), expected, "{old:?} {new:?}");
+        assert_eq!(checker::check(&old, &new, &built.into()), Ok(()), "{old:?} {new:?}");
+    }
+}
+
+#[test]
+fn vectors_of_records_as_rendered() {
+    for (old, new, edits, answer) in records() {
+        let mut record = Record::from(algorithms::build(&old, &new));
+        edit(&mut record, edits);
+        assert_eq!(checker::check(&old, &new, &record), answer, "{edits} {old:?} {new:?}");
+    }
+}
+
+/// The worked sessions of document 01.
+#[test]
+fn worked_sessions_as_rendered() {
+    let old = chart_of("6,5,5,0,0,0 0,1,0,1,0,5 1,2,18,0,0,100 1,3,21,0,0,100 3,5,20,1,0,50 3,4,19,1,0,50");
+    let changed = chart_of("6,5,5,0,0,0 0,1,0,1,0,6 1,2,18,0,0,100 1,3,21,0,0,100 3,5,20,1,0,50 3,4,19,1,0,50");
+    let alarm = Chart { alarm: 0, ..old.clone() };
+    for (new, expected) in
+        [(&changed, "0,3,2,1 0,0,1,1 1,1,130,3 1,2,195,1 195,3,4101,2 195,4,4100,2"), (&old, "0,1,0,1 0,0,65,3"), (&alarm, "4096,0,1,0")]
+    {
+        let built = algorithms::build(&old, new);
+        let counts = [built.open, built.kept, built.covered];
+        assert_eq!(printed(new, built.start, counts, &built.marks, &built.targets).join(" "), expected);
+    }
+}
+
+/// The quick test of two assumptions agrees with the vectors and with the slow one.
+#[test]
+fn implication_by_differences() {
+    for line in include_str!("../vectors/implies.txt").lines() {
+        let words: Vec<&str> = line.split_whitespace().collect();
+        let n: Vec<u32> = words[..8].iter().map(|w| w.parse().unwrap()).collect();
+        let f = Operation { code: n[0], a: n[1], b: n[2], c: n[3] };
+        let g = Operation { code: n[4], a: n[5], b: n[6], c: n[7] };
+        assert_eq!(["never", "implied", "not"][algorithms::implies(f, g) as usize], words[8], "{line}");
+    }
+    let mut random = Random::new(20267);
+    for _ in 0..cases(3000) {
+        let f = model::operation(&mut random, &model::CODES[6..]);
+        let g = model::operation(&mut random, &model::CODES[6..]);
+        assert_eq!(algorithms::implies(f, g), model::implies(f, g), "{f:?} {g:?}");
+    }
+}
+
+/// What is drawn has what the comparisons are for: every mark and answer, and builds of all sizes.
+#[test]
+fn drawn_charts_are_varied() {
+    let mut random = Random::new(20268);
+    for sort in SORTS {
+        let (mut marks, mut lone, mut most) = ([0usize; 5], 0, 0);
+        for _ in 0..cases(if sort == Sort::Wide { 10 } else { 40 }) {
+            let (old, new) = drawn::pair(&mut random, sort);
+            let built = algorithms::build(&old, &new);
+            for &mark in &built.marks {
+                marks[mark as usize] += 1;
+            }
+            lone += (built.start == 4096) as usize;
+            most = most.max(built.marks.iter().filter(|m| **m != 0).count());
+            assert_eq!(checker::check(&old, &new, &built.into()), Ok(()), "{old:?} {new:?}");
+        }
+        println!("{sort:?}: marks {marks:?}, lone starts {lone}, nodes of the largest {most}");
+        assert!(marks[1] > 0 && marks[2] > 0 && marks[3] > 0 && (sort != Sort::Wide || most > 3000));
+    }
+}
+
+// ---- the proved code
+
+#[cfg(feature = "builder")]
+mod proved {
+    use super::*;
+    use picker_tests::conditions::{build, check, Buffers};
+    use picker_tests::texts;
+
+    /// Buffers of the stated lengths, holding anything.
+    fn rubbish(random: &mut Random) -> Buffers {
+        Buffers {
+            marks: (0..4160).map(|_| random.next() as u8).collect(),
+            targets: (0..8192).map(|_| random.next() as u16).collect(),
+            sets: (0..4096).map(|_| random.next()).collect(),
+            waiting: (0..4096).map(|_| random.next() as u8).collect(),
+        }
+    }
+
+    fn record(start: u64, buffers: Buffers) -> Record {
+        Record { start: start as u32, marks: buffers.marks, targets: buffers.targets, sets: buffers.sets }
+    }
+
+    /// Builds on given buffers, compares answer and all four buffers with the rendering, has the record passed, and hands it back.
+    fn compare(old: &Chart, new: &Chart, mut buffers: Buffers) -> Record {
+        let expected = algorithms::build(old, new);
+        let answer = build(old, new, &mut buffers);
+        assert_eq!(answer, Ok([expected.start, expected.open, expected.kept, expected.covered].map(u64::from)), "{old:?} {new:?}");
+        assert!(buffers.marks == expected.marks, "marks: {old:?} {new:?}");
+        assert!(buffers.targets == expected.targets, "targets: {old:?} {new:?}");
+        assert!(buffers.sets == expected.sets, "sets: {old:?} {new:?}");
+        assert!(buffers.waiting == expected.waiting, "waiting: {old:?} {new:?}");
+        let record = record(answer.unwrap()[0], buffers);
+        assert_eq!(compare_check(old, new, &record), Ok(()));
+        record
+    }
+
+    /// Has a record checked, compares the answer with the plain checker's, and sees that nothing was written.
+    fn compare_check(old: &Chart, new: &Chart, record: &Record) -> Result<(), Refusal> {
+        let (charts, before) = ((old.rows.clone(), new.rows.clone()), record.clone());
+        let answer = check(old, new, record);
+        assert_eq!(answer.map(|values| assert_eq!(values, [0; 4])), checker::check(old, new, record), "{old:?} {new:?} {record:?}");
+        assert!(*record == before && (&old.rows, &new.rows) == (&charts.0, &charts.1), "the checker wrote to what it was lent");
+        answer.map(|_| ())
+    }
+
+    #[test]
+    fn vectors_of_pairs() {
+        let mut random = Random::new(20270);
+        for line in blocks(include_str!("../vectors/pairs.txt"), &["old", "new", "out"]) {
+            let mut read = |text: &str| {
+                let mut table = vec![random.word(); 768];
+                let [places, alarm, rows, _] = texts::read(&text_of(text), &mut table).unwrap();
+                Chart { places: places as u32, alarm: alarm as u32, rows: table[..6 * rows as usize].to_vec() }
+            };
+            let (old, new) = (read(line[0]), read(line[1]));
+            let mut buffers = rubbish(&mut random);
+            let answer = build(&old, &new, &mut buffers).unwrap().map(|x| x as u32);
+            let out = printed(&new, answer[0], [answer[1], answer[2], answer[3]], &buffers.marks, &buffers.targets);
+            assert_eq!(out.join(" "), line[2], "{old:?} {new:?}");
+            assert_eq!(compare_check(&old, &new, &record(answer[0] as u64, buffers)), Ok(()));
+        }
+    }
+
+    #[test]
+    fn vectors_of_records() {
+        let mut random = Random::new(20271);
+        for (old, new, edits, answer) in records() {
+            let mut buffers = rubbish(&mut random);
+            let start = build(&old, &new, &mut buffers).unwrap()[0];
+            let mut record = record(start, buffers);
+            edit(&mut record, edits);
+            assert_eq!(check(&old, &new, &record).map(|values| assert_eq!(values, [0; 4])), answer, "{edits} {old:?} {new:?}");
+        }
+    }
+
+    /// How many pairs of a sort a comparison takes.
+    fn share(sort: Sort, usual: usize) -> usize {
+        cases(match sort {
+            Sort::Wide => usual / 50,
+            Sort::Dense => usual / 10,
+            _ => usual,
+        })
+    }
+
+    #[test]
+    fn builds_as_rendered() {
+        let mut random = Random::new(20272);
+        for sort in SORTS {
+            for _ in 0..share(sort, 4000) {
+                let (old, new) = drawn::pair(&mut random, sort);
+                let before = rubbish(&mut random);
+                compare(&old, &new, before);
+            }
+        }
+    }
+
+    /// What a build leaves for one pair of charts is what the next one finds; and both charts may be one.
+    #[test]
+    fn builds_one_after_another() {
+        let mut random = Random::new(20273);
+        let mut buffers = rubbish(&mut random);
+        for round in 0..cases(300) {
+            let sort = SORTS[round % SORTS.len()];
+            if sort == Sort::Wide && round % 49 != 6 {
+                continue;
+            }
+            let (old, new) = drawn::pair(&mut random, sort);
+            for (old, new) in [(&old, &new), (&new, &old), (&old, &old)] {
+                let left = compare(old, new, buffers);
+                let waiting = if round % 2 == 0 { vec![0; 4096] } else { vec![255; 4096] };
+                buffers = Buffers { marks: left.marks, targets: left.targets, sets: left.sets, waiting };
+            }
+        }
+    }
+
+    #[test]
+    fn spoilt_records_as_modelled() {
+        let mut random = Random::new(20274);
+        let (mut passed, mut refused) = (0, std::collections::BTreeMap::new());
+        for sort in SORTS {
+            for _ in 0..share(sort, 400) {
+                let (old, new) = drawn::pair(&mut random, sort);
+                let built = Record::from(algorithms::build(&old, &new));
+                for _ in 0..6 {
+                    let mut record = built.clone();
+                    for _ in 0..1 + random.below(3) {
+                        drawn::spoil(&mut random, &mut record);
+                    }
+                    match compare_check(&old, &new, &record) {
+                        Ok(()) => passed += (record != built) as usize,
+                        Err((number, _, position)) => *refused.entry((number, position == 8192)).or_insert(0) += 1,
+                    }
+                }
+            }
+        }
+        println!("passed though spoilt {passed}; refused by number, and whether at the start: {refused:?}");
+        assert!(passed > 100 && [(31, false), (32, false), (32, true)].iter().all(|of| refused.get(of) > Some(&100)));
+    }
+
+    /// Records of charts of two places, made of nothing: either start, the alarms anywhere, any marks and targets.
+    #[test]
+    fn small_records_as_modelled() {
+        let mut random = Random::new(20278);
+        let charts: [&[u32]; 4] = [
+            &[0, 1, 0, 0, 0, 7],
+            &[0, 0, 0, 0, 0, 7, 1, 0, 0, 1, 0, 7],
+            &[0, 1, 18, 0, 0, 5, 0, 0, 21, 0, 0, 5],
+            &[0, 0, 18, 1, 0, 5, 0, 1, 21, 1, 0, 5, 1, 1, 0, 0, 0, 7],
+        ];
+        let mut record = Record::from(algorithms::build(&faultless(), &faultless()));
+        let (mut passed, mut at_start, mut elsewhere, mut covered) = ([0; 8], [0; 8], 0, 0);
+        for _ in 0..cases(60_000) {
+            let mut drawn = || Chart { places: 2, alarm: random.below(2) as u32, rows: random.one_of(&charts).to_vec() };
+            let (old, new) = (drawn(), drawn());
+            record.start = random.one_of(&[0, 4096]);
+            for pair in [0, 1, 64, 65] {
+                record.marks[pair] = random.one_of(&[0, 0, 1, 1, 3, 4]);
+                record.sets[pair] = random.one_of(&[0, 1, 2, 3, 3]);
+                for which in 0..2 {
+                    record.targets[2 * pair + which] = random.one_of(&[65535, 0, 1, 64, 65, 4096, 4097]);
+                }
+            }
+            for kept in [4096, 4097] {
+                record.marks[kept] = random.one_of(&[0, 2, 2]);
+            }
+            let kind = (record.start / 2048 + old.alarm) as usize * 2 + new.alarm as usize;
+            match compare_check(&old, &new, &record) {
+                Ok(()) => {
+                    passed[kind] += 1;
+                    for values in [[0; 64], [4; 64], [5; 64], [u32::MAX; 64]] {
+                        covered += keeps_promise(&old, &new, &record, &values, &checker::run(&new, &values, 20)) as usize;
+                    }
+                }
+                Err((_, _, 8192)) => at_start[kind] += 1,
+                Err(_) => elsewhere += 1,
+            }
+        }
+        println!("by start, old alarm and new alarm: passed {passed:?}, refused at the start {at_start:?}; refused elsewhere {elsewhere}; covered runs {covered}");
+        // A start pair at the new alarm alone is never passed; everything else is, now and then.
+        assert!((0..8).all(|kind| at_start[kind] > 0 && (passed[kind] > 0) == (kind != 2)) && elsewhere > 1000 && covered > 20);
+    }
+
+    /// Whether a run of the new chart reaches its alarm and is covered; then the old chart's run from the same values reaches its own.
+    fn keeps_promise(old: &Chart, new: &Chart, record: &Record, values: &[u32; 64], (rows, reached): &(Vec<usize>, bool)) -> bool {
+        let due = *reached && checker::covers(new, record, rows);
+        // At most 64 old assignments and one old assumption are taken for each new row.
+        if due && !checker::run(old, values, 65 * (1 + rows.len())).1 {
+            panic!("a covered run is a new fault: {old:?} {new:?} {values:?} {record:?}");
+        }
+        due
+    }
+
+    /// The promise, tried, on built records and on spoilt ones that are passed all the same.
+    #[test]
+    fn covered_runs_reach_the_old_alarm() {
+        let mut random = Random::new(20275);
+        let (mut covered, mut tried) = (0, 0);
+        for sort in [Sort::Graphs, Sort::AmendedGraphs, Sort::Procedures, Sort::Renumbered, Sort::Sparse, Sort::Dense] {
+            for _ in 0..share(sort, 500) {
+                let (old, new) = drawn::pair(&mut random, sort);
+                let mut buffers = rubbish(&mut random);
+                let start = build(&old, &new, &mut buffers).unwrap()[0];
+                let built = record(start, buffers);
+                let mut all = vec![built.clone()];
+                for _ in 0..4 {
+                    let mut other = built.clone();
+                    drawn::spoil(&mut random, &mut other);
+                    if other != built && check(&old, &new, &other).is_ok() {
+                        all.push(other);
+                    }
+                }
+                for _ in 0..60 {
+                    let mut values = [0; 64];
+                    for v in &mut values {
+                        let any = random.word();
+                        *v = random.one_of(&[0, 0, 1, 1, 2, 3, 4, 99, 100, 101, u32::MAX, u32::MAX - 1, any]);
+                    }
+                    let run = checker::run(&new, &values, 200);
+                    tried += run.1 as usize;
+                    covered += all.iter().filter(|record| keeps_promise(&old, &new, record, &values, &run)).count();
+                }
+            }
+        }
+        println!("runs to the new alarm {tried}; covered ones {covered}");
+        assert!(covered > 1000);
+    }
+
+    // ---- refusals
+
+    /// Faulty charts of every number, with their positions.
+    fn faulty() -> Vec<(Chart, (u32, usize))> {
+        let chart = |places, alarm, rows: &[[u32; 6]]| Chart { places, alarm, rows: rows.concat() };
+        let one = [0, 0, 0, 0, 0, 0];
+        let choice = [[0, 0, 16, 0, 0, 1], [0, 0, 17, 0, 0, 1]];
+        let all = vec![
+            (chart(0, 0, &[one]), (1, 0)),
+            (chart(1, 0, &[]), (1, 0)),
+            (chart(65, 0, &[]), (1, 0)),
+            (chart(65, 0, &[one]), (2, 0)),
+            (chart(u32::MAX, 0, &[one]), (2, 0)),
+            (chart(64, 0, &[one; 129]), (2, 0)),
+            (chart(1, 1, &[one]), (3, 0)),
+            (chart(64, u32::MAX, &[one]), (3, 0)),
+            (chart(2, 0, &[one, [1, 2, 0, 0, 0, 0]]), (4, 1)),
+            (chart(2, 0, &[one, [2, 0, 0, 0, 0, 0]]), (4, 1)),
+            (chart(2, 0, &[[1, 0, 0, 0, 0, 0], one]), (5, 1)),
+            (chart(1, 0, &[[0, 0, 6, 0, 0, 0]]), (6, 0)),
+            (chart(2, 0, &[one, [1, 0, 22, 0, 0, 0]]), (6, 1)),
+            (chart(1, 0, &[[0, 0, 38, 0, 0, 0]]), (6, 0)),
+            (chart(1, 0, &[[0, 0, 0, 64, 0, 0]]), (7, 0)),
+            (chart(1, 0, &[[0, 0, 16, 0, 1, 0]]), (7, 0)),
+            (chart(2, 0, &[one, [1, 1, 3, 0, 0, 64]]), (7, 1)),
+            (chart(1, 0, &[one, one]), (8, 1)),
+            (chart(1, 0, &[choice[0], choice[1], choice[0]]), (8, 2)),
+            (chart(1, 0, &[choice[0], choice[0]]), (8, 1)),
+        ];
+        for (chart, fault) in &all {
+            assert_eq!(texts::fault(chart), *fault, "{chart:?}");
+        }
+        all
+    }
+
+    fn faultless() -> Chart {
+        Chart { places: 2, alarm: 1, rows: vec![0, 1, 18, 0, 0, 5, 0, 0, 21, 0, 0, 5] }
+    }
+
+    /// A refused build leaves all four buffers as they were, and what stands about them.
+    fn refused(old: &Chart, new: &Chart, buffers: &Buffers, refusal: Refusal) {
+        let mut lent = buffers.clone();
+        assert_eq!(build(old, new, &mut lent), Err(refusal), "{old:?} {new:?}");
+        assert!(lent == *buffers, "a refusal wrote to a buffer: {old:?} {new:?}");
+    }
+
+    #[test]
+    fn faulty_charts() {
+        let mut random = Random::new(20276);
+        let buffers = rubbish(&mut random);
+        let mut record = Record::from(algorithms::build(&faultless(), &faultless()));
+        // A record at fault: the charts are judged before it.
+        record.start = 7;
+        for (bad, (number, position)) in faulty() {
+            for (old, new, chart) in [(&bad, &faultless(), 0), (&faultless(), &bad, 1), (&bad, &bad, 0)] {
+                refused(old, new, &buffers, (number, chart, position));
+                assert_eq!(compare_check(old, new, &record), Err((number, chart, position)));
+            }
+            for (other, (first, at)) in faulty() {
+                refused(&other, &bad, &buffers, (first, 0, at));
+                assert_eq!(compare_check(&other, &bad, &record), Err((first, 0, at)));
+            }
+        }
+        let mut seen = [0usize; 9];
+        for _ in 0..cases(3000) {
+            let (old, new) = (model::chart(&mut random), model::chart(&mut random));
+            let (first, second) = (texts::fault(&old), texts::fault(&new));
+            let refusal = if first.0 != 0 { (first.0, 0, first.1) } else { (second.0, 1, second.1) };
+            seen[refusal.0 as usize] += 1;
+            if refusal.0 == 0 {
+                compare(&old, &new, buffers.clone());
+            } else {
+                refused(&old, &new, &buffers, refusal);
+                assert_eq!(compare_check(&old, &new, &record), Err(refusal));
+            }
+        }
+        assert!([0, 1, 4, 5, 6, 7, 8].iter().all(|n| seen[*n] > 0), "{seen:?}");
+    }
+
+    #[test]
+    fn wrong_lengths() {
+        let mut random = Random::new(20277);
+        let buffers = rubbish(&mut random);
+        let record = Record::from(algorithms::build(&faultless(), &faultless()));
+        let bad = Chart { places: 0, alarm: 9, rows: vec![9; 6] };
+        let length = |right: usize| [0, 1, right / 2, right - 1, right + 1, 2 * right];
+        // Before the faults of charts and records too.
+        for (old, new, start) in [(faultless(), faultless(), 0), (bad.clone(), faultless(), 0), (faultless(), bad, 7)] {
+            for which in 0..4 {
+                for turn in 0..6 {
+                    let mut lent = buffers.clone();
+                    let mut checked = Record { start, ..record.clone() };
+                    match which {
+                        0 => {
+                            lent.marks.resize(length(4160)[turn], 0xA5);
+                            checked.marks.resize(length(4160)[turn], 0);
+                        }
+                        1 => {
+                            lent.targets.resize(length(8192)[turn], 0xA5A5);
+                            checked.targets.resize(length(8192)[turn], 65535);
+                        }
+                        2 => {
+                            lent.sets.resize(length(4096)[turn], 0xA5A5);
+                            checked.sets.resize(length(4096)[turn], 0);
+                        }
+                        _ => lent.waiting.resize(length(4096)[turn], 0xA5),
+                    }
+                    refused(&old, &new, &lent, (21, 0, 0));
+                    if which < 3 {
+                        assert_eq!(compare_check(&old, &new, &checked), Err((21, 0, 0)));
+                    }
+                }
+            }
+            for extra in 1..6 {
+                let longer = |chart: &Chart| Chart { rows: [&chart.rows[..], &vec![0; extra]].concat(), ..chart.clone() };
+                for (old, new) in [(longer(&old), new.clone()), (old.clone(), longer(&new)), (longer(&old), longer(&new))] {
+                    refused(&old, &new, &buffers, (21, 0, 0));
+                    assert_eq!(compare_check(&old, &new, &Record { start, ..record.clone() }), Err((21, 0, 0)));
+                }
+            }
+        }
+    }
+
+    /// Every mark at every node, and every odd target at both ends of the buffer.
+    #[test]
+    fn every_mark_and_odd_targets() {
+        let (old, new) = (faultless(), Chart { places: 3, ..faultless() });
+        let record = Record::from(algorithms::build(&old, &new));
+        for node in 0..4160 {
+            for mark in [0, 1, 2, 3, 4, 5, 255] {
+                let mut record = record.clone();
+                record.marks[node] = mark;
+                compare_check(&old, &new, &record).ok();
+            }
+        }
+        for index in [0, 1, 2, 127, 128, 4095, 4096, 8190, 8191] {
+            for target in [0, 1, 64, 65, 4095, 4096, 4097, 4159, 4160, 4161, 32768, 65534, 65535] {
+                let mut record = record.clone();
+                record.targets[index] = target;
+                compare_check(&old, &new, &record).ok();
+            }
+        }
+        for start in [0, 1, 64, 4095, 4096, 4097, 65535, 65536, 65536 + 4096, u32::MAX] {
+            compare_check(&old, &new, &Record { start, ..record.clone() }).ok();
+        }
+    }
+}
