@@ -5,3 +5,4 @@ pub mod Options
 pub mod Says
 pub mod Maybe
 pub mod Picks
+pub mod OnSome

@@ -1,9 +1,15 @@
 -- An answer as one number.
 use mathlib.Core.List.{List}
+use mathlib.Core.Option.{Option, none, some}
 use Prim.Native.Nat.{ℕ, _+_, _*_, _^_}
 use lib.ListN.{length}
 use Rattle.base.specs.Answers.{Answer, given, refused}
+use Rattle.base.specs.Refusals.{Refusal}
 use Rattle.chart.specs.Charts.{Chart, size}
+
+-- a chart as it is lent: two numbers beside its table
+abbrev pub chartOf : ℕ → ℕ → List ℕ → Chart
+chartOf places alarm table = record { places = places; alarm = alarm; table = table }
 
 -- up to four numbers that a call answers
 pub record Four : Type 0 where
@@ -24,3 +30,8 @@ ofChart C = record { a = C .places; b = C .alarm; c = size (C .table); d = 0 }
 -- a text that is written: the count of its bytes, 0, 0, 0
 abbrev pub ofText : List ℕ → Four
 ofText t = record { a = length t; b = 0; c = 0; d = 0 }
+
+-- a call that answers only whether a refusal is due: 0, 0, 0, 0
+abbrev pub unlessDue : Option Refusal → Answer Four
+unlessDue none = given (record { a = 0; b = 0; c = 0; d = 0 })
+unlessDue (some f) = refused (f .number) (f .chart) (f .position)

@@ -2,13 +2,18 @@
 ghost use mathlib.Core.Path.{_≡_};
 ghost use lib.ListN.{length};
 ghost use Rattle.base.specs.Chains.{mapped};
-ghost use Rattle.chart.specs.Charts.{Chart};
 ghost use Rattle.text.specs.Texts.{readInto, filled};
 ghost use Rattle.text.specs.Written.{writing, printed};
-ghost use Rattle.capi.specs.Numbers.{number, ofChart, ofText};
+ghost use Rattle.checker.specs.Records.{recordOf};
+ghost use Rattle.checker.specs.Checks.{refusal};
+ghost use Rattle.checker.specs.Promise.{Promise};
+ghost use Rattle.capi.specs.Lookups.{lookedUp, handed, ofRows};
+ghost use Rattle.capi.specs.Numbers.{chartOf, number, ofChart, ofText, unlessDue};
 use chart::charts::Head;
+use checker::records::Checked;
 use text::answers::Read;
 use text::answers::Wrote;
+use text::inner::table::copy;
 
 // The chart of a text, its rows at the front of the table: places, alarm, rows, 0.
 #[no_mangle]
@@ -27,11 +32,84 @@ pub extern "C" fn picker_read(text: &[u8], table: &mut [u32]) -> u64
 // The text of a chart, at the front of the bytes: the count of its bytes, 0, 0, 0.
 #[no_mangle]
 pub extern "C" fn picker_write(places: u32, alarm: u32, rows: &[u32], bytes: &mut [u8]) -> u64
-    ensures { λ r. ⌜ (r ≡ number (mapped ofText (writing (record { places = places; alarm = alarm; table = now (rows .entry) }) (length (now (bytes .entry))))))
-        × (now (bytes .exit) ≡ printed (writing (record { places = places; alarm = alarm; table = now (rows .entry) }) (length (now (bytes .entry)))) (now (bytes .entry))) ⌝ }
+    ensures { λ r. ⌜ (r ≡ number (mapped ofText (writing (chartOf places alarm (now (rows .entry))) (length (now (bytes .entry))))))
+        × (now (bytes .exit) ≡ printed (writing (chartOf places alarm (now (rows .entry))) (length (now (bytes .entry)))) (now (bytes .entry))) ⌝ }
 {
     match text::write(Head { places, alarm }, rows, bytes) {
         Wrote::Bytes(n) => n as u64,
         Wrote::Refused(n, position) => n as u64 * 72057594037927936 + position as u64,
+    }
+}
+
+// The rows that leave a place of the chart named (0 old, 1 new), at the front of 12 entries: the count of rows, 0, 0, 0.
+#[no_mangle]
+pub extern "C" fn picker_lookup<'a>(
+    old_places: u32,
+    old_alarm: u32,
+    old_rows: &'a [u32],
+    new_places: u32,
+    new_alarm: u32,
+    new_rows: &'a [u32],
+    chart: u32,
+    place: u32,
+    rows: &mut [u32],
+) -> u64
+    ensures { λ r. ⌜ (r ≡ number (mapped ofRows (lookedUp (chartOf «old_places» «old_alarm» (now («old_rows» .entry))) (chartOf «new_places» «new_alarm» (now («new_rows» .entry))) chart place (now (rows .entry)))))
+        × (now (rows .exit) ≡ handed (lookedUp (chartOf «old_places» «old_alarm» (now («old_rows» .entry))) (chartOf «new_places» «new_alarm» (now («new_rows» .entry))) chart place (now (rows .entry))) (now (rows .entry))) ⌝ }
+{
+    if rows.len() != 12 {
+        return 21 * 72057594037927936;
+    }
+    let old = Head {
+        places: old_places,
+        alarm: old_alarm,
+    };
+    let new = Head {
+        places: new_places,
+        alarm: new_alarm,
+    };
+    let part = chart::lookup(old, old_rows, new, new_rows, chart, place);
+    copy(part, rows);
+    part.len() as u64 / 6
+}
+
+// The check of a record: 0, 0, 0, 0 where it passes. What passes keeps the promise: a run of the new chart that reaches its alarm and that
+// the record covers has a run of the old chart, from the same values, that reaches the old alarm.
+#[no_mangle]
+pub extern "C" fn picker_check<'a>(
+    old_places: u32,
+    old_alarm: u32,
+    old_rows: &'a [u32],
+    new_places: u32,
+    new_alarm: u32,
+    new_rows: &'a [u32],
+    start: u32,
+    marks: &[u8],
+    targets: &[u16],
+    sets: &[u64],
+) -> u64
+    ensures is { λ r. ⌜ r ≡ number (unlessDue (refusal (chartOf «old_places» «old_alarm» (now («old_rows» .entry))) (chartOf «new_places» «new_alarm» (now («new_rows» .entry))) (recordOf start (now (marks .entry)) (now (targets .entry)) (now (sets .entry))))) ⌝ }
+    ensures promise { λ r. ⌜ (r ≡ 0 → Promise (chartOf «old_places» «old_alarm» (now («old_rows» .entry))) (chartOf «new_places» «new_alarm» (now («new_rows» .entry))) (recordOf start (now (marks .entry)) (now (targets .entry)) (now (sets .entry)))) ⌝ }
+{
+    let old = Head {
+        places: old_places,
+        alarm: old_alarm,
+    };
+    let new = Head {
+        places: new_places,
+        alarm: new_alarm,
+    };
+    match checker::check(old, old_rows, new, new_rows, start, marks, targets, sets) {
+        Checked::Passed => 0,
+        Checked::Lengths => 21 * 72057594037927936,
+        Checked::OldFault { number, position } => {
+            number as u64 * 72057594037927936 + position as u64
+        }
+        Checked::NewFault { number, position } => {
+            number as u64 * 72057594037927936 + 281474976710656 + position as u64
+        }
+        Checked::Shape => 31 * 72057594037927936,
+        Checked::Start => 32 * 72057594037927936 + 8192,
+        Checked::Target(index) => 32 * 72057594037927936 + index as u64,
     }
 }

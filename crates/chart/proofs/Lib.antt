@@ -8,3 +8,4 @@ pub mod Rows
 pub mod Faults
 pub mod Faultless
 pub mod Meaning
+pub mod Bounds

@@ -2,24 +2,20 @@
 -- Assumes nothing.
 use mathlib.Core.Path.{_≡_, refl, sym, _∙_, subst}
 use mathlib.Core.List.{List, [], _∷_, _++_}
-use mathlib.Core.Bool.{Bool, true, false, _&&_, _||_, not}
+use mathlib.Core.Bool.{Bool, true, false, _&&_}
 use mathlib.Core.Option.{Option, none, some}
 use mathlib.Core.Logic.{dite}
 use Prim.Native.Nat.{ℕ, zero, suc, _+_, _*_, _%_, _≤_, _<_}
 use native.Mathlib.Decide.{decLt}
 use native.Mathlib.Omega.{arith}
-use borrow.Author.Tests.{ltb-false}
-use lib.Dec.{eqb, leb, ltb}
+use lib.Dec.{eqb, leb}
 use lib.ListN.{length, getD, drop}
 use Rattle.base.specs.Answers.{Answer, given, refused}
 use Rattle.base.specs.Chains.{andThen}
-use Rattle.base.specs.Options.{orElse, firstOf}
-use Rattle.base.specs.Tests.{someBelow}
-use Rattle.base.proofs.Options.{both-missing, not-due}
-use Rattle.base.proofs.Tests.{or-false}
-use Rattle.chart.specs.Operations.{isKnown, operandsFit}
-use Rattle.chart.specs.Charts.{Chart, size, from, to, operation}
-use Rattle.chart.specs.Faults.{Fault, due, countFault, alarmFault, fromBefore, rowFault, clash, conflictFault, rowsFault, fault, refusal, unless}
+use Rattle.base.proofs.OnSome.{OnSome}
+use Rattle.chart.specs.Charts.{Chart, size}
+use Rattle.chart.specs.Faults.{Fault, fault, refusal, unless}
+use Rattle.chart.proofs.Bounds.{Slight, fault-slight, refusal-slight}
 use Rattle.chart.proofs.Faultless.{faultless as sound}
 use Rattle.text.specs.declared.fields.Kind.{Kind}
 use Rattle.text.specs.declared.fields.Kind.the-variants.{Plain, Count, Spare}
@@ -105,69 +101,6 @@ parsed-sole (b ∷ t) =
     sole-then (fieldsAt 6 0 (b ∷ t) 0 []) _ (fields-sole 6 0 (b ∷ t) 0 [])
     (λ s. sole-then (fieldsAt (6 * getD (s .numbers) 2 0) 6 (b ∷ t) (s .next) []) _ (fields-sole (6 * getD (s .numbers) 2 0) 6 (b ∷ t) (s .next) []) (λ r. whole-sole (b ∷ t) (r .next) _))
 
--- ---- faults
-
--- a fault's number and position
-abbrev Slight : Option Fault → Type 0
-Slight none = Unit
-Slight (some f) = (f .number ≤ 21) × (f .position ≤ 128)
-
-due-slight : (b : Bool) (n p : ℕ) → n ≤ 21 → p ≤ 128 → Slight (due b n p)
-due-slight true n p h g = (h, g)
-due-slight false n p h g = tt
-
-or-slight : (o p : Option Fault) → Slight o → (o ≡ none → Slight p) → Slight (orElse o p)
-or-slight none p h g = g refl
-or-slight (some f) p h g = h
-
-first-slight : (n : ℕ) (f : ℕ → Option Fault) → ((i : ℕ) → i < n → Slight (f i)) → Slight (firstOf n f)
-unfolding firstOf
-first-slight zero f h = tt
-first-slight (suc n) f h = or-slight (firstOf n f) (f n) (first-slight n f (λ i l. h i (omega arith))) (λ _. h n (omega arith))
-
-few : (C : Chart) → countFault C ≡ none → size (C .table) ≤ 128
-unfolding countFault
-few C e =
-    let a = both-missing (due (eqb (C .places) 0 || eqb (size (C .table)) 0) 1 0) _ e in
-    ltb-false _ _ (or-false (ltb 64 (C .places)) _ (not-due _ _ (a .1)) .1)
-
-row-slight : (C : Chart) (i : ℕ) → i ≤ 128 → Slight (rowFault C i)
-unfolding rowFault
-row-slight C i h =
-    let strays = leb (C .places) (from (C .table) i) || leb (C .places) (to (C .table) i) in
-    let descends = ltb (from (C .table) i) (fromBefore (C .table) i) in
-    let unknown = not (isKnown (operation (C .table) i)) in
-    let unfit = not (operandsFit (operation (C .table) i)) in
-    or-slight (due strays 4 i) (orElse (due descends 5 i) (orElse (due unknown 6 i) (due unfit 7 i))) (due-slight strays 4 i (omega arith) h)
-    (λ _. or-slight (due descends 5 i) (orElse (due unknown 6 i) (due unfit 7 i)) (due-slight descends 5 i (omega arith) h)
-    (λ _. or-slight (due unknown 6 i) (due unfit 7 i) (due-slight unknown 6 i (omega arith) h) (λ _. due-slight unfit 7 i (omega arith) h)))
-
-count-slight : (C : Chart) → Slight (countFault C)
-unfolding countFault
-count-slight C =
-    let none-there = eqb (C .places) 0 || eqb (size (C .table)) 0 in
-    let many = ltb 64 (C .places) || ltb 128 (size (C .table)) in
-    or-slight (due none-there 1 0) (due many 2 0) (due-slight none-there 1 0 (omega arith) (omega arith)) (λ _. due-slight many 2 0 (omega arith) (omega arith))
-
-rows-slight : (C : Chart) → size (C .table) ≤ 128 → Slight (rowsFault C)
-unfolding rowsFault conflictFault
-rows-slight C h =
-    or-slight (firstOf (size (C .table)) (rowFault C)) (firstOf (size (C .table)) (conflictFault (C .table)))
-    (first-slight (size (C .table)) (rowFault C) (λ i l. row-slight C i (omega arith)))
-    (λ _. first-slight (size (C .table)) (conflictFault (C .table)) (λ i l. due-slight (someBelow i (clash (C .table) i)) 8 i (omega arith) (omega arith)))
-
-fault-slight : (C : Chart) → Slight (fault C)
-unfolding fault alarmFault
-fault-slight C =
-    or-slight (countFault C) (orElse (alarmFault (C .places) (C .alarm)) (rowsFault C)) (count-slight C)
-    (λ e. or-slight (alarmFault (C .places) (C .alarm)) (rowsFault C) (due-slight (leb (C .places) (C .alarm)) 3 0 (omega arith) (omega arith)) (λ _. rows-slight C (few C e)))
-
-refusal-slight : (C : Chart) → Slight (refusal C)
-unfolding refusal
-refusal-slight C =
-    let ragged = not (eqb (length (C .table) % 6) 0) in
-    or-slight (due ragged 21 0) (fault C) (due-slight ragged 21 0 (omega arith) (omega arith)) (λ _. fault-slight C)
-
 -- ---- answers
 
 -- a chart's counts and places, and a refusal's number, chart and position
@@ -175,9 +108,9 @@ abbrev pub SmallRead : Answer Chart → Type 0
 SmallRead (given C) = (C .places ≤ 64) × ((C .alarm < 64) × (size (C .table) ≤ 128))
 SmallRead (refused n c p) = (n ≤ 21) × ((c ≡ 0) × (p ≤ 10191))
 
-unless-small : (C : Chart) (o : Option Fault) → Slight o → (o ≡ none → SmallRead (given C)) → SmallRead (unless o C)
+unless-small : (C : Chart) (o : Option Fault) → OnSome Slight o → (o ≡ none → SmallRead (given C)) → SmallRead (unless o C)
 unless-small C none h g = g refl
-unless-small C (some f) h g = (h .0, (refl, omega (arith, h .1)))
+unless-small C (some f) h g = (h .few, (refl, omega (arith, h .row)))
 
 judged-small : (text : List ℕ) (a : Answer Chart) → a ≡ parsed text → Sole a → SmallRead (andThen a (λ (C : Chart). unless (fault C) C))
 judged-small text (refused n c p) e h = (h .0, (h .1, text-positions text n c p (sym e)))
@@ -209,7 +142,7 @@ write-small C lent = go (leb 8643 lent)
   where
     unless-small : (o : Option Fault) → o ≡ refusal C → SmallWrite (unless o (written C))
     unless-small none e = tt
-    unless-small (some f) e = let h : Slight (some f) = subst Slight (sym e) (refusal-slight C) in (h .0, (refl, h .1))
+    unless-small (some f) e = let h : Slight f = subst (OnSome Slight) (sym e) (refusal-slight C) in (h .few, (refl, omega (arith, h .row)))
 
     go : (t : Bool) → SmallWrite (elim t as (λ _. Answer (List ℕ)) [ true ↦ unless (refusal C) (written C) | false ↦ refused 21 0 0 ])
     go true = unless-small (refusal C) refl

@@ -1,0 +1,67 @@
+-- A part that the lookup hands back fits 12 entries, and what is answered of it.
+-- Assumes nothing.
+use mathlib.Core.Path.{_≡_, refl, sym, ap, _∙_}
+use mathlib.Core.Bool.{Bool, true, false, cond, _&&_}
+use mathlib.Core.List.{List, [], _++_}
+use Prim.Native.Nat.{ℕ, _*_, _/_, _%_, _^_, _≤_, _<_}
+use native.Mathlib.Omega.{arith}
+use borrow.Author.Tests.{eq-eqb, ne-eqb}
+use lib.Dec.{eqb, ltb}
+use lib.ListN.{length, getD, drop}
+use Rattle.base.specs.Answers.{Answer, given, refused}
+use Rattle.base.specs.Chains.{mapped}
+use Rattle.base.specs.Options.{missing}
+use Rattle.base.proofs.Options.{missing-none}
+use Rattle.base.proofs.Tests.{and-true}
+use Rattle.chart.specs.Charts.{Chart, size, leavingOf, leaving}
+use Rattle.chart.specs.Faults.{refusal}
+use Rattle.chart.specs.Lookup.{openTo, lookup}
+use Rattle.chart.proofs.Faultless.{faultless}
+use Rattle.align.proofs.Parts.{whole, two-at-most}
+use Rattle.capi.specs.Numbers.{number}
+use Rattle.capi.specs.Lookups.{lookedUp, handed, ofRows}
+
+-- the entries of a lent table are u32
+abbrev Words : Chart → Type 0
+Words C = (k : ℕ) → getD (C .table) k 0 < 2 ^ 32
+
+-- the rows of a place of a faultless chart: two at most, of six entries each
+opened-short : (C : Chart) → Words C → (p : ℕ) → openTo C p ≡ true → length (leaving (C .table) p) ≤ 12
+unfolding openTo leaving
+opened-short C w p e =
+    let F = faultless C (missing-none (refusal C) (and-true (missing (refusal C)) (ltb p (C .places)) e .0)) in
+    omega (arith, two-at-most C F w p, whole (C .table) p (size (C .table)) (omega arith))
+
+open-short : (C : Chart) → Words C → (p : ℕ) (b : Bool) → openTo C p ≡ b → length (cond b (leaving (C .table) p) []) ≤ 12
+open-short C w p true e = opened-short C w p e
+open-short C w p false e = omega arith
+
+module _ (old new : Chart) (chart p : ℕ) where
+  pub part-short : Words old → Words new → length (lookup old new chart p) ≤ 12
+  unfolding lookup
+  part-short v w = go (eqb chart 0) (eqb chart 1)
+    where
+      go : (a b : Bool) → length (cond a (cond (openTo old p) (leaving (old .table) p) []) (cond b (cond (openTo new p) (leaving (new .table) p) []) [])) ≤ 12
+      go true b = open-short old v p (openTo old p) refl
+      go false true = open-short new w p (openTo new p) refl
+      go false false = omega arith
+
+  module _ (rows : List ℕ) where
+    refused-21 : (length rows ≡ 12 → ⊥) → lookedUp old new chart p rows ≡ refused 21 0 0
+    unfolding lookedUp
+    refused-21 n = rw (ne-eqb (length rows) 12 n, lookedUp)
+
+    given-part : length rows ≡ 12 → lookedUp old new chart p rows ≡ given (lookup old new chart p)
+    unfolding lookedUp
+    given-part e = rw (eq-eqb (length rows) 12 e, lookedUp)
+
+    -- another length than 12
+    pub length-refused : (length rows ≡ 12 → ⊥)
+        → (21 * 72057594037927936 ≡ number (mapped ofRows (lookedUp old new chart p rows))) × (rows ≡ handed (lookedUp old new chart p rows) rows)
+    unfolding handed
+    length-refused n = rw (refused-21 n) (omega arith, refl)
+
+    pub part-handed : {part after : List ℕ} → length rows ≡ 12 → part ≡ lookup old new chart p → after ≡ part ++ drop (length part) rows
+        → (length part / 6 ≡ number (mapped ofRows (lookedUp old new chart p rows))) × (after ≡ handed (lookedUp old new chart p rows) rows)
+    unfolding handed
+    part-handed {part} {after} e i h = rw (given-part e, sym i) (omega arith, h)

@@ -1,0 +1,32 @@
+-- `capi::picker_lookup` meets its contract: a part has 12 entries at most. Assumes nothing.
+use mathlib.Core.Path.{sym, ap, _∙_}
+use lib.ListN.{length}
+use Rattle.capi.proofs.Handed.{part-short, length-refused, part-handed}
+use native.Mathlib.Omega.{arith}
+use borrow.Author.Needs.{needs}
+use Rattle.capi.proofs.picker_lookup.Statement.{statement}
+use Rattle.capi.proofs.picker_lookup.Tie as tie
+
+mul-result : tie.Need-mul-result
+mul-result c = search needs
+
+returns : tie.Need-returns
+returns c = length-refused _ _ _ _ _ (c .if1 .taken)
+
+lookup-requires : tie.Need-lookup-requires
+lookup-requires c κs = search needs
+
+copy-requires : tie.Need-copy-requires
+copy-requires c κs =
+    let s = part-short (record { places = c .before .before .before .before .before .before .args .old-places; alarm = c .before .before .before .before .before .before .args .old-alarm; table = c .before .before .before .before .before .before .args .old-rows .now }) (record { places = c .before .before .before .before .before .before .args .new-places; alarm = c .before .before .before .before .before .before .args .new-alarm; table = c .before .before .before .before .before .before .args .new-rows .now }) (c .before .before .before .before .before .before .args .chart) (c .before .before .before .before .before .before .args .place) (λ k. omega (arith, c .before .before .before .before .before .shared-slice-known .given k)) (λ k. omega (arith, c .before .before .before .before .shared-slice-known2 .given k)) in
+    omega (arith, s, ap length (c .before .lookup .ensures), c .before .before .if1 .left)
+
+same-length : tie.Need-same-length
+same-length c = search needs
+
+returns-2 : tie.Need-returns-2
+returns-2 c = part-handed _ _ _ _ _ (c .before .before .before .before .before .if1 .left) (c .before .before .before .before .lookup .ensures) (c .before .before .copy .ensures)
+
+pub picker-lookup-spec : {M : Type 1} → statement M
+picker-lookup-spec =
+    tie.close (tie.spec mul-result returns lookup-requires copy-requires same-length returns-2)
