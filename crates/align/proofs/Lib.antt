@@ -8,3 +8,4 @@ pub mod Onto
 pub mod Seek
 pub mod Moves
 pub mod Enough
+pub mod Cases

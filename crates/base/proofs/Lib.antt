@@ -6,3 +6,6 @@ pub mod Says
 pub mod Maybe
 pub mod Picks
 pub mod OnSome
+pub mod Walks
+pub mod Sums
+pub mod Repeat

@@ -6,3 +6,5 @@ pub mod Options
 pub mod Tests
 pub mod Says
 pub mod Refusals
+pub mod Walks
+pub mod Repeat

@@ -1,0 +1,39 @@
+-- The steps of a short example, evaluated: an old chart that assigns 5 to v1, a new one that assigns 6. Assumes nothing.
+use mathlib.Core.Path.{_≡_, refl}
+use mathlib.Core.List.{List, [], _∷_}
+use mathlib.Core.Option.{Option, none, some}
+use Prim.Native.Nat.{ℕ}
+use Rattle.base.specs.Options.{firstOf}
+use Rattle.chart.specs.declared.operations.Operation.{Operation}
+use Rattle.chart.specs.Charts.{Chart, leaving, leavingOf}
+use Rattle.chart.specs.Operations.{kind, operandB, operandC, reads, same, related, holds}
+use Rattle.chart.specs.Trials.{seats, trial, shown, together}
+use Rattle.align.specs.declared.spots.Spot.{Spot}
+use Rattle.align.specs.Sets.{alone, joined, with, without, meets, setOf, readSet}
+use Rattle.align.specs.Steps.{find, along, matching, matched, rewritten, assigned, onward, follow, followed, counterpart, assumed, moved, arrived, step}
+
+-- places 0 to 5, alarm 5: v1 := 5; v0 < 100 or v0 ≥ 100; v1 > 50 to the alarm or v1 ≤ 50
+abbrev pub example : Chart
+example =
+    record {
+      places = 6;
+      alarm = 5;
+      table = 0 ∷ 1 ∷ 0 ∷ 1 ∷ 0 ∷ 5 ∷ 1 ∷ 2 ∷ 18 ∷ 0 ∷ 0 ∷ 100 ∷ 1 ∷ 3 ∷ 21 ∷ 0 ∷ 0 ∷ 100 ∷ 3 ∷ 5 ∷ 20 ∷ 1 ∷ 0 ∷ 50 ∷ 3 ∷ 4 ∷ 19 ∷ 1 ∷ 0 ∷ 50 ∷ [];
+    }
+
+abbrev pub from-to : ℕ → ℕ → Operation → ℕ → Option Spot
+from-to p set o q = step example example (record { place = record { 0 = p }; set = set }) o (record { 0 = q })
+
+abbrev pub at : ℕ → ℕ → Option Spot
+at p set = some (record { place = record { 0 = p }; set = set })
+
+-- v1 := 6 has no equal old row: the old place stays, v1 joins the set. v0 < 100: the old assignment is followed first, then the equal row
+-- is taken. v1 > 50 reads v1, which may differ: the step fails. v1 > 60 implies v1 > 50: with an empty set it goes to both alarms.
+-- v1 < 0 holds for no values, so it matches no row: the step goes to the new alarm alone and fails
+pub steps : (from-to 0 0 (record { code = 0; a = 1; b = 0; c = 6 }) 1 ≡ at 0 2)
+    × (from-to 0 2 (record { code = 18; a = 0; b = 0; c = 100 }) 2 ≡ at 2 2)
+    × (from-to 3 2 (record { code = 20; a = 1; b = 0; c = 50 }) 5 ≡ none)
+    × (from-to 3 0 (record { code = 20; a = 1; b = 0; c = 60 }) 5 ≡ at 5 0)
+    × (from-to 3 0 (record { code = 18; a = 1; b = 0; c = 0 }) 5 ≡ none)
+unfolding alone joined with without meets setOf readSet find along matching matched rewritten assigned onward follow followed counterpart assumed moved arrived step firstOf kind operandB operandC reads same leaving leavingOf together seats trial shown holds related
+steps = (refl, refl, refl, refl, refl)

@@ -1,0 +1,8 @@
+-- Work that goes on as long as something is found.
+use mathlib.Core.Option.{Option, none, some}
+use Prim.Native.Nat.{ℕ, zero, suc}
+
+-- `act` at what `find` finds, again and again until it finds nothing, at most `turns` times
+unfoldable pub repeated : {S : Type 0} → (S → Option ℕ) → (S → ℕ → S) → ℕ → S → S
+repeated find act zero s = s
+repeated find act (suc turns) s = elim (find s) [ none ↦ s | some n ↦ repeated find act turns (act s n) ]

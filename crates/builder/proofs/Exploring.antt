@@ -1,0 +1,90 @@
+-- The loop of a build's turns, in the form in which the code meets it. Assumes nothing.
+use mathlib.Core.Path.{_≡_, refl, sym, ap, _∙_}
+use mathlib.Core.List.{List}
+use mathlib.Core.Option.{Option, none, some}
+use Prim.Native.Nat.{ℕ, _^_, _<_}
+use native.Mathlib.Omega.{arith}
+use lib.ListN.{length, set, replicate}
+use Rattle.base.proofs.Repeat.{Going, less-by, again-by, done-by}
+use Rattle.chart.specs.declared.charts.Head.{Head}
+use Rattle.chart.specs.Charts.{Chart, charted}
+use Rattle.chart.specs.Faultless.{FaultlessChart}
+use Rattle.align.specs.declared.spots.Found.{Found}
+use Rattle.align.specs.declared.spots.Found.the-variants as founds
+use Rattle.align.specs.Steps.{toldFound}
+use Rattle.checker.specs.Rules.{startPair}
+use Rattle.builder.specs.Graphs.{Graph, graph, Sized}
+use Rattle.builder.specs.Turns.{lowest, next, begun, taken, explored}
+use Rattle.builder.proofs.Graphs.{Shaped}
+use Rattle.builder.proofs.Parts.{graph-eq}
+use Rattle.builder.proofs.Turns.{next-lowest}
+use Rattle.builder.proofs.Measure.{weight, turns, begun-shaped, begun-weight}
+
+-- four buffers that were filled, and two that were then written, are a graph that has begun
+pub begun-is : (old new : Head) {m t s w m₁ m₂ t₁ s₁ w₁ w₂ : List ℕ} {first : ℕ} → Sized (graph m t s w) → first ≡ startPair old new
+    → m₁ ≡ replicate (length m) 0 → m₂ ≡ set m₁ first 1 → t₁ ≡ replicate (length t) 65535 → s₁ ≡ replicate (length s) 0
+    → w₁ ≡ replicate (length w) 0 → w₂ ≡ set w₁ first 1
+    → (o n : List ℕ) → graph m₂ t₁ s₁ w₂ ≡ begun (charted old o) (charted new n)
+unfolding begun
+begun-is old new z f a b c d e g o n =
+    graph-eq
+    (b ∙ (λ i. set (a i) (f i) 1) ∙ ap (λ (k : ℕ). set (replicate k 0) (startPair old new) 1) (z .marks))
+    (c ∙ ap (λ (k : ℕ). replicate k 65535) (z .targets))
+    (d ∙ ap (λ (k : ℕ). replicate k 0) (z .sets))
+    (g ∙ (λ i. set (e i) (f i) 1) ∙ ap (λ (k : ℕ). set (replicate k 0) (startPair old new) 1) (z .waiting))
+
+-- the loop stands at g
+pub record Building (old new : Chart) (g : Graph) : Type 0 where
+  pub old-faultless : FaultlessChart old
+  pub new-faultless : FaultlessChart new
+  pub going : Going next (taken old new) weight Shaped (explored old new) g
+
+pub build-begun : (old new : Chart) {g : Graph} → FaultlessChart old → FaultlessChart new → g ≡ begun old new → Building old new g
+unfolding explored
+build-begun old new F G e =
+    rw e
+    (record {
+      old-faultless = F;
+      new-faultless = G;
+      going = record { good = begun-shaped old new F G; turns = 2 ^ 80; enough = begun-weight old new F G; same = refl };
+    })
+
+pub build-sized : (old new : Chart) {g : Graph} → Building old new g → Sized g
+build-sized old new B = B .going .good .sized
+
+module _ (old new : Chart) {g : Graph} {f : Found} (B : Building old new g) (e : toldFound f ≡ lowest (g .waiting)) where
+  found : {n : ℕ} → f ≡ founds.At n → next g ≡ some n
+  unfolding next
+  found a = sym e ∙ ap toldFound a
+
+  pub build-below : {n : ℕ} → f ≡ founds.At n → n < 4096
+  build-below {n} a = omega (arith, next-lowest g n (found a) .below, B .going .good .sized .waiting)
+
+  pub build-less : {n : ℕ} {h : Graph} → f ≡ founds.At n → h ≡ taken old new g n → weight h < weight g
+  build-less a q = less-by next (taken old new) weight Shaped (turns old new (B .old-faultless) (B .new-faultless)) (B .going .good) (found a) q
+
+  pub build-turn : {n : ℕ} {h : Graph} → f ≡ founds.At n → h ≡ taken old new g n → Building old new h
+  build-turn a q =
+      record {
+        old-faultless = B .old-faultless;
+        new-faultless = B .new-faultless;
+        going = again-by next (taken old new) weight Shaped (turns old new (B .old-faultless) (B .new-faultless)) (B .going) (found a) q;
+      }
+
+  pub build-done : f ≡ founds.Nothing → g ≡ explored old new
+  unfolding next
+  build-done a = done-by next (taken old new) weight Shaped (turns old new (B .old-faultless) (B .new-faultless)) (B .going) (sym e ∙ ap toldFound a)
+
+-- lengths that stay
+module _ {m t s w m′ t′ s′ w′ : List ℕ} (z : Sized (graph m t s w)) (z′ : Sized (graph m′ t′ s′ w′)) where
+  pub same-marks : length m′ ≡ length m
+  same-marks = z′ .marks ∙ sym (z .marks)
+
+  pub same-targets : length t′ ≡ length t
+  same-targets = z′ .targets ∙ sym (z .targets)
+
+  pub same-sets : length s′ ≡ length s
+  same-sets = z′ .sets ∙ sym (z .sets)
+
+  pub same-waiting : length w′ ≡ length w
+  same-waiting = z′ .waiting ∙ sym (z .waiting)

@@ -1,0 +1,64 @@
+-- A record of which every part is as the check asks is passed. Assumes nothing.
+use mathlib.Core.Path.{_≡_, refl, sym, ap, _∙_}
+use mathlib.Core.Bool.{Bool, true, false, _&&_, not}
+use mathlib.Core.Logic.{_≢_, _⊎_, inl, inr, dite}
+use mathlib.Core.List.{List}
+use mathlib.Core.Option.{Option, none, some}
+use Prim.Native.Nat.{ℕ, zero, suc, _≤_, _<_}
+use native.Mathlib.Omega.{arith}
+use native.Mathlib.Decide.{ℕ-discrete, decLt}
+use borrow.Author.Tests.{eq-eqb, ne-eqb, lt-ltb, le-ltb}
+use lib.Dec.{eqb, ltb}
+use Rattle.base.specs.Options.{when, orElse, firstOf}
+use Rattle.base.specs.Refusals.{Refusal, refusedIf}
+use Rattle.base.specs.Says.{Test, bool, Says}
+use Rattle.base.proofs.Options.{none-everywhere}
+use Rattle.base.proofs.Says.{said}
+use Rattle.base.proofs.Tests.{is-true}
+use Rattle.chart.specs.Charts.{Chart, size, leaving}
+use Rattle.chart.specs.Faults.{Fault, fault}
+use Rattle.chart.specs.Places.{newOf}
+use Rattle.checker.specs.Records.{Graph, Record, mark, index}
+use Rattle.checker.specs.Rules.{headOf, shaped, startFits, rowFits}
+use Rattle.checker.specs.Checks.{sized, inChart, targetFault, rowsFault, pairFault, ruleFault, recordFault, refusal}
+
+-- a refusal by a test that says what is so is not due
+off : (t : Test) (n c p : ℕ) → Says t → refusedIf (not (bool t)) n c p ≡ none
+off t n c p h = rw (is-true (bool t) (said t h))
+
+-- each row of each present pair is as its rule says
+abbrev pub Rules : Chart → Chart → Graph → Type 0
+Rules old new G =
+    (m k : ℕ) → m < 4096 → mark G m ≢ 0 → k < 2 → k < size (leaving (new .table) (newOf m .0))
+    → Says (rowFits old new G m (leaving (new .table) (newOf m .0)) k)
+
+module _ (old new : Chart) (G : Graph) (rules : Rules old new G) where
+  row-off : (m k : ℕ) → m < 4096 → mark G m ≢ 0 → k < 2 → targetFault old new G m (leaving (new .table) (newOf m .0)) k ≡ none
+  unfolding targetFault
+  row-off m k b p c =
+      dite (decLt k (size (leaving (new .table) (newOf m .0))))
+      (λ l. rw (lt-ltb k (size (leaving (new .table) (newOf m .0))) l) (off (rowFits old new G m (leaving (new .table) (newOf m .0)) k) 32 0 (index m k) (rules m k b p c l)))
+      (λ l. rw (le-ltb k (size (leaving (new .table) (newOf m .0))) (omega arith)))
+
+  pair-off : (m : ℕ) → m < 4096 → pairFault old new G m ≡ none
+  unfolding pairFault rowsFault
+  pair-off m b =
+      dite (ℕ-discrete (mark G m) 0) (λ e. rw (eq-eqb (mark G m) 0 e, pairFault))
+      (λ e. rw (ne-eqb (mark G m) 0 e, pairFault) (rw (row-off m 0 b e (omega arith), row-off m 1 b e (omega arith))))
+
+module _ (old new : Chart) (R : Record) where
+  pub passes : Says (sized (old .table) (new .table) (R .graph)) → fault old ≡ none → fault new ≡ none
+      → Says (shaped (headOf old) (headOf new) (R .start) (R .graph .marks) (R .graph .targets))
+      → Says (startFits (headOf old) (headOf new) (R .start) (R .graph .marks))
+      → Rules old new (R .graph)
+      → refusal old new R ≡ none
+  unfolding refusal recordFault ruleFault
+  passes z fo fn sh st rules =
+      rw (
+        off (sized (old .table) (new .table) (R .graph)) 21 0 0 z,
+        fo,
+        fn,
+        off (shaped (headOf old) (headOf new) (R .start) (R .graph .marks) (R .graph .targets)) 31 0 0 sh,
+        off (startFits (headOf old) (headOf new) (R .start) (R .graph .marks)) 32 0 8192 st,
+      )
+      (none-everywhere (pairFault old new (R .graph)) 4096 (λ m b. pair-off old new (R .graph) rules m b))

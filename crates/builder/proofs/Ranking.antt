@@ -1,0 +1,231 @@
+-- Algorithm 1 in the form in which the code meets it. Assumes nothing.
+use mathlib.Core.Path.{_≡_, refl, sym, ap, _∙_}
+use mathlib.Core.Bool.{Bool, true, false, _&&_, _||_}
+use mathlib.Core.List.{List, [], _∷_}
+use mathlib.Core.Option.{Option, none, some}
+use mathlib.Core.Logic.{dite}
+use Prim.Native.Nat.{ℕ, zero, suc, _+_, _*_, _-_, _≤_, _<_}
+use native.Mathlib.Numerals.{add-one}
+use native.Mathlib.Omega.{arith}
+use native.Mathlib.Decide.{ℕ-discrete, decLt}
+use borrow.Author.Tests.{eq-eqb, ne-eqb, lt-ltb, le-ltb}
+use lib.Dec.{eqb}
+use lib.ListN.{length, getD, set, take, drop, length-set, length-drop, drop-of-length-le, List·getD-eq-default}
+use lib.Seq.{drop-cons, getD-take, getD-drop, length-take-le, getD-set-same, getD-set-other, ext-getD}
+use Rattle.base.specs.Walks.{firstFrom}
+use Rattle.base.proofs.Walks.{skip-at, stop-at, end-at}
+use Rattle.base.proofs.Repeat.{Going, less-by, again-by, done-by}
+use Rattle.base.proofs.Sums.{sum, sum-most}
+use Rattle.align.specs.declared.spots.Found.{Found}
+use Rattle.align.specs.declared.spots.Found.the-variants as founds
+use Rattle.align.specs.Steps.{toldFound}
+use Rattle.checker.specs.Records.{index}
+use Rattle.builder.specs.Marks.{plainMark, plainMarks, inQ, opening, nextOpening, opened, allOpened, transitions, cover, covered, coverFrom, allCovered, finalMarks}
+use Rattle.builder.proofs.Marks.{opening-why, fours, openings, fours-most}
+
+-- ---- plain marks
+module _ (i x : ℕ) where
+  pub plain-zero : x ≡ 0 → 0 ≡ plainMark i x
+  unfolding plainMark
+  plain-zero e = rw (e, plainMark)
+
+  pub plain-four : (x ≡ 0 → ⊥) → i < 4096 → 4 ≡ plainMark i x
+  unfolding plainMark
+  plain-four e l = rw (ne-eqb x 0 e, plainMark) (rw (lt-ltb i 4096 l, plainMark))
+
+  pub plain-two : (x ≡ 0 → ⊥) → 4096 ≤ i → 2 ≡ plainMark i x
+  unfolding plainMark
+  plain-two e l = rw (ne-eqb x 0 e, plainMark) (rw (le-ltb i 4096 l, plainMark))
+
+-- ---- open or kept
+module _ (m : List ℕ) (n : ℕ) where
+  pub in-past : length m ≤ n → false ≡ inQ m n
+  unfolding inQ
+  in-past l = let e : getD m n 0 ≡ 0 = List·getD-eq-default m 0 l in rw e
+
+  pub in-one : getD m n 0 ≡ 1 → true ≡ inQ m n
+  unfolding inQ
+  in-one e = rw e
+
+  pub in-two : (getD m n 0 ≡ 1 → ⊥) → eqb (getD m n 0) 2 ≡ inQ m n
+  unfolding inQ
+  in-two e = rw (ne-eqb (getD m n 0) 1 e)
+
+module _ (t m : List ℕ) (i x : ℕ) where
+  pub opens-not : (x ≡ 4 → ⊥) → false ≡ opening t m i x
+  unfolding opening
+  opens-not e = rw (ne-eqb x 4 e)
+
+  pub opens-first : {r : Bool} → x ≡ 4 → r ≡ inQ m (getD t (2 * i) 0) → r ≡ true → true ≡ opening t m i x
+  unfolding opening
+  opens-first e b c = let z : index i 0 ≡ 2 * i = omega arith in rw (e, z, sym b ∙ c)
+
+  pub opens-second : {r s : Bool} → x ≡ 4 → r ≡ inQ m (getD t (2 * i) 0) → r ≡ false → s ≡ inQ m (getD t (2 * i + 1) 0) → s ≡ opening t m i x
+  unfolding opening
+  opens-second e b c d = let z : index i 0 ≡ 2 * i = omega arith in rw (e, z, sym b ∙ c) d
+
+-- ---- the loop that looks for a pair to open
+pub record Seeking (t m : List ℕ) (i : ℕ) : Type 0 where
+  pub most : i ≤ 4096
+  pub same : nextOpening t m ≡ firstFrom (opening t m) i (drop i (take 4096 m))
+
+module _ (t m : List ℕ) (l : length m ≡ 4160) where
+  pub seek-start : Seeking t m 0
+  unfolding nextOpening
+  seek-start = record { most = omega arith; same = refl }
+
+  long : length (take 4096 m) ≡ 4096
+  long = length-take-le 4096 m (omega arith)
+
+  module _ (i : ℕ) (S : Seeking t m i) where
+    pub seek-skip : {r : Bool} → i < 4096 → r ≡ opening t m i (getD m i 0) → r ≡ false → Seeking t m (i + 1)
+    seek-skip b e f =
+        record {
+          most = omega arith;
+          same = S .same ∙ skip-at (opening t m) (take 4096 m) i (omega (arith, long)) (rw (getD-take 4096 m i 0 b) (sym e ∙ f));
+        }
+
+    pub seek-here : {r : Bool} → i < 4096 → r ≡ opening t m i (getD m i 0) → r ≡ true → some i ≡ nextOpening t m
+    seek-here b e f = sym (S .same ∙ stop-at (opening t m) (take 4096 m) i (omega (arith, long)) (rw (getD-take 4096 m i 0 b) (sym e ∙ f)))
+
+    pub seek-end : 4096 ≤ i → none ≡ nextOpening t m
+    seek-end b = sym (S .same ∙ end-at (opening t m) (take 4096 m) i (omega (arith, long)))
+
+-- ---- the loop that opens
+pub record Opening (t m₀ m : List ℕ) : Type 0 where
+  pub going : Going (nextOpening t) opened (fours t) (λ x. length x ≡ 4160) (allOpened t m₀) m
+
+pub open-start : (t m : List ℕ) → length m ≡ 4160 → Opening t m m
+unfolding allOpened
+open-start t m l = record { going = record { good = l; turns = 4096; enough = fours-most t m; same = refl } }
+
+module _ (t : List ℕ) {m₀ m : List ℕ} {f : Found} (O : Opening t m₀ m) (e : toldFound f ≡ nextOpening t m) where
+  pub open-below : {n : ℕ} → f ≡ founds.At n → n < length m
+  open-below {n} a = omega (arith, O .going .good, opening-why t m n (O .going .good) (sym e ∙ ap toldFound a) .0)
+
+  pub open-less : {n : ℕ} {m′ : List ℕ} → f ≡ founds.At n → m′ ≡ set m n 1 → fours t m′ < fours t m
+  open-less a q = less-by (nextOpening t) opened (fours t) (λ x. length x ≡ 4160) (openings t) (O .going .good) (sym e ∙ ap toldFound a) q
+
+  pub open-again : {n : ℕ} {m′ : List ℕ} → f ≡ founds.At n → m′ ≡ set m n 1 → Opening t m₀ m′
+  open-again a q = record { going = again-by (nextOpening t) opened (fours t) (λ x. length x ≡ 4160) (openings t) (O .going) (sym e ∙ ap toldFound a) q }
+
+  pub open-done : f ≡ founds.Nothing → m ≡ allOpened t m₀
+  open-done a = done-by (nextOpening t) opened (fours t) (λ x. length x ≡ 4160) (openings t) (O .going) (sym e ∙ ap toldFound a)
+
+-- ---- covering
+module _ (m : List ℕ) (n : ℕ) where
+  pub cover-yes : n < length m → getD m n 0 ≡ 4 → set m n 3 ≡ cover m n
+  unfolding cover
+  cover-yes l e = rw (e, cover)
+
+  pub cover-no : (getD m n 0 ≡ 4 → ⊥) → m ≡ cover m n
+  unfolding cover
+  cover-no e = rw (ne-eqb (getD m n 0) 4 e, cover)
+
+  pub cover-past : length m ≤ n → m ≡ cover m n
+  cover-past l = cover-no (λ e. omega (arith, List·getD-eq-default m 0 {n = n} l))
+
+  length-cover : length (cover m n) ≡ length m
+  length-cover = dite (ℕ-discrete (getD m n 0) 4) (λ e. go e (decLt n (length m))) (λ e. ap length (sym (cover-no e)))
+    where
+      go : getD m n 0 ≡ 4 → Dec (n < length m) → length (cover m n) ≡ length m
+      go e (yes l) = ap length (sym (cover-yes l e)) ∙ length-set m n 3
+      go e (no l) = ap length (sym (cover-past (omega arith)))
+
+  -- the open pairs stay open, and no others become so
+  cover-ones : (k : ℕ) → eqb (getD (cover m n) k 0) 1 ≡ eqb (getD m k 0) 1
+  cover-ones k = dite (ℕ-discrete (getD m n 0) 4) (λ e. go e (decLt n (length m)) (ℕ-discrete k n)) (λ e. rw (← cover-no e))
+    where
+      go : getD m n 0 ≡ 4 → Dec (n < length m) → Dec (k ≡ n) → eqb (getD (cover m n) k 0) 1 ≡ eqb (getD m k 0) 1
+      go e (no l) d = rw (← cover-past (omega arith))
+      go e (yes l) (yes z) = rw (← cover-yes l e, z, e, getD-set-same m n 3 0 l)
+      go e (yes l) (no z) = rw (← cover-yes l e, getD-set-other m n k 3 0 z)
+
+module _ (t m : List ℕ) (i : ℕ) where
+  pub from-not : (getD m i 0 ≡ 1 → ⊥) → m ≡ coverFrom t m i
+  unfolding coverFrom
+  from-not e = rw (ne-eqb (getD m i 0) 1 e, coverFrom)
+
+  pub from-open : {m₁ m₂ : List ℕ} → getD m i 0 ≡ 1 → m₁ ≡ cover m (getD t (2 * i) 0) → m₂ ≡ cover m₁ (getD t (2 * i + 1) 0) → m₂ ≡ coverFrom t m i
+  unfolding coverFrom
+  from-open e a b = b ∙ ap (λ (x : List ℕ). cover x (getD t (2 * i + 1) 0)) a ∙ (let z : index i 0 ≡ 2 * i = omega arith in rw (e, coverFrom) (rw z))
+
+  from-is : getD m i 0 ≡ 1 → coverFrom t m i ≡ cover (cover m (getD t (index i 0) 0)) (getD t (index i 1) 0)
+  unfolding coverFrom
+  from-is e = rw (e, coverFrom)
+
+  from-ones : (k : ℕ) → eqb (getD (coverFrom t m i) k 0) 1 ≡ eqb (getD m k 0) 1
+  from-ones k =
+      dite (ℕ-discrete (getD m i 0) 1)
+      (λ e. rw (from-is e) (cover-ones (cover m (getD t (index i 0) 0)) (getD t (index i 1) 0) k ∙ cover-ones m (getD t (index i 0) 0) k))
+      (λ e. rw (← from-not e))
+
+  length-from : length (coverFrom t m i) ≡ length m
+  length-from =
+      dite (ℕ-discrete (getD m i 0) 1)
+      (λ e. ap length (from-is e) ∙ length-cover (cover m (getD t (index i 0) 0)) (getD t (index i 1) 0) ∙ length-cover m (getD t (index i 0) 0))
+      (λ e. ap length (sym (from-not e)))
+
+-- lists with the same open pairs have the same transitions
+same-transitions : (x y t : List ℕ) → length x ≡ length y → ((k : ℕ) → eqb (getD x k 0) 1 ≡ eqb (getD y k 0) 1) → transitions x t ≡ transitions y t
+unfolding transitions
+same-transitions [] [] t l h = refl
+same-transitions [] (b ∷ y) t l h = absurd (omega arith)
+same-transitions (a ∷ x) [] t l h = absurd (omega arith)
+same-transitions (a ∷ x) (b ∷ y) [] l h = refl
+same-transitions (a ∷ x) (b ∷ y) (u ∷ []) l h = refl
+same-transitions (a ∷ x) (b ∷ y) (u ∷ (v ∷ t)) l h =
+    let z = same-transitions x y t (omega arith) (λ k. h (suc k)) in
+    λ i. elim (h 0 i) [ true ↦ u ∷ (v ∷ z i) | false ↦ z i ]
+
+-- the loop that covers: what is left to do leads to the whole
+pub record Covering (t m₀ m : List ℕ) (i : ℕ) : Type 0 where
+  pub long : length m ≡ 4160
+  pub most : i ≤ 4096
+  pub same : allCovered t m₀ ≡ covered m (transitions (drop i m) (drop (2 * i) t))
+
+pub cover-start : (t m : List ℕ) → length m ≡ 4160 → Covering t m m 0
+unfolding allCovered
+cover-start t m l = record { long = l; most = omega arith; same = refl }
+
+module _ (t : List ℕ) (w : length t ≡ 8192) where
+  heads : (i : ℕ) → i < 4096 → drop (2 * i) t ≡ getD t (index i 0) 0 ∷ (getD t (index i 1) 0 ∷ drop (2 * (i + 1)) t)
+  heads i l =
+      let a : index i 0 ≡ 2 * i = omega arith in
+      let b : index i 1 ≡ suc (2 * i) = omega arith in
+      let c : 2 * (i + 1) ≡ suc (suc (2 * i)) = omega arith in
+      rw (a, b, c) (drop-cons t (2 * i) 0 (omega arith) ∙ ap (λ (x : List ℕ). getD t (2 * i) 0 ∷ x) (drop-cons t (suc (2 * i)) 0 (omega arith)))
+
+  open-step : (m : List ℕ) (i : ℕ) → i < 4096 → length m ≡ 4160 → covered m (transitions (drop i m) (drop (2 * i) t)) ≡ covered (coverFrom t m i) (transitions (drop (i + 1) m) (drop (2 * (i + 1)) t))
+  unfolding transitions covered
+  open-step m i l z =
+      rw (drop-cons m i 0 (omega arith), heads i l, add-one i)
+      (dite (ℕ-discrete (getD m i 0) 1) (λ e. rw (e, transitions) (rw (from-is t m i e))) (λ e. rw (ne-eqb (getD m i 0) 1 e, transitions) (rw (← from-not t m i e))))
+
+  pub cover-more : {m₀ m m′ : List ℕ} {i : ℕ} → Covering t m₀ m i → i < 4096 → m′ ≡ coverFrom t m i → Covering t m₀ m′ (i + 1)
+  cover-more {m = m} {m′ = m′} {i = i} C l e =
+      rw e
+      (record {
+        long = length-from t m i ∙ C .long;
+        most = omega arith;
+        same =
+            C .same ∙ open-step m i l (C .long)
+            ∙ ap (covered (coverFrom t m i))
+            (sym (same-transitions (drop (i + 1) (coverFrom t m i)) (drop (i + 1) m) (drop (2 * (i + 1)) t) (simp (length-drop, length-from) refl)
+            (λ k. rw (getD-drop, getD-drop) (from-ones t m i (i + 1 + k)))));
+      })
+
+  pub cover-done : {m₀ m : List ℕ} {i : ℕ} → Covering t m₀ m i → 4096 ≤ i → m ≡ allCovered t m₀
+  unfolding covered transitions
+  cover-done {m = m} {i = i} C l =
+      let e : drop (2 * i) t ≡ [] = drop-of-length-le t {i = 2 * i} (omega arith) in
+      sym (C .same ∙ rw e (none-left (drop i m)))
+    where
+      none-left : (x : List ℕ) → covered m (transitions x []) ≡ m
+      none-left [] = refl
+      none-left (a ∷ x) = refl
+
+-- ---- all of it
+pub rank-is : (n : ℕ) (t m : List ℕ) {m₁ m₂ m₃ m₄ : List ℕ} → m₁ ≡ plainMarks m → m₂ ≡ set m₁ n 1 → m₃ ≡ allOpened t m₂ → m₄ ≡ allCovered t m₃ → m₄ ≡ finalMarks n t m
+unfolding finalMarks
+rank-is n t m a b c d = d ∙ ap (allCovered t) (c ∙ ap (allOpened t) (b ∙ ap (λ (x : List ℕ). set x n 1) a))

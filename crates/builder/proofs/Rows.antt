@@ -1,0 +1,110 @@
+-- The row of a pair in hand, in the form in which the code meets it. Assumes nothing.
+use mathlib.Core.Path.{_≡_, refl, sym, ap, subst, _∙_}
+use mathlib.Core.Bool.{Bool, true, false, not}
+use mathlib.Core.List.{List}
+use mathlib.Core.Option.{Option, none, some}
+use Prim.Native.Nat.{ℕ, _+_, _/_, _%_, _^_, _≤_, _<_}
+use native.Mathlib.Numerals.{add-one}
+use native.Mathlib.Omega.{arith}
+use borrow.Author.Tests.{lt-ltb, le-ltb, eq-eqb, ne-eqb}
+use lib.Dec.{eqb, ltb}
+use lib.ListN.{length, getD, set, drop}
+use Rattle.base.specs.Walks.{firstFrom}
+use Rattle.base.proofs.Walks.{skip-at, stop-at, end-at}
+use Rattle.chart.specs.declared.operations.Operation.{Operation}
+use Rattle.chart.specs.declared.places.OldPlace.{OldPlace}
+use Rattle.chart.specs.declared.places.NewPlace.{NewPlace}
+use Rattle.chart.specs.Charts.{Chart, size, to, operation, leaving}
+use Rattle.chart.specs.Faultless.{FaultlessChart}
+use Rattle.chart.specs.Operations.{operandsFit}
+use Rattle.chart.specs.Places.{oldOf, newOf}
+use Rattle.align.specs.declared.spots.Spot.{Spot}
+use Rattle.align.specs.declared.spots.Aligned.{Aligned}
+use Rattle.align.specs.Steps.{told, step}
+use Rattle.align.proofs.Parts.{row-of, row-same}
+use Rattle.builder.specs.Graphs.{Graph, graph, marked, unwait}
+use Rattle.builder.specs.Turns.{rowsOf, leadsTo, lowest, setNow, stepOf, processed, rowDone, secondDone, taken}
+use Rattle.builder.proofs.Graphs.{marked-yes, marked-no}
+use Rattle.builder.proofs.Steps.{row-to}
+use Rattle.builder.proofs.Turns.{step-of-fits}
+
+module _ (new : Chart) (n r : ℕ) {q′ : NewPlace} {part : List ℕ} (a : q′ ≡ newOf n) (b : part ≡ leaving (new .table) (q′ .0)) where
+  part-is : part ≡ rowsOf new n
+  part-is = b ∙ ap (λ (x : NewPlace). leaving (new .table) (x .0)) a
+
+  pub part-there : r < length part / 6 → r < size (rowsOf new n)
+  part-there l = subst (λ (x : List ℕ). r < length x / 6) part-is l
+
+  pub part-fit : FaultlessChart new → r < length part / 6 → operandsFit (operation part r) ≡ true
+  part-fit G l =
+      let (i, z) = row-of (new .table) (n % 64) r (part-there l) in
+      let e = row-same (new .table) (n % 64) z .operation-same in
+      subst (λ (x : List ℕ). operandsFit (operation x r) ≡ true) (sym part-is) (subst (λ (o : Operation). operandsFit o ≡ true) (sym e) (G .rows i (z .inside) .fit))
+
+  part-leads : (q : NewPlace) → q .0 ≡ to part r → q ≡ leadsTo new n r
+  part-leads q e = let z : q .0 ≡ to (rowsOf new n) r = e ∙ ap (λ (x : List ℕ). to x r) part-is in λ i. record { 0 = z i }
+
+  pub part-below : (q : NewPlace) → FaultlessChart new → r < length part / 6 → q .0 ≡ to part r → q .0 < 64
+  part-below q G l e = omega (arith, ap (λ (x : NewPlace). x .0) (part-leads q e), row-to new G (n % 64) r (part-there l), G .few-places)
+
+  module _ (old : Chart) (v : ℕ) {p : OldPlace} (came : Aligned) (o : p ≡ oldOf n)
+      (s : told came ≡ step old new (record { place = p; set = v }) (operation part r) (record { 0 = to part r })) where
+    stepped : told came ≡ stepOf old new n v r
+    unfolding stepOf
+    stepped = s ∙ (λ i. step old new (record { place = o i; set = v }) (operation (part-is i) r) (record { 0 = to (part-is i) r }))
+
+    pub came-fits : FaultlessChart old → FaultlessChart new → n < 4096 → v < 2 ^ 64 → r < length part / 6 → (h : Spot) → told came ≡ some h → h .place .0 < 64
+    came-fits F G l w k h e = step-of-fits old new F G n v r (part-there k) 64 (F .few-places) (omega arith) w h (sym stepped ∙ e) .place
+
+    pub row-there : (g : Graph) {g′ : Graph} (q : NewPlace) → r < length part / 6 → q .0 ≡ to part r → g′ ≡ processed (old .alarm) g n r q (told came) → g′ ≡ rowDone old new g n v r
+    unfolding rowDone
+    row-there g q l e h =
+        h ∙ (λ i. processed (old .alarm) g n r (part-leads q e i) (stepped i)) ∙ rw (lt-ltb r (size (rowsOf new n)) (part-there l), rowDone)
+
+  pub row-spare : (old : Chart) (v : ℕ) (g : Graph) → length part / 6 ≤ r → g ≡ rowDone old new g n v r
+  unfolding rowDone
+  row-spare old v g l = rw (le-ltb r (size (rowsOf new n)) (subst (λ (x : List ℕ). length x / 6 ≤ r) part-is l), rowDone)
+
+-- ---- the set of the pair in hand
+module _ (m s : List ℕ) (n v : ℕ) where
+  pub now-own : (getD m n 0 ≡ 0 → ⊥) → getD s n 0 ≡ setNow m s n v
+  unfolding setNow
+  now-own e = rw (marked-yes m n (omega arith), setNow)
+
+  pub now-had : getD m n 0 ≡ 0 → v ≡ setNow m s n v
+  unfolding setNow
+  now-had e = rw (marked-no m n e, setNow)
+
+-- ---- a turn: the pair waits no more, and its two rows are done
+pub turn-is : (old new : Chart) (m t s w : List ℕ) (n : ℕ) {w₁ m₂ t₂ s₂ w₂ : List ℕ} {v : ℕ} {g : Graph}
+    → w₁ ≡ set w n 0
+    → graph m₂ t₂ s₂ w₂ ≡ rowDone old new (graph m t s w₁) n (getD s n 0) 0
+    → v ≡ setNow m₂ s₂ n (getD s n 0)
+    → g ≡ rowDone old new (graph m₂ t₂ s₂ w₂) n v 1
+    → g ≡ taken old new (graph m t s w) n
+unfolding taken secondDone unwait
+turn-is old new m t s w n {m₂ = m₂} {t₂ = t₂} {s₂ = s₂} {w₂ = w₂} a b c d =
+    d
+    ∙ (λ i. rowDone old new (graph m₂ t₂ s₂ w₂) n (c i) 1)
+    ∙ (λ i. rowDone old new (b i) n (setNow (b i .marks) (b i .sets) n (getD s n 0)) 1)
+    ∙ ap (λ (x : List ℕ). secondDone old new (rowDone old new (graph m t s x) n (getD s n 0) 0) n (getD s n 0)) a
+
+-- ---- the loop that looks for the lowest waiting pair
+pub record Scanned (w : List ℕ) (i : ℕ) : Type 0 where
+  pub most : i ≤ length w
+  pub same : lowest w ≡ firstFrom (λ k x. not (eqb x 0)) i (drop i w)
+
+module _ (w : List ℕ) where
+  pub scan-start : Scanned w 0
+  unfolding lowest
+  scan-start = record { most = omega arith; same = refl }
+
+  module _ (i : ℕ) (S : Scanned w i) where
+    pub scan-skip : i < length w → getD w i 0 ≡ 0 → Scanned w (i + 1)
+    scan-skip l e = record { most = omega arith; same = S .same ∙ skip-at (λ k x. not (eqb x 0)) w i l (rw (eq-eqb (getD w i 0) 0 e)) }
+
+    pub scan-here : i < length w → (getD w i 0 ≡ 0 → ⊥) → some i ≡ lowest w
+    scan-here l e = sym (S .same ∙ stop-at (λ k x. not (eqb x 0)) w i l (rw (ne-eqb (getD w i 0) 0 e)))
+
+    pub scan-end : length w ≤ i → none ≡ lowest w
+    scan-end l = sym (S .same ∙ end-at (λ k x. not (eqb x 0)) w i l)

@@ -1,0 +1,67 @@
+-- `builder::inner::finish::finish` meets its contract. Assumes nothing.
+use Rattle.builder.proofs.Finishing.{finish-alone, finish-joint, start-alone, start-joint}
+use Rattle.builder.proofs.Finishing.{finish-alone, finish-joint}
+use borrow.Author.Needs.{needs}
+use Rattle.builder.proofs.inner.finish.finish.Statement.{statement}
+use Rattle.builder.proofs.inner.finish.finish.Tie as tie
+
+is-alone-requires : tie.Need-is-alone-requires
+is-alone-requires c κs = search needs
+
+leave-alone-requires : tie.Need-leave-alone-requires
+leave-alone-requires c κs = search needs
+
+first-kept-requires : tie.Need-first-kept-requires
+first-kept-requires c κs = search needs
+
+same-length : tie.Need-same-length
+same-length c = search needs
+
+same-length-2 : tie.Need-same-length-2
+same-length-2 c = search needs
+
+same-length-3 : tie.Need-same-length-3
+same-length-3 c = search needs
+
+same-length-4 : tie.Need-same-length-4
+same-length-4 c = search needs
+
+returns : tie.Need-returns
+returns c = (search finish-alone, search start-alone)
+
+first-pair-requires : tie.Need-first-pair-requires
+first-pair-requires c κs = search needs
+
+redirect-all-requires : tie.Need-redirect-all-requires
+redirect-all-requires c κs = search needs
+
+rank-requires : tie.Need-rank-requires
+rank-requires c κs = search needs
+
+same-length-5 : tie.Need-same-length-5
+same-length-5 c = search needs
+
+same-length-6 : tie.Need-same-length-6
+same-length-6 c = search needs
+
+returns-2 : tie.Need-returns-2
+returns-2 c = (search finish-joint, search start-joint)
+
+pub finish-spec : {M : Type 1} → statement M
+finish-spec =
+    tie.close
+    (tie.spec
+    is-alone-requires
+    leave-alone-requires
+    first-kept-requires
+    same-length
+    same-length-2
+    same-length-3
+    same-length-4
+    returns
+    first-pair-requires
+    redirect-all-requires
+    rank-requires
+    same-length-5
+    same-length-6
+    returns-2)

@@ -1,0 +1,58 @@
+-- What a build answers, and what it leaves in the four buffers ("Who can cause a refusal", "Four questions for each public call").
+use mathlib.Core.Path.{_≡_}
+use mathlib.Core.Bool.{not}
+use mathlib.Core.List.{List}
+use mathlib.Core.Option.{Option, none, some}
+use Prim.Native.Nat.{ℕ}
+use lib.ListN.{length}
+use Rattle.base.specs.Answers.{Answer, given, refused}
+use Rattle.base.specs.Options.{orElse}
+use Rattle.base.specs.Refusals.{Refusal, refusedIf}
+use Rattle.base.specs.Says.{Test, eq, _and_, bool}
+use Rattle.base.specs.Walks.{count}
+use Rattle.chart.specs.Charts.{Chart}
+use Rattle.chart.specs.Faults.{fault}
+use Rattle.checker.specs.Records.{Record, graphOf}
+use Rattle.checker.specs.Checks.{sized, inChart}
+use Rattle.builder.specs.declared.answers.Summary.{Summary}
+use Rattle.builder.specs.declared.answers.Built.{Built}
+use Rattle.builder.specs.declared.answers.Built.the-variants as builts
+use Rattle.builder.specs.declared.answers.Verdict.{Verdict}
+use Rattle.builder.specs.declared.answers.Verdict.the-variants as verdicts
+use Rattle.builder.specs.Graphs.{Graph}
+use Rattle.builder.specs.Builds.{built, recorded}
+
+-- what the code's answers say
+abbrev pub told : Built → Answer Summary
+told (builts.Done s) = given s
+told (builts.Refused n c p) = refused n c p
+
+abbrev pub toldVerdict : Verdict → Option Refusal
+toldVerdict verdicts.Sound = none
+toldVerdict (verdicts.Unsound n c p) = some (record { number = n; chart = c; position = p })
+
+-- "21, a lent length differs from the stated one [..], or a chart table's isn't a multiple of 6"
+unfoldable pub lent : List ℕ → List ℕ → Graph → Test
+lent old new g = eq (length (g .waiting)) 4096 and sized old new (graphOf (g .marks) (g .targets) (g .sets))
+
+-- "The answer has the start and the counts of marks 1, 2 and 3."
+unfoldable pub summary : ℕ → List ℕ → Summary
+summary start marks = record { start = start; opened = count 1 marks; kept = count 2 marks; covered = count 3 marks }
+
+module _ (old new : Chart) (g : Graph) where
+  -- the refusal that is due, if any: 21 "Always first", then "the old chart comes before the new"
+  unfoldable pub refusal : Option Refusal
+  refusal =
+      orElse (refusedIf (not (bool (lent (old .table) (new .table) g))) 21 0 0)
+      (orElse (inChart 0 (fault old)) (inChart 1 (fault new)))
+
+  unfoldable pub answered : Answer Summary
+  answered =
+      elim refusal [
+        | none ↦ given (summary (recorded old new .start) (recorded old new .graph .marks))
+        | some r ↦ refused (r .number) (r .chart) (r .position)
+      ]
+
+  -- "lent memory is untouched" by a refusal; else "What these held before has no effect."
+  unfoldable pub left : Graph
+  left = elim refusal [ none ↦ built old new | some r ↦ g ]

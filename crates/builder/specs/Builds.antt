@@ -1,0 +1,56 @@
+-- A whole build: what it leaves in the four buffers, and what it answers.
+use mathlib.Core.Bool.{Bool, true, false, _||_, not}
+use mathlib.Core.List.{List, map}
+use Prim.Native.Nat.{ℕ}
+use lib.Dec.{ltb}
+use lib.ListN.{set, replicate}
+use Rattle.base.specs.Says.{bool}
+use Rattle.chart.specs.declared.charts.Head.{Head}
+use Rattle.chart.specs.Charts.{Chart}
+use Rattle.chart.specs.Places.{keptNumber, newOf}
+use Rattle.align.specs.Steps.{fair}
+use Rattle.checker.specs.Records.{Record, recordOf}
+use Rattle.checker.specs.Rules.{headOf, oldStart, newStart, startPair, startKept}
+use Rattle.builder.specs.Graphs.{Graph, graph, marked}
+use Rattle.builder.specs.Turns.{explored}
+use Rattle.builder.specs.Marks.{finalMarks}
+
+-- lines 20 and 21: "At the end a target whose new place is kept becomes that kept node."
+unfoldable pub redirected : List ℕ → ℕ → ℕ
+redirected m x =
+    elim (ltb x 4096) [ false ↦ x | true ↦ elim (marked m (keptNumber (newOf x))) [ true ↦ keptNumber (newOf x) | false ↦ x ] ]
+
+unfoldable pub finalTargets : Graph → List ℕ
+finalTargets g = map (redirected (g .marks)) (g .targets)
+
+-- "the graph is node 4,096 alone, kept": every other mark 0, all targets 65535, all sets 0
+unfoldable pub lone : Head → Graph
+lone new =
+    graph (set (replicate 4160 0) (startKept new) 2) (replicate 8192 65535) (replicate 4096 0) (replicate 4096 0)
+
+module _ (old new : Head) where
+  -- line 19: "If place 0 is kept, or is the new alarm without being the old one"
+  unfoldable pub alone : List ℕ → Bool
+  alone m = marked m (startKept new) || not (bool (fair (old .alarm) (new .alarm) (oldStart old) (newStart new)))
+
+  -- lines 19 to 21, then Algorithm 1
+  unfoldable pub finished : Graph → Graph
+  finished g =
+      elim (alone (g .marks)) [
+        | true ↦ lone new
+        | false ↦ graph (finalMarks (startPair old new) (finalTargets g) (g .marks)) (finalTargets g) (g .sets) (g .waiting)
+      ]
+
+  -- "and that is the start; else the start is 0"
+  unfoldable pub startOf : List ℕ → ℕ
+  startOf m = elim (alone m) [ true ↦ startKept new | false ↦ startPair old new ]
+
+module _ (old new : Chart) where
+  -- what a build without refusal leaves, whatever the buffers held
+  unfoldable pub built : Graph
+  built = finished (headOf old) (headOf new) (explored old new)
+
+  -- the record of a build: "what a whole build without refusal, on buffers holding anything, leaves in marks, targets and sets, with the
+  -- start it answers"
+  unfoldable pub recorded : Record
+  recorded = recordOf (startOf (headOf old) (headOf new) (explored old new .marks)) (built .marks) (built .targets) (built .sets)

@@ -1,0 +1,6 @@
+-- The definitions of a build, in the order in which to read them.
+pub mod Graphs
+pub mod Turns
+pub mod Marks
+pub mod Builds
+pub mod Answers

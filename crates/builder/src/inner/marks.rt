@@ -1,0 +1,141 @@
+// Algorithm 1: the final marks, from those between turns and the final targets.
+ghost use mathlib.Core.Path.{_≡_};
+ghost use Prim.Native.Nat.{_<_};
+ghost use lib.ListN.{length, getD};
+ghost use Rattle.align.specs.Steps.{toldFound};
+ghost use Rattle.builder.specs.Marks.{plainMark, plainMarks, inQ, opening, nextOpening, allOpened, cover, coverFrom, allCovered, finalMarks};
+use crate::inner::buffers;
+use align::spots::Found;
+
+fn plain_mark(i: usize, x: u8) -> u8
+    ensures { λ r. ⌜ r ≡ plainMark i x ⌝ }
+{
+    if x == 0 {
+        return 0;
+    }
+    if i < 4096 {
+        return 4;
+    }
+    2
+}
+
+// Kept places 2, pairs 4.
+fn plain(marks: &mut [u8])
+    ensures { λ _. ⌜ now (marks .exit) ≡ plainMarks (now (marks .entry)) ⌝ }
+{
+    let mut i = 0;
+    while i < marks.len() {
+        let x = marks[i];
+        marks[i] = plain_mark(i, x);
+        i += 1;
+    }
+}
+
+// Whether a target is an open or kept node.
+fn in_q(marks: &[u8], n: u16) -> bool
+    ensures { λ r. ⌜ r ≡ inQ (now (marks .entry)) n ⌝ }
+{
+    let at = n as usize;
+    if marks.len() <= at {
+        return false;
+    }
+    let x = marks[at];
+    if x == 1 {
+        return true;
+    }
+    x == 2
+}
+
+// Whether pair i is beyond and has such a target.
+fn opens(marks: &[u8], targets: &[u16], i: usize) -> bool
+    requires { ⌜ (length (now marks) ≡ 4160) × (length (now targets) ≡ 8192) × (i < 4096) ⌝ }
+    ensures { λ r. ⌜ r ≡ opening (now (targets .entry)) (now (marks .entry)) i (getD (now (marks .entry)) i 0) ⌝ }
+{
+    if marks[i] != 4 {
+        return false;
+    }
+    let at = 2 * i;
+    if in_q(marks, targets[at]) {
+        return true;
+    }
+    in_q(marks, targets[at + 1])
+}
+
+// The lowest pair that is to be opened.
+fn next_opening(marks: &[u8], targets: &[u16]) -> Found
+    requires { ⌜ (length (now marks) ≡ 4160) × (length (now targets) ≡ 8192) ⌝ }
+    ensures { λ r. ⌜ toldFound r ≡ nextOpening (now (targets .entry)) (now (marks .entry)) ⌝ }
+{
+    let mut i = 0;
+    while i < 4096 {
+        if opens(marks, targets, i) {
+            return Found::At(i);
+        }
+        i += 1;
+    }
+    Found::Nothing
+}
+
+// All pairs from which an open or kept node is a target.
+fn open_all(marks: &mut [u8], targets: &[u16])
+    requires { ⌜ (length (now marks) ≡ 4160) × (length (now targets) ≡ 8192) ⌝ }
+    ensures { λ _. ⌜ now (marks .exit) ≡ allOpened (now (targets .entry)) (now (marks .entry)) ⌝ }
+{
+    loop {
+        match next_opening(&*marks, targets) {
+            Found::At(n) => {
+                buffers::put8(marks, n, 1);
+            }
+            Found::Nothing => {
+                return;
+            }
+        }
+    }
+}
+
+// A target of an open pair that is beyond becomes covered.
+fn cover(marks: &mut [u8], n: u16)
+    ensures { λ _. ⌜ now (marks .exit) ≡ cover (now (marks .entry)) n ⌝ }
+{
+    let at = n as usize;
+    if at < marks.len() {
+        if marks[at] == 4 {
+            marks[at] = 3;
+        }
+    }
+}
+
+// The targets of pair i, if it is open.
+fn cover_from(marks: &mut [u8], targets: &[u16], i: usize)
+    requires { ⌜ (length (now marks) ≡ 4160) × (length (now targets) ≡ 8192) × (i < 4096) ⌝ }
+    ensures { λ _. ⌜ now (marks .exit) ≡ coverFrom (now (targets .entry)) (now (marks .entry)) i ⌝ }
+{
+    if marks[i] == 1 {
+        let at = 2 * i;
+        cover(marks, targets[at]);
+        cover(marks, targets[at + 1]);
+    }
+}
+
+// The other targets of open pairs.
+fn cover_all(marks: &mut [u8], targets: &[u16])
+    requires { ⌜ (length (now marks) ≡ 4160) × (length (now targets) ≡ 8192) ⌝ }
+    ensures { λ _. ⌜ now (marks .exit) ≡ allCovered (now (targets .entry)) (now (marks .entry)) ⌝ }
+{
+    let mut i = 0;
+    while i < 4096 {
+        cover_from(marks, targets, i);
+        i += 1;
+    }
+}
+
+// All of it, from the start pair n.
+pub fn rank(marks: &mut [u8], targets: &[u16], n: usize)
+    requires { ⌜ (length (now marks) ≡ 4160) × (length (now targets) ≡ 8192) × (n < 4096) ⌝ }
+    ensures { λ _. ⌜ now (marks .exit) ≡ finalMarks n (now (targets .entry)) (now (marks .entry)) ⌝ }
+{
+    plain(marks);
+    buffers::put8(marks, n, 1);
+    open_all(marks, targets);
+    cover_all(marks, targets);
+}

@@ -1,0 +1,199 @@
+// Algorithm 2: the rows of a waiting pair, and the turns of a build.
+ghost use mathlib.Core.Path.{_≡_};
+ghost use mathlib.Core.Option.{some};
+ghost use Prim.Native.Nat.{_<_};
+ghost use lib.ListN.{length};
+ghost use Rattle.chart.specs.Charts.{charted};
+ghost use Rattle.chart.specs.Faultless.{FaultlessChart};
+ghost use Rattle.align.specs.declared.spots.Spot.{Spot};
+ghost use Rattle.align.specs.Steps.{told, toldFound};
+ghost use Rattle.builder.specs.Graphs.{graph, Sized};
+ghost use Rattle.builder.specs.Turns.{lowest, setNow, arrived, processed, rowDone, taken};
+use crate::inner::buffers;
+use crate::inner::graphs;
+use align::inner::step::step;
+use align::spots::Aligned;
+use align::spots::Found;
+use align::spots::Spot;
+use chart::charts::Head;
+use chart::inner::pairs::kept;
+use chart::inner::pairs::new_of;
+use chart::inner::pairs::old_of;
+use chart::inner::pairs::pair;
+use chart::inner::rows::new_to;
+use chart::inner::rows::rows_of;
+use chart::places::NewPlace;
+use chart::places::Place;
+
+// The lowest pair that waits.
+pub fn lowest(waiting: &[u8]) -> Found
+    ensures { λ r. ⌜ toldFound r ≡ lowest (now (waiting .entry)) ⌝ }
+{
+    let mut i = 0;
+    while i < waiting.len() {
+        if waiting[i] != 0 {
+            return Found::At(i);
+        }
+        i += 1;
+    }
+    Found::Nothing
+}
+
+// Row r of pair n leads to new place q by a step that came to h.
+fn arrive(
+    old: Head,
+    marks: &mut [u8],
+    targets: &mut [u16],
+    sets: &mut [u64],
+    waiting: &mut [u8],
+    n: usize,
+    r: usize,
+    q: NewPlace,
+    h: Spot,
+)
+    requires { ⌜ (n < 4096) × (r < 2) × (q .0 < 64) × (h .place .0 < 64) ⌝ }
+    requires { ⌜ Sized (graph (now marks) (now targets) (now sets) (now waiting)) ⌝ }
+    ensures { λ _. ⌜ graph (now (marks .exit)) (now (targets .exit)) (now (sets .exit)) (now (waiting .exit))
+        ≡ arrived (old .alarm) (graph (now (marks .entry)) (now (targets .entry)) (now (sets .entry)) (now (waiting .entry))) n r q h ⌝ }
+{
+    let node = kept(q);
+    if graphs::is_marked(&*marks, node) {
+        graphs::aim(&*marks, targets, n, r, node);
+        return;
+    }
+    let at = pair(h.place, q);
+    graphs::join(old, marks, sets, waiting, at, h.set);
+    graphs::aim(&*marks, targets, n, r, at);
+}
+
+// Row r of pair n leads to new place q, by a step that came to a spot or failed.
+fn process(
+    old: Head,
+    marks: &mut [u8],
+    targets: &mut [u16],
+    sets: &mut [u64],
+    waiting: &mut [u8],
+    n: usize,
+    r: usize,
+    q: NewPlace,
+    came: Aligned,
+)
+    requires { ⌜ (n < 4096) × (r < 2) × (q .0 < 64) ⌝ }
+    requires { ⌜ ((h : Spot) → told came ≡ some h → h .place .0 < 64) ⌝ }
+    requires { ⌜ Sized (graph (now marks) (now targets) (now sets) (now waiting)) ⌝ }
+    ensures { λ _. ⌜ graph (now (marks .exit)) (now (targets .exit)) (now (sets .exit)) (now (waiting .exit))
+        ≡ processed (old .alarm) (graph (now (marks .entry)) (now (targets .entry)) (now (sets .entry)) (now (waiting .entry))) n r q (told came) ⌝ }
+{
+    match came {
+        Aligned::To(h) => {
+            arrive(old, marks, targets, sets, waiting, n, r, q, h);
+        }
+        Aligned::Failed => {
+            graphs::keep(marks, targets, sets, waiting, q);
+            graphs::aim(&*marks, targets, n, r, kept(q));
+        }
+    }
+}
+
+// Row r of pair n, if there is such a row, under the set v.
+fn row<'a>(
+    old: Head,
+    old_rows: &'a [u32],
+    new: Head,
+    new_rows: &'a [u32],
+    marks: &mut [u8],
+    targets: &mut [u16],
+    sets: &mut [u64],
+    waiting: &mut [u8],
+    n: usize,
+    v: u64,
+    r: usize,
+)
+    requires { ⌜ FaultlessChart (charted old (now «old_rows»)) ⌝ }
+    requires { ⌜ FaultlessChart (charted new (now «new_rows»)) ⌝ }
+    requires { ⌜ (n < 4096) × (r < 2) ⌝ }
+    requires { ⌜ Sized (graph (now marks) (now targets) (now sets) (now waiting)) ⌝ }
+    ensures { λ _. ⌜ graph (now (marks .exit)) (now (targets .exit)) (now (sets .exit)) (now (waiting .exit))
+        ≡ rowDone (charted old (now («old_rows» .entry))) (charted new (now («new_rows» .entry))) (graph (now (marks .entry)) (now (targets .entry)) (now (sets .entry)) (now (waiting .entry))) n v r ⌝ }
+{
+    let part = rows_of(old_rows, new_rows, Place::New(new_of(n)));
+    if r < part.len() / 6 {
+        let from = Spot {
+            place: old_of(n),
+            set: v,
+        };
+        let came = step(old, old_rows, new, new_rows, from, part, r);
+        process(
+            old,
+            marks,
+            targets,
+            sets,
+            waiting,
+            n,
+            r,
+            new_to(part, r),
+            came,
+        );
+    }
+}
+
+// The set of pair n: its own, or the one it had where it has left the graph.
+fn set_now(marks: &[u8], sets: &[u64], n: usize, v: u64) -> u64
+    requires { ⌜ (n < length (now marks)) × (n < length (now sets)) ⌝ }
+    ensures { λ r. ⌜ r ≡ setNow (now (marks .entry)) (now (sets .entry)) n v ⌝ }
+{
+    if marks[n] != 0 {
+        return sets[n];
+    }
+    v
+}
+
+// Takes pair n up.
+pub fn turn<'a>(
+    old: Head,
+    old_rows: &'a [u32],
+    new: Head,
+    new_rows: &'a [u32],
+    marks: &mut [u8],
+    targets: &mut [u16],
+    sets: &mut [u64],
+    waiting: &mut [u8],
+    n: usize,
+)
+    requires { ⌜ FaultlessChart (charted old (now «old_rows»)) ⌝ }
+    requires { ⌜ FaultlessChart (charted new (now «new_rows»)) ⌝ }
+    requires { ⌜ n < 4096 ⌝ }
+    requires { ⌜ Sized (graph (now marks) (now targets) (now sets) (now waiting)) ⌝ }
+    ensures { λ _. ⌜ graph (now (marks .exit)) (now (targets .exit)) (now (sets .exit)) (now (waiting .exit))
+        ≡ taken (charted old (now («old_rows» .entry))) (charted new (now («new_rows» .entry))) (graph (now (marks .entry)) (now (targets .entry)) (now (sets .entry)) (now (waiting .entry))) n ⌝ }
+{
+    let first = sets[n];
+    buffers::put8(waiting, n, 0);
+    row(
+        old,
+        old_rows,
+        new,
+        new_rows,
+        marks,
+        targets,
+        sets,
+        waiting,
+        n,
+        first,
+        0,
+    );
+    let second = set_now(&*marks, &*sets, n, first);
+    row(
+        old,
+        old_rows,
+        new,
+        new_rows,
+        marks,
+        targets,
+        sets,
+        waiting,
+        n,
+        second,
+        1,
+    );
+}

@@ -1,0 +1,172 @@
+// The builder: the condition of Algorithms 2 and 1, over four lent buffers. Here stands the entry point, which refuses bad input itself.
+ghost use mathlib.Core.Path.{_≡_};
+ghost use mathlib.Core.Option.{none};
+ghost use mathlib.Core.Bool.{Bool};
+ghost use lib.ListN.{length};
+ghost use Rattle.base.specs.Options.{missing};
+ghost use Rattle.base.specs.Says.{bool};
+ghost use Rattle.chart.specs.Charts.{charted};
+ghost use Rattle.chart.specs.Faults.{told as chartTold};
+ghost use Rattle.checker.specs.Records.{recordOf};
+ghost use Rattle.checker.specs.Checks.{inChart, refusal as checkRefusal};
+ghost use Rattle.builder.specs.declared.answers.Built.the-variants.{Done};
+ghost use Rattle.builder.specs.declared.answers.Summary.{Summary};
+ghost use Rattle.builder.specs.Graphs.{graph};
+ghost use Rattle.builder.specs.Answers.{told, toldVerdict, lent, summary, refusal, answered, left};
+use answers::Built;
+use answers::Summary;
+use answers::Verdict;
+use chart::charts::Head;
+use chart::charts::Judged;
+use chart::inner::faults::fault;
+use inner::explore::explore;
+use inner::finish::count;
+use inner::finish::finish;
+
+pub mod answers; // answers.rt: what a build answers
+pub mod inner; // inner.rt: what a build is made of
+
+// Whether every lent length is the stated one.
+fn lent(
+    old_rows: &[u32],
+    new_rows: &[u32],
+    marks: &[u8],
+    targets: &[u16],
+    sets: &[u64],
+    waiting: &[u8],
+) -> bool
+    ensures { λ r. ⌜ r ≡ bool (lent (now («old_rows» .entry)) (now («new_rows» .entry)) (graph (now (marks .entry)) (now (targets .entry)) (now (sets .entry)) (now (waiting .entry)))) ⌝ }
+{
+    if waiting.len() != 4096 {
+        return false;
+    }
+    if marks.len() != 4160 {
+        return false;
+    }
+    if targets.len() != 8192 {
+        return false;
+    }
+    if sets.len() != 4096 {
+        return false;
+    }
+    if old_rows.len() % 6 != 0 {
+        return false;
+    }
+    new_rows.len() % 6 == 0
+}
+
+// A fault of the chart with this number.
+fn in_chart(chart: u32, j: Judged) -> Verdict
+    ensures { λ r. ⌜ toldVerdict r ≡ inChart chart (chartTold j) ⌝ }
+{
+    match j {
+        Judged::Faultless => Verdict::Sound,
+        Judged::Ragged => Verdict::Unsound {
+            number: 21,
+            chart,
+            position: 0,
+        },
+        Judged::Faulty { number, position } => Verdict::Unsound {
+            number,
+            chart,
+            position,
+        },
+    }
+}
+
+fn is_sound(v: Verdict) -> bool
+    ensures { λ r. ⌜ r ≡ missing (toldVerdict v) ⌝ }
+{
+    match v {
+        Verdict::Sound => true,
+        Verdict::Unsound {
+            number: _,
+            chart: _,
+            position: _,
+        } => false,
+    }
+}
+
+// The refusal that is due, if any.
+fn judge<'a>(
+    old: Head,
+    old_rows: &'a [u32],
+    new: Head,
+    new_rows: &'a [u32],
+    marks: &[u8],
+    targets: &[u16],
+    sets: &[u64],
+    waiting: &[u8],
+) -> Verdict
+    ensures { λ r. ⌜ toldVerdict r ≡ refusal (charted old (now («old_rows» .entry))) (charted new (now («new_rows» .entry))) (graph (now (marks .entry)) (now (targets .entry)) (now (sets .entry)) (now (waiting .entry))) ⌝ }
+{
+    if !lent(old_rows, new_rows, marks, targets, sets, waiting) {
+        return Verdict::Unsound {
+            number: 21,
+            chart: 0,
+            position: 0,
+        };
+    }
+    let first = in_chart(0, fault(old, old_rows));
+    if !is_sound(first) {
+        return first;
+    }
+    in_chart(1, fault(new, new_rows))
+}
+
+// The start and the counts of marks 1, 2 and 3.
+fn summary(start: usize, marks: &[u8]) -> Summary
+    requires { ⌜ length (now marks) ≡ 4160 ⌝ }
+    ensures { λ r. ⌜ r ≡ summary start (now (marks .entry)) ⌝ }
+{
+    Summary {
+        start,
+        opened: count(marks, 1),
+        kept: count(marks, 2),
+        covered: count(marks, 3),
+    }
+}
+
+// A build, or the refusal that is due, which writes nothing. What a build leaves, with the start it answers, the check passes.
+pub fn build<'a>(
+    old: Head,
+    old_rows: &'a [u32],
+    new: Head,
+    new_rows: &'a [u32],
+    marks: &mut [u8],
+    targets: &mut [u16],
+    sets: &mut [u64],
+    waiting: &mut [u8],
+) -> Built
+    ensures answer { λ r. ⌜ told r ≡ answered (charted old (now («old_rows» .entry))) (charted new (now («new_rows» .entry))) (graph (now (marks .entry)) (now (targets .entry)) (now (sets .entry)) (now (waiting .entry))) ⌝ }
+    ensures leaves { λ _. ⌜ graph (now (marks .exit)) (now (targets .exit)) (now (sets .exit)) (now (waiting .exit))
+        ≡ left (charted old (now («old_rows» .entry))) (charted new (now («new_rows» .entry))) (graph (now (marks .entry)) (now (targets .entry)) (now (sets .entry)) (now (waiting .entry))) ⌝ }
+    ensures passes { λ r. ⌜ ((s : Summary) → r ≡ Done s
+        → checkRefusal (charted old (now («old_rows» .entry))) (charted new (now («new_rows» .entry))) (recordOf (s .start) (now (marks .exit)) (now (targets .exit)) (now (sets .exit))) ≡ none) ⌝ }
+{
+    match judge(
+        old,
+        old_rows,
+        new,
+        new_rows,
+        &*marks,
+        &*targets,
+        &*sets,
+        &*waiting,
+    ) {
+        Verdict::Sound => {
+            explore(old, old_rows, new, new_rows, marks, targets, sets, waiting);
+            let start = finish(old, new, marks, targets, sets, waiting);
+            Built::Done(summary(start, &*marks))
+        }
+        Verdict::Unsound {
+            number,
+            chart,
+            position,
+        } => Built::Refused {
+            number,
+            chart,
+            position,
+        },
+    }
+}
