@@ -58,7 +58,7 @@ module _ (m : List ℕ) (t : ℕ) where
 
 module _ (old new : Chart) where
   -- what a target t is in the end: unused, the kept node of its place, or a pair that is there
-  abbrev Keeps : List ℕ → ℕ → ℕ → ℕ → Type 0
+  abbrev pub Keeps : List ℕ → ℕ → ℕ → ℕ → Type 0
   Keeps m n r t = (t ≡ keptNumber (leadsTo new n r)) × (0 < getD m (keptNumber (leadsTo new n r)) 0)
 
   abbrev Ends : List ℕ → ℕ → ℕ → ℕ → Type 0
@@ -92,14 +92,14 @@ Fair old new = fair (old .alarm) (new .alarm) (oldStart (headOf old)) (newStart 
 
 -- ---- a build whose start is the start pair
 module _ (old new : Chart) (F : FaultlessChart old) (H : FaultlessChart new) (joint : alone (headOf old) (headOf new) (explored old new .marks) ≡ false) where
-  starts : (0 < markAt (explored old new) (firstPair old new)) × Says (Fair old new)
+  pub starts : (0 < markAt (explored old new) (firstPair old new)) × Says (Fair old new)
   unfolding alone
   starts =
       let z = or-false (marked (explored old new .marks) (firstKept new)) (not (bool (Fair old new))) joint in
       let k = not-marked (explored old new .marks) (firstKept new) (z .0) in
       (⊎-elim (λ p. p) (λ p. absurd (omega arith)) (explored-inv old new F H .home), says (Fair old new) (T-true (not-false (bool (Fair old new)) (z .1))))
 
-  targets-length : length (finalTargets (explored old new)) ≡ 8192
+  pub targets-length : length (finalTargets (explored old new)) ≡ 8192
   unfolding finalTargets
   targets-length = length-map (explored old new .targets) (redirected (explored old new .marks)) ∙ explored-inv old new F H .shaped .sized .targets
 
@@ -108,19 +108,19 @@ module _ (old new : Chart) (F : FaultlessChart old) (H : FaultlessChart new) (jo
   target-at i r b c =
       map-at (redirected (explored old new .marks)) (explored old new .targets) (index i r) (omega (arith, explored-inv old new F H .shaped .sized .targets))
 
-  abbrev marks : List ℕ
+  abbrev pub marks : List ℕ
   marks = finalMarks (firstPair old new) (finalTargets (explored old new)) (explored old new .marks)
 
-  abbrev left : records.Graph
+  abbrev pub left : records.Graph
   left = graphOf marks (finalTargets (explored old new)) (explored old new .sets)
 
-  final : Final (explored old new .marks) (finalTargets (explored old new)) (firstPair old new) marks
+  pub final : Final (explored old new .marks) (finalTargets (explored old new)) (firstPair old new) marks
   final =
       final-marks (explored old new .marks) (finalTargets (explored old new)) (firstPair old new) (explored-inv old new F H .shaped .sized .marks) targets-length (omega arith) (starts .0)
 
   -- a target of a pair that is there, by a row that is there
   module _ (i r : ℕ) (b : i < 4096) (p : mark left i ≢ 0) (c : r < 2) (a : r < size (rowsOf new i)) where
-    here : 0 < markAt (explored old new) i
+    pub here : 0 < markAt (explored old new) i
     here = rank-there (explored old new .marks) marks (final .ranks) i (omega arith) .1
 
     q-below : leadsTo new i r .0 < 64
@@ -129,7 +129,7 @@ module _ (old new : Chart) (F : FaultlessChart old) (H : FaultlessChart new) (jo
     ends : Ends old new (explored old new .marks) i r (target left i r)
     ends = rw (target-at i r b c) (led-ends old new (explored old new .marks) i r (targetAt (explored old new) i r) (explored-inv old new F H .led i r b here c a))
 
-    steps : (oldOf i .0 ≡ old .alarm → ⊥) → Keeps old new (explored old new .marks) i r (target left i r) ⊎ ToStep old new (explored old new .marks) (explored old new .sets) i r (target left i r)
+    pub steps : (oldOf i .0 ≡ old .alarm → ⊥) → Keeps old new (explored old new .marks) i r (target left i r) ⊎ ToStep old new (explored old new .marks) (explored old new .sets) i r (target left i r)
     steps n =
         rw (target-at i r b c)
         (step-ends old new (explored old new .marks) i r (targetAt (explored old new) i r) (explored old new .sets)

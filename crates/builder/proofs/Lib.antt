@@ -16,3 +16,5 @@ pub mod Ranking
 pub mod Finishing
 pub mod Answering
 pub mod Demands
+pub mod Least
+pub mod Right

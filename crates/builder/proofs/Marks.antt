@@ -62,15 +62,15 @@ module _ (m : List ℕ) (l : length m ≡ 4160) (n : ℕ) (b : n < 4160) where
   unfolding plainMarks
   plain-at = pass-at plainMark m n (omega arith)
 
-  plain-none : getD m n 0 ≡ 0 → getD (plainMarks m) n 0 ≡ 0
+  pub plain-none : getD m n 0 ≡ 0 → getD (plainMarks m) n 0 ≡ 0
   unfolding plainMark
   plain-none e = plain-at ∙ rw (e, plainMark)
 
-  plain-pair : n < 4096 → 0 < getD m n 0 → getD (plainMarks m) n 0 ≡ 4
+  pub plain-pair : n < 4096 → 0 < getD m n 0 → getD (plainMarks m) n 0 ≡ 4
   unfolding plainMark
   plain-pair a p = plain-at ∙ rw (ne-eqb (getD m n 0) 0 (λ e. omega arith), plainMark) (rw (lt-ltb n 4096 a, plainMark))
 
-  plain-node : 4096 ≤ n → 0 < getD m n 0 → getD (plainMarks m) n 0 ≡ 2
+  pub plain-node : 4096 ≤ n → 0 < getD m n 0 → getD (plainMarks m) n 0 ≡ 2
   unfolding plainMark
   plain-node a p = plain-at ∙ rw (ne-eqb (getD m n 0) 0 (λ e. omega arith), plainMark) (rw (le-ltb n 4096 a, plainMark))
 
@@ -209,11 +209,11 @@ transition-has (y ∷ x) (u ∷ (v ∷ t)) (suc i) r b l e c =
     go false h = h
 
 module _ (x : List ℕ) (n : ℕ) where
-  cover-here : getD x n 0 ≡ 4 → cover x n ≡ set x n 3
+  pub cover-here : getD x n 0 ≡ 4 → cover x n ≡ set x n 3
   unfolding cover
   cover-here e = rw (e, cover)
 
-  cover-not : (getD x n 0 ≡ 4 → ⊥) → cover x n ≡ x
+  pub cover-not : (getD x n 0 ≡ 4 → ⊥) → cover x n ≡ x
   unfolding cover
   cover-not e = rw (ne-eqb (getD x n 0) 4 e, cover)
 
@@ -221,7 +221,7 @@ module _ (x : List ℕ) (n : ℕ) where
   cover-ranks m R = dite (ℕ-discrete (getD x n 0) 4) (λ e. rw (cover-here e) (rank-set m x n 3 R e (inr (inl refl)))) (λ e. rw (cover-not e) R)
 
   -- only what is beyond changes, and to 3
-  cover-same : (k : ℕ) → (getD x k 0 ≡ 4 → ⊥) → getD (cover x n) k 0 ≡ getD x k 0
+  pub cover-same : (k : ℕ) → (getD x k 0 ≡ 4 → ⊥) → getD (cover x n) k 0 ≡ getD x k 0
   cover-same k q =
       dite (ℕ-discrete (getD x n 0) 4) (λ e. rw (cover-here e) (getD-set-other x n k 3 0 (λ z. q (rw z e)))) (λ e. rw (cover-not e))
 
@@ -275,7 +275,7 @@ pub record Final (m t : List ℕ) (s : ℕ) (x : List ℕ) : Type 0 where
       → (getD x (getD t (index i r) 0) 0 ≡ 1 → ⊥) × (getD x (getD t (index i r) 0) 0 ≡ 2 → ⊥)
 
 module _ (m t : List ℕ) (s : ℕ) (lm : length m ≡ 4160) (lt : length t ≡ 8192) (b : s < 4096) (p : 0 < getD m s 0) where
-  first-opens : Opens m s (set (plainMarks m) s 1)
+  pub first-opens : Opens m s (set (plainMarks m) s 1)
   first-opens =
       record {
         ranks = rank-set m (plainMarks m) s 1 (plain-ranks m lm) (plain-pair m lm s (omega arith) b p) (inl refl);

@@ -14,13 +14,6 @@ pub fn put8(d: &mut [u8], n: usize, v: u8)
     d[n] = v;
 }
 
-pub fn put64(d: &mut [u64], n: usize, v: u64)
-    requires { ⌜ n < length (now d) ⌝ }
-    ensures { λ _. ⌜ now (d .exit) ≡ set (now (d .entry)) n v ⌝ }
-{
-    d[n] = v;
-}
-
 pub fn fill8(d: &mut [u8], v: u8)
     ensures { λ _. ⌜ now (d .exit) ≡ replicate (length (now (d .entry))) v ⌝ }
 {
