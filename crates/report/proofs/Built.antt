@@ -1,0 +1,110 @@
+-- Laws of what a build answers: its numbers are small.
+-- Assumes nothing.
+use mathlib.Core.Path.{_≡_, refl, sym, ap, subst, _∙_}
+use mathlib.Core.Bool.{Bool, true, false, not}
+use mathlib.Core.List.{List, [], _∷_}
+use mathlib.Core.Option.{Option, none, some}
+use Prim.Native.Nat.{ℕ, _+_, _≤_}
+use native.Mathlib.Omega.{arith}
+use lib.Dec.{eqb}
+use lib.ListN.{length}
+use Rattle.base.specs.Answers.{Answer, given, refused}
+use Rattle.base.specs.Refusals.{Refusal, refusedIf}
+use Rattle.base.specs.Walks.{count}
+use Rattle.base.specs.Options.{orElse}
+use Rattle.base.specs.Says.{bool}
+use Rattle.base.proofs.OnSome.{OnSome, when-on, or-on}
+use Rattle.chart.specs.Charts.{Chart}
+use Rattle.chart.specs.Faults.{Fault, fault}
+use Rattle.chart.proofs.Bounds.{Slight, fault-slight}
+use Rattle.checker.specs.Checks.{inChart}
+use Rattle.checker.specs.Rules.{headOf, startPair, startKept}
+use Rattle.builder.specs.declared.answers.Summary.{Summary}
+use Rattle.builder.specs.declared.answers.Built.{Built}
+use Rattle.builder.specs.declared.answers.Built.the-variants as builts
+use Rattle.builder.specs.Graphs.{Graph, graph}
+use Rattle.builder.specs.Turns.{explored}
+use Rattle.builder.specs.Builds.{alone, built, startOf, recorded}
+use Rattle.builder.specs.Answers.{told, lent, summary, refusal, answered, left}
+use Rattle.report.specs.Printed.{Small}
+
+count-length : (v : ℕ) (l : List ℕ) → count v l ≤ length l
+unfolding count
+count-length v [] = omega arith
+count-length v (x ∷ l) = go (eqb x v) (count-length v l)
+  where
+    go : (b : Bool) → count v l ≤ length l → elim b as (λ _. ℕ) [ true ↦ count v l + 1 | false ↦ count v l ] ≤ length (x ∷ l)
+    go true h = omega arith
+    go false h = omega arith
+
+start-small : (old new : Chart) (m : List ℕ) → startOf (headOf old) (headOf new) m ≤ 4160
+unfolding startOf
+start-small old new m = go (alone (headOf old) (headOf new) m)
+  where
+    go : (b : Bool) → elim b as (λ _. ℕ) [ true ↦ startKept (headOf new) | false ↦ startPair (headOf old) (headOf new) ] ≤ 4160
+    go true = omega arith
+    go false = omega arith
+
+different : {A : Type 0} {x : A} {n c p : ℕ} → _≡_ {A = Answer A} (given x) (refused n c p) → ⊥
+different e = let z : _≡_ {A = ℕ} 0 1 = cc in omega arith
+
+orNone : Summary → Answer Summary → Summary
+orNone s (given x) = x
+orNone s (refused n c p) = s
+
+module _ (old new : Chart) (m t s w : List ℕ) (l : length m ≡ 4160) where
+  made : (x : Summary) → x ≡ summary (recorded old new .start) (recorded old new .graph .marks) → graph m t s w ≡ built old new → Small x
+  unfolding recorded summary
+  made x e f =
+      let h : (v : ℕ) → count v (built old new .marks) ≤ 4160 =
+      λ v. subst (λ (k : List ℕ). count v k ≤ 4160) (ap (λ (g : Graph). g .marks) f) (subst (λ (n : ℕ). count v m ≤ n) l (count-length v m)) in
+      subst Small (sym e) (record { start = start-small old new (explored old new .marks); opened = h 1; kept = h 2; covered = h 3 })
+
+  pub summary-small : (g : Graph) (r : Built) (x : Summary) → told r ≡ answered old new g → graph m t s w ≡ left old new g → r ≡ builts.Done x → Small x
+  unfolding answered left orNone
+  summary-small g r x e f d = go (refusal old new g) (ap told (sym d) ∙ e) f
+    where
+      go : (o : Option Refusal)
+          → given x
+          ≡ elim o as (λ _. Answer Summary) [
+            | none ↦ given (summary (recorded old new .start) (recorded old new .graph .marks))
+            | some q ↦ refused (q .number) (q .chart) (q .position)
+          ]
+          → graph m t s w ≡ elim o as (λ _. Graph) [ none ↦ built old new | some q ↦ g ] → Small x
+      go none a b = made x (ap (orNone x) a) b
+      go (some q) a b = absurd (different a)
+
+-- ---- positions
+
+pub record Low (q : Refusal) : Type 0 where
+  pub position : q .position ≤ 128
+
+in-chart-low : (k : ℕ) (o : Option Fault) → OnSome Slight o → OnSome Low (inChart k o)
+in-chart-low k none h = tt
+in-chart-low k (some f) h = record { position = omega (arith, h .row) }
+
+refusal-low : (old new : Chart) (g : Graph) → OnSome Low (refusal old new g)
+unfolding refusal
+refusal-low old new g =
+    let unlent = not (bool (lent (old .table) (new .table) g)) in
+    or-on Low (refusedIf unlent 21 0 0) (orElse (inChart 0 (fault old)) (inChart 1 (fault new)))
+    (when-on Low unlent (record { number = 21; chart = 0; position = 0 }) (record { position = omega arith }))
+    (λ _. or-on Low (inChart 0 (fault old)) (inChart 1 (fault new)) (in-chart-low 0 (fault old) (fault-slight old)) (λ _. in-chart-low 1 (fault new) (fault-slight new)))
+
+third : Answer Summary → ℕ
+third (given x) = 0
+third (refused n c p) = p
+
+pub position-low : (old new : Chart) (g : Graph) (r : Built) → told r ≡ answered old new g → (n c p : ℕ) → r ≡ builts.Refused n c p → p ≤ 128
+unfolding answered third
+position-low old new g r e n c p d = go (refusal old new g) (refusal-low old new g) (ap told (sym d) ∙ e)
+  where
+    go : (o : Option Refusal) → OnSome Low o
+        → _≡_ {A = Answer Summary} (refused n c p)
+        (elim o as (λ _. Answer Summary) [
+          | none ↦ given (summary (recorded old new .start) (recorded old new .graph .marks))
+          | some q ↦ refused (q .number) (q .chart) (q .position)
+        ])
+        → p ≤ 128
+    go none h a = absurd (different (sym a))
+    go (some q) h a = let i : p ≡ q .position = ap third a in omega (arith, h .position)

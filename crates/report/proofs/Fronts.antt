@@ -1,0 +1,74 @@
+-- Laws of bytes that are put one after the other, and at the front of a buffer.
+-- Assumes nothing.
+use mathlib.Core.Path.{_≡_, refl, sym, ap, _∙_}
+use mathlib.Core.Bool.{true, false}
+use mathlib.Core.List.{List, [], _∷_, _++_}
+use Prim.Native.Nat.{ℕ, _+_, _*_, _%_, _≤_, _<_}
+use native.Mathlib.Omega.{arith}
+use borrow.Author.Tests.{eq-eqb, ne-eqb}
+use lib.ListN.{length, getD, take, drop}
+use lib.Seq.{sets, sets-eq, take-at}
+use Rattle.text.specs.Written.{fieldsText, Put}
+use Rattle.text.proofs.Puts.{put-then, put-length}
+use Rattle.report.specs.Lines.{line, refusalLine}
+use Rattle.report.specs.Transitions.{firstRow, transition, ofPair}
+use Rattle.builder.specs.declared.answers.Summary.{Summary}
+use Rattle.report.specs.Printed.{summaryLine}
+use Rattle.report.specs.Portions.{Front}
+
+pub put-none : (l : List ℕ) (at : ℕ) → Put l at [] l at
+put-none l at = record { is = refl; next = omega arith }
+
+pub line-put : (before : List ℕ) (at a b c d : ℕ) (after : List ℕ) (r : ℕ) → (Put before at (fieldsText 2 (a ∷ b ∷ c ∷ d ∷ [])) after r) × (r ≤ at + 45)
+    → (Put before at (line a b c d) after r) × (r ≤ at + 45)
+unfolding line
+line-put before at a b c d after r p = p
+
+-- ---- at the front
+
+pub front-put : (before bytes after : List ℕ) (r : ℕ) → Put before 0 bytes after r → r ≤ length before → Front before bytes after r
+front-put before bytes after r p h =
+    let n : r ≡ length bytes = p .next ∙ omega arith in
+    let e : after ≡ bytes ++ drop (0 + length bytes) before = p .is ∙ sets-eq bytes before 0 (omega arith) in
+    let t : take r after ≡ bytes = ap (take r) e ∙ take-at bytes (drop (0 + length bytes) before) r (sym n) in
+    record { put = p; is = t; fits = omega (arith, put-length p); counts = n ∙ sym (ap length t) }
+
+pub front-line : (before : List ℕ) (a b c d : ℕ) (after : List ℕ) (r : ℕ) → length before ≡ 1024 → (Put before 0 (line a b c d) after r) × (r ≤ 0 + 45)
+    → Front before (line a b c d) after r
+front-line before a b c d after r l p = front-put before (line a b c d) after r (p .0) (omega (arith, p .1))
+
+pub front-summary : (before : List ℕ) (s : Summary) (after : List ℕ) (r : ℕ) → length before ≡ 1024
+    → (Put before 0 (line (s .start) (s .opened) (s .kept) (s .covered)) after r) × (r ≤ 0 + 45) → Front before (summaryLine s) after r
+unfolding summaryLine
+front-summary before s after r l p = front-line before (s .start) (s .opened) (s .kept) (s .covered) after r l p
+
+pub front-refusal : (before : List ℕ) (number chart position : ℕ) (after : List ℕ) (r : ℕ) → length before ≡ 1024
+    → (Put before 0 (line 9999 number chart position) after r) × (r ≤ 0 + 45) → Front before (refusalLine number chart position) after r
+unfolding refusalLine
+front-refusal before number chart position after r l p = front-line before 9999 number chart position after r l p
+
+-- ---- one transition
+
+module _ (before : List ℕ) (at : ℕ) (marks : List ℕ) (n row x : ℕ) where
+  pub transition-none : x ≡ 65535 → (Put before at (transition marks n row x) before at) × (at ≤ at + 45)
+  unfolding transition
+  transition-none e = (rw (eq-eqb x 65535 e, transition) (put-none before at), omega arith)
+
+  pub transition-some : (mark : ℕ) (after : List ℕ) (r : ℕ) → (x ≡ 65535 → ⊥) → mark ≡ getD marks x 0 → (Put before at (line n row x mark) after r) × (r ≤ at + 45)
+      → (Put before at (transition marks n row x) after r) × (r ≤ at + 45)
+  unfolding transition
+  transition-some mark after r h m p = (rw (ne-eqb x 65535 h, transition, ← m) (p .0), p .1)
+
+-- ---- one pair
+
+module _ (before : List ℕ) (at : ℕ) (t marks : List ℕ) (n m x y : ℕ) where
+  pub pair-none : (m ≡ 1 → ⊥) → (Put before at (ofPair t marks n m x y) before at) × (at ≤ at + 90)
+  unfolding ofPair
+  pair-none h = (rw (ne-eqb m 1 h, ofPair) (put-none before at), omega arith)
+
+  pub pair-two : (row : ℕ) (middle : List ℕ) (p : ℕ) (after : List ℕ) (r : ℕ) → m ≡ 1 → (row ≡ firstRow t (n % 64)) × (row ≤ 128)
+      → (Put before at (transition marks n row x) middle p) × (p ≤ at + 45) → (Put middle p (transition marks n (row + 1) y) after r) × (r ≤ p + 45)
+      → (Put before at (ofPair t marks n m x y) after r) × (r ≤ at + 90)
+  unfolding ofPair
+  pair-two row middle p after r h e f g =
+      (rw (eq-eqb m 1 h, ofPair, ← e .0) (put-then (f .0) (g .0)), omega (arith, f .1, g .1))

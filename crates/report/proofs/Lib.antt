@@ -1,0 +1,7 @@
+-- Laws of what is printed, by subject.
+pub mod Rows
+pub mod Fronts
+pub mod Going
+pub mod Reading
+pub mod Whole
+pub mod Built

@@ -1,0 +1,6 @@
+-- What the program prints: read Lines first, then Transitions, Printed and Portions.
+pub mod Lines
+pub mod Transitions
+pub mod Printed
+pub mod Both
+pub mod Portions

@@ -1,0 +1,12 @@
+-- The records that the program prints ("Worked sessions"): "CSV of four fields [..]. Each record ends in CRLF."
+use mathlib.Core.List.{List, [], _∷_}
+use Prim.Native.Nat.{ℕ}
+use Rattle.text.specs.Written.{fieldsText}
+
+-- four numbers as one record: its fields are closed as the last four of a chart text's six are, by commas and, after the last, CRLF
+unfoldable pub line : ℕ → ℕ → ℕ → ℕ → List ℕ
+line a b c d = fieldsText 2 (a ∷ b ∷ c ∷ d ∷ [])
+
+-- "A refusal prints 9999, number, chart, position."
+unfoldable pub refusalLine : ℕ → ℕ → ℕ → List ℕ
+refusalLine number chart position = line 9999 number chart position

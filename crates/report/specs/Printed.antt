@@ -1,0 +1,62 @@
+-- What the program prints, from the bytes of both files ("Worked sessions", "Who can cause a refusal").
+use mathlib.Core.List.{List, _++_}
+use Prim.Native.Nat.{ℕ, _≤_}
+use Rattle.base.specs.Answers.{Answer, given, refused}
+use Rattle.base.specs.Chains.{andThen, mapped}
+use Rattle.chart.specs.Charts.{Chart}
+use Rattle.text.specs.Texts.{readText}
+use Rattle.checker.specs.Records.{Record}
+use Rattle.builder.specs.declared.answers.Summary.{Summary}
+use Rattle.builder.specs.Answers.{summary}
+use Rattle.builder.specs.Builds.{recorded}
+use Rattle.report.specs.Lines.{line, refusalLine}
+use Rattle.report.specs.Transitions.{remaining}
+
+-- ---- both files
+pub record Pair : Type 0 where
+  pub old : Chart
+  pub new : Chart
+
+-- a refusal of the new chart: "chart (0 old or sole, 1 new)"
+abbrev pub ofNew : {A : Type 0} → Answer A → Answer A
+ofNew (given x) = given x
+ofNew (refused number chart position) = refused number 1 position
+
+-- "the program finishes old.csv before new.csv": what is read of the two texts
+unfoldable pub bothOf : Answer Chart → Answer Chart → Answer Pair
+bothOf old new = andThen old (λ (O : Chart). andThen (ofNew new) (λ (N : Chart). given (record { old = O; new = N })))
+
+-- the charts of both files, by their bytes: "A file that can't be read counts as one without bytes."
+unfoldable pub bothRead : List ℕ → List ℕ → Answer Pair
+bothRead old new = bothOf (readText old) (readText new)
+
+-- ---- a condition
+-- "start, open, kept, covered"
+unfoldable pub summaryLine : Summary → List ℕ
+summaryLine s = line (s .start) (s .opened) (s .kept) (s .covered)
+
+-- the transitions of a record, under the new table t
+unfoldable pub transitions : List ℕ → Record → List ℕ
+transitions t R = remaining t (R .graph .marks) (R .graph .targets) 0
+
+unfoldable pub condition : List ℕ → Record → List ℕ
+condition t R = summaryLine (summary (R .start) (R .graph .marks)) ++ transitions t R
+
+-- the condition that the builder writes
+unfoldable pub conditionOf : Pair → List ℕ
+conditionOf P = condition (P .new .table) (recorded (P .old) (P .new))
+
+-- ---- all of it
+abbrev pub orRefusal : Answer (List ℕ) → List ℕ
+orRefusal (given bytes) = bytes
+orRefusal (refused number chart position) = refusalLine number chart position
+
+unfoldable pub printed : List ℕ → List ℕ → List ℕ
+printed old new = orRefusal (mapped conditionOf (bothRead old new))
+
+-- ---- what is printed of a build is small
+pub record Small (s : Summary) : Type 0 where
+  pub start : s .start ≤ 4160
+  pub opened : s .opened ≤ 4160
+  pub kept : s .kept ≤ 4160
+  pub covered : s .covered ≤ 4160

@@ -1,0 +1,50 @@
+// What the program prints, in portions of at most 1,024 bytes. Together they are `printed` of specs/Printed.antt.
+ghost use mathlib.Core.Path.{_≡_};
+ghost use Prim.Native.Nat.{_≤_};
+ghost use lib.ListN.{length};
+ghost use Rattle.report.specs.Lines.{refusalLine};
+ghost use Rattle.report.specs.Printed.{summaryLine, Small};
+ghost use Rattle.report.specs.Portions.{Front, Portioned};
+use builder::answers::Summary;
+use inner::lines::put_line;
+use inner::transitions::Extent;
+use inner::transitions::put_pairs;
+
+pub mod charts; // charts.rt: both charts, from the texts of both files
+pub mod inner; // inner.rt: what the portions are made of
+
+// The record of a refusal, at the front of the bytes, and their count.
+pub fn refusal(number: u32, chart: u32, position: u32, bytes: &mut [u8; 1024]) -> usize
+    ensures { λ r. ⌜ Front (now (bytes .entry)) (refusalLine number chart position) (now (bytes .exit)) r ⌝ }
+{
+    put_line(bytes, 0, 9999, number, chart, position)
+}
+
+// The first record of a condition, at the front of the bytes, and their count.
+pub fn summary(s: Summary, bytes: &mut [u8; 1024]) -> usize
+    requires { ⌜ Small s ⌝ }
+    ensures { λ r. ⌜ Front (now (bytes .entry)) (summaryLine s) (now (bytes .exit)) r ⌝ }
+{
+    put_line(
+        bytes,
+        0,
+        s.start as u32,
+        s.opened as u32,
+        s.kept as u32,
+        s.covered as u32,
+    )
+}
+
+// Some of the transitions from this pair on, at the front of the bytes.
+pub fn portion(
+    table: &[u32],
+    marks: &[u8; 4160],
+    targets: &[u16; 8192],
+    pair: usize,
+    bytes: &mut [u8; 1024],
+) -> Extent
+    requires { ⌜ length (now table) ≤ 768 ⌝ }
+    ensures { λ r. ⌜ Portioned (now (table .entry)) (now (marks .entry)) (now (targets .entry)) pair (now (bytes .entry)) (now (bytes .exit)) (r .next) (r .count) ⌝ }
+{
+    put_pairs(table, marks, targets, pair, bytes)
+}

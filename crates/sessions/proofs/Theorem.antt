@@ -1,0 +1,85 @@
+-- The worked cases of document 01 are so: one theorem about their list, computed from the definitions. Assumes nothing.
+use mathlib.Core.Path.{_≡_, refl, sym, ap, ap₂, _∙_}
+use mathlib.Core.Bool.{Bool, true, _&&_, not}
+use mathlib.Core.List.{List, [], _∷_}
+use Prim.Native.Nat.{ℕ, _^_}
+use lib.Dec.{T, T-not, eqb, ltb, eqb→eq, ltb→lt}
+use Rattle.base.proofs.Tests.{T-and, T-true}
+use Rattle.chart.specs.declared.operations.Operation.{Operation}
+use Rattle.chart.specs.Operations.{value, plus}
+use Rattle.chart.specs.Assumptions.{Operands}
+use Rattle.chart.specs.Trials.{never, implies}
+use Rattle.chart.proofs.Exact.{implies-exact, never-exact}
+use Rattle.report.specs.Printed.{printed}
+use Rattle.sessions.specs.Cases.{Case, prints, implied, notImplied, anything, sum, Says, adds, bytes, same, fit, test, tests, Every, none, one}
+use Rattle.sessions.specs.Worked.{worked}
+use Rattle.base.specs.Options as base-options
+use Rattle.base.specs.Repeat as base-repeat
+use Rattle.base.specs.Walks as base-walks
+use Rattle.base.specs.Tests as base-tests
+use Rattle.chart.specs.Charts as chart-charts
+use Rattle.chart.specs.Faults as chart-faults
+use Rattle.chart.specs.Operations as chart-operations
+use Rattle.chart.specs.Trials as chart-trials
+use Rattle.text.specs.Fields as text-fields
+use Rattle.text.specs.Spans as text-spans
+use Rattle.text.specs.Texts as text-texts
+use Rattle.text.specs.Written as text-written
+use Rattle.align.specs.Sets as align-sets
+use Rattle.align.specs.Steps as align-steps
+use Rattle.builder.specs.Graphs as builder-graphs
+use Rattle.builder.specs.Turns as builder-turns
+use Rattle.builder.specs.Marks as builder-marks
+use Rattle.builder.specs.Answers as builder-answers
+use Rattle.builder.specs.Builds as builder-builds
+use Rattle.report.specs.Lines as report-lines
+use Rattle.report.specs.Transitions as report-transitions
+use Rattle.report.specs.Printed as report-printed
+
+-- ---- a test that passes shows its case
+
+same-is : (l m : List ℕ) → T (same l m) → l ≡ m
+unfolding same
+same-is [] [] t = refl
+same-is [] (y ∷ m) t = absurd t
+same-is (x ∷ l) [] t = absurd t
+same-is (x ∷ l) (y ∷ m) t = let (h, r) = T-and (eqb x y) (same l m) t in ap₂ (λ (n : ℕ) (s : List ℕ). n ∷ s) (eqb→eq x y h) (same-is l m r)
+
+fit-is : (f : Operation) → T (fit f) → Operands f
+unfolding fit
+fit-is f t =
+    let (a, r) = T-and (ltb (f .a) 64) (ltb (f .b) 64 && ltb (f .c) (2 ^ 32)) t in
+    let (b, c) = T-and (ltb (f .b) 64) (ltb (f .c) (2 ^ 32)) r in
+    record { a = ltb→lt (f .a) 64 a; b = ltb→lt (f .b) 64 b; c = ltb→lt (f .c) (2 ^ 32) c }
+
+-- the operands of both fit, and the rest of the test passes
+both-fit : (f g : Operation) (b : Bool) → T (fit f && (fit g && b)) → Operands f × Operands g × T b
+both-fit f g b t =
+    let (F, r) = T-and (fit f) (fit g && b) t in
+    let (G, h) = T-and (fit g) b r in
+    (fit-is f F, fit-is g G, h)
+
+shows : (c : Case) → T (test c) → Says c
+unfolding test value
+shows (prints old new out) t = same-is (printed (bytes old) (bytes new)) (bytes out) t
+shows (implied f g) t = let (F, G, h) = both-fit f g (implies f g) t in implies-exact f g F G .0 h
+shows (notImplied f g) t =
+    let (F, G, h) = both-fit f g (not (implies f g)) t in
+    λ i. T-not (implies f g) h (implies-exact f g F G .1 i)
+shows (anything f) t = let (F, h) = T-and (fit f) (never f) t in λ g v W m. absurd (never-exact f (fit-is f F) .0 h v W m)
+shows (sum x y z) t = λ v e. ap (λ (n : ℕ). plus n y) e ∙ eqb→eq (plus x y) z t
+
+all-show : (l : List Case) → T (tests l) → Every l
+unfolding tests
+all-show [] t = none
+all-show (c ∷ l) t = let (h, r) = T-and (test c) (tests l) t in one (shows c h) (all-show l r)
+
+-- ---- the theorem
+
+-- every test passes, by computing with the definitions
+computed : tests worked ≡ true
+unfolding worked tests test same fit bytes base-options.firstOf base-repeat.repeated base-walks.pass base-walks.firstFrom base-walks.count base-tests.someBelow chart-charts.leavingOf chart-charts.leaving chart-faults.countFault chart-faults.alarmFault chart-faults.rowFault chart-faults.clash chart-faults.conflictFault chart-faults.rowsFault chart-faults.fault chart-operations.kind chart-operations.operandB chart-operations.assignedC chart-operations.operandC chart-operations.operandsFit chart-operations.reads chart-operations.same chart-operations.value chart-operations.related chart-operations.holds chart-trials.seats chart-trials.trial chart-trials.shown chart-trials.together text-fields.digitOf text-fields.digits text-fields.value text-fields.kind text-fields.judged text-fields.bounded text-fields.ended text-fields.numberOf text-fields.numberAt text-fields.followed text-fields.fieldAt text-fields.lineEnd text-fields.closed text-fields.missing text-fields.itemAt text-spans.fieldsAt text-texts.whole text-texts.rowsAt text-texts.parsed text-texts.readText text-written.digitsIn text-written.digitsOf text-written.decimal text-written.closing text-written.fieldsText align-sets.alone align-sets.joined align-sets.with align-sets.without align-sets.meets align-sets.holdsAll align-sets.setOf align-sets.readSet align-steps.find align-steps.along align-steps.matching align-steps.matched align-steps.rewritten align-steps.assigned align-steps.onward align-steps.follow align-steps.followed align-steps.counterpart align-steps.assumed align-steps.moved align-steps.arrived align-steps.step builder-graphs.marked builder-graphs.gone builder-graphs.cleared builder-graphs.untargeted builder-graphs.keep builder-graphs.aim builder-graphs.due builder-graphs.waits builder-graphs.join builder-graphs.unwait builder-turns.lowest builder-turns.next builder-turns.setNow builder-turns.begun builder-turns.stepOf builder-turns.arrived builder-turns.processed builder-turns.rowDone builder-turns.secondDone builder-turns.taken builder-turns.explored builder-marks.plainMark builder-marks.plainMarks builder-marks.inQ builder-marks.opening builder-marks.nextOpening builder-marks.allOpened builder-marks.transitions builder-marks.cover builder-marks.covered builder-marks.allCovered builder-marks.finalMarks builder-builds.redirected builder-builds.finalTargets builder-builds.alone builder-builds.lone builder-builds.finished builder-builds.built builder-builds.startOf builder-builds.recorded builder-answers.summary report-lines.line report-lines.refusalLine report-transitions.rowsBelow report-transitions.firstRow report-transitions.transition report-transitions.ofPair report-transitions.transitionsFrom report-transitions.remaining report-printed.bothOf report-printed.bothRead report-printed.summaryLine report-printed.transitions report-printed.condition report-printed.conditionOf report-printed.printed
+computed = refl
+
+pub worked-cases : Every worked
+worked-cases = all-show worked (T-true computed)

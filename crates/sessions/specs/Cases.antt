@@ -1,0 +1,77 @@
+-- A worked case ("Worked sessions"): what it says, and the test that it is computed by.
+use mathlib.Core.Path.{_≡_}
+use mathlib.Core.Bool.{Bool, true, false, _&&_, not}
+use mathlib.Core.List.{List, [], _∷_}
+use Prim.Native.Nat.{ℕ, _+_, _^_}
+use Prim.Native.Char.{code}
+use Prim.Native.String.{String, [] as []ˢ, _∷_ as _∷ˢ_}
+use lib.Dec.{eqb, ltb}
+use Rattle.chart.specs.declared.operations.Operation.{Operation}
+use Rattle.chart.specs.Operations.{value}
+use Rattle.chart.specs.Assumptions.{Implies}
+use Rattle.chart.specs.Trials.{never, implies}
+use Rattle.report.specs.Printed.{printed}
+
+-- ---- texts and operations as document 01 writes them
+-- the bytes of a text
+unfoldable pub bytes : String → List ℕ
+bytes []ˢ = []
+bytes (c ∷ˢ s) = code c ∷ bytes s
+
+-- "2 vb + c", to v0
+abbrev pub adds : ℕ → ℕ → Operation
+adds b c = record { code = 2; a = 0; b = b; c = c }
+
+-- "16 + r compares va with c", "32 + r compares va with vb"
+abbrev pub constant : ℕ → ℕ → ℕ → Operation
+constant r a c = record { code = 16 + r; a = a; b = 0; c = c }
+
+abbrev pub variables : ℕ → ℕ → ℕ → Operation
+variables r a b = record { code = 32 + r; a = a; b = b; c = 0 }
+
+-- ---- cases
+pub data Case : Type 0 where
+  -- old.csv, new.csv and what is printed
+  prints : String → String → String → Case
+  -- the first assumption implies the second, or not
+  implied notImplied : Operation → Operation → Case
+  -- the assumption implies anything
+  anything : Operation → Case
+  -- the sum of two values
+  sum : ℕ → ℕ → ℕ → Case
+
+-- What a case says. An implication speaks of all 64 values; what implies anything implies every second assumption, whatever its operands;
+-- a sum is what code 2 writes, whatever the values, where v0 is its first number.
+abbrev pub Says : Case → Type 0
+Says (prints old new out) = printed (bytes old) (bytes new) ≡ bytes out
+Says (implied f g) = Implies f g
+Says (notImplied f g) = Implies f g → ⊥
+Says (anything f) = (g : Operation) → Implies f g
+Says (sum x y z) = (v : ℕ → ℕ) → v 0 ≡ x → value (adds 0 y) v ≡ z
+
+-- ---- the test of a case
+unfoldable pub same : List ℕ → List ℕ → Bool
+same [] [] = true
+same [] (y ∷ m) = false
+same (x ∷ l) [] = false
+same (x ∷ l) (y ∷ m) = eqb x y && same l m
+
+-- the operands are those of a faultless row
+unfoldable pub fit : Operation → Bool
+fit f = ltb (f .a) 64 && (ltb (f .b) 64 && ltb (f .c) (2 ^ 32))
+
+unfoldable pub test : Case → Bool
+test (prints old new out) = same (printed (bytes old) (bytes new)) (bytes out)
+test (implied f g) = fit f && (fit g && implies f g)
+test (notImplied f g) = fit f && (fit g && not (implies f g))
+test (anything f) = fit f && never f
+test (sum x y z) = eqb (value (adds 0 y) (λ _. x)) z
+
+unfoldable pub tests : List Case → Bool
+tests [] = true
+tests (c ∷ l) = test c && tests l
+
+-- every case of a list
+pub data Every : List Case → Type 0 where
+  none : Every []
+  one : {c : Case} {l : List Case} → Says c → Every l → Every (c ∷ l)

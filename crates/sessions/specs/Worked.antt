@@ -1,0 +1,43 @@
+-- The cases that document 01 marks by § ("Worked sessions"), in its order. That each is so is one theorem, in proofs/Theorem.antt.
+use mathlib.Core.List.{List, [], _∷_}
+use Prim.Native.String.{String}
+use Rattle.sessions.specs.Cases.{Case, prints, implied, notImplied, anything, sum, constant, variables}
+
+-- the files, whose records end in CRLF
+abbrev pub old : String
+old = "6,5,5,0,0,0\r\n0,1,0,1,0,5\r\n1,2,18,0,0,100\r\n1,3,21,0,0,100\r\n3,5,20,1,0,50\r\n3,4,19,1,0,50\r\n"
+
+-- "the same with `0,1,0,1,0,6`"
+abbrev pub amended : String
+amended = "6,5,5,0,0,0\r\n0,1,0,1,0,6\r\n1,2,18,0,0,100\r\n1,3,21,0,0,100\r\n3,5,20,1,0,50\r\n3,4,19,1,0,50\r\n"
+
+-- "New alarm 0"
+abbrev pub alarmed : String
+alarmed = "6,0,5,0,0,0\r\n0,1,0,1,0,5\r\n1,2,18,0,0,100\r\n1,3,21,0,0,100\r\n3,5,20,1,0,50\r\n3,4,19,1,0,50\r\n"
+
+unfoldable pub worked : List Case
+worked =
+    prints old amended "0,3,2,1\r\n0,0,1,1\r\n1,1,130,3\r\n1,2,195,1\r\n195,3,4101,2\r\n195,4,4100,2\r\n"
+    -- "old.csv as both"
+    ∷ prints old old "0,1,0,1\r\n0,0,65,3\r\n"
+    -- "New alarm 0, old 5"
+    ∷ prints old alarmed "4096,0,1,0\r\n"
+    -- v0=0 ⇒ v0≤v1
+    ∷ implied (constant 0 0 0) (variables 3 0 1)
+    -- v0<v1 ⇒ v1≠0
+    ∷ implied (variables 2 0 1) (constant 1 1 0)
+    -- v0<v1 ⇒ v0≤4294967294
+    ∷ implied (variables 2 0 1) (constant 3 0 4294967294)
+    -- v0<100 ⇒ v0≤99
+    ∷ implied (constant 2 0 100) (constant 3 0 99)
+    -- v0<0 ⇒ anything
+    ∷ anything (constant 2 0 0)
+    -- not v0=1 ⇒ v0≤v1
+    ∷ notImplied (constant 0 0 1) (variables 3 0 1)
+    -- not v0≤v1 ⇒ v1≠0
+    ∷ notImplied (variables 3 0 1) (constant 1 1 0)
+    -- not v0≤100 ⇒ v0<100
+    ∷ notImplied (constant 3 0 100) (constant 2 0 100)
+    -- "4294967295 + 1 is 0"
+    ∷ sum 4294967295 1 0
+    ∷ []
