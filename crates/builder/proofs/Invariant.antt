@@ -465,7 +465,7 @@ module _ (old new : Chart) (F : FaultlessChart old) (G : FaultlessChart new) whe
       still i b p (yes e) = absurd (omega (arith, rw e at p, getD-set-same (g .waiting) n 0 0 (omega (arith, I .shaped .sized .waiting))))
       still i b p (no e) = I .waiters i b (omega (arith, getD-set-other (g .waiting) n i 0 0 e))
 
-  turn-inv : (g : Graph) (n : ℕ) → Inv old new Every g → next g ≡ some n → Inv old new Every (taken old new g n)
+  pub turn-inv : (g : Graph) (n : ℕ) → Inv old new Every g → next g ≡ some n → Inv old new Every (taken old new g n)
   unfolding taken secondDone unwait
   turn-inv g n I e =
       let L = next-lowest g n e in
@@ -497,7 +497,7 @@ module _ (old new : Chart) (F : FaultlessChart old) (G : FaultlessChart new) whe
           }
 
   -- ---- the beginning
-  begun-inv : Inv old new Every (begun old new)
+  pub begun-inv : Inv old new Every (begun old new)
   unfolding begun
   begun-inv =
       record {

@@ -18,3 +18,4 @@ pub mod Answering
 pub mod Demands
 pub mod Least
 pub mod Right
+pub mod Quiet

@@ -136,7 +136,7 @@ module _ (old new : Chart) (F : FaultlessChart old) (G : FaultlessChart new) whe
   aim-lighter g h n r to L =
       by-aim h n r to (Lighter g) (λ l. record { shaped = aimed-shaped h n r to (L .shaped); less = omega (arith, weight-aimed h n r to, L .less) }) (λ e. L)
 
-  row-lighter : (g : Graph) (n v r : ℕ) → n < 4096 → v < 2 ^ 64 → Shaped g → Lighter g (rowDone old new g n v r)
+  pub row-lighter : (g : Graph) (n v r : ℕ) → n < 4096 → v < 2 ^ 64 → Shaped g → Lighter g (rowDone old new g n v r)
   row-lighter g n v r l k S =
       by-row old new g n v r (Lighter g)
       (λ a. record { shaped = S; less = omega arith })

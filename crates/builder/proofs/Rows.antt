@@ -3,7 +3,7 @@ use mathlib.Core.Path.{_≡_, refl, sym, ap, subst, _∙_}
 use mathlib.Core.Bool.{Bool, true, false, not}
 use mathlib.Core.List.{List}
 use mathlib.Core.Option.{Option, none, some}
-use Prim.Native.Nat.{ℕ, _+_, _/_, _%_, _^_, _≤_, _<_}
+use Prim.Native.Nat.{ℕ, zero, suc, min, _+_, _*_, _/_, _%_, _^_, _≤_, _<_}
 use native.Mathlib.Numerals.{add-one}
 use native.Mathlib.Omega.{arith}
 use borrow.Author.Tests.{lt-ltb, le-ltb, eq-eqb, ne-eqb}
@@ -17,13 +17,14 @@ use Rattle.chart.specs.declared.places.NewPlace.{NewPlace}
 use Rattle.chart.specs.Charts.{Chart, size, to, operation, leaving}
 use Rattle.chart.specs.Faultless.{FaultlessChart}
 use Rattle.chart.specs.Operations.{operandsFit}
-use Rattle.chart.specs.Places.{oldOf, newOf}
+use Rattle.chart.specs.Places.{keptNumber, oldOf, newOf}
+use Rattle.checker.specs.Records.{index}
 use Rattle.align.specs.declared.spots.Spot.{Spot}
 use Rattle.align.specs.declared.spots.Aligned.{Aligned}
 use Rattle.align.specs.Steps.{told, step}
 use Rattle.align.proofs.Parts.{row-of, row-same}
 use Rattle.builder.specs.Graphs.{Graph, graph, marked, unwait}
-use Rattle.builder.specs.Turns.{rowsOf, leadsTo, lowest, setNow, stepOf, processed, rowDone, secondDone, taken}
+use Rattle.builder.specs.Turns.{rowsOf, leadsTo, lowest, lowAfter, setNow, stepOf, processed, rowDone, secondDone, taken}
 use Rattle.builder.proofs.Graphs.{marked-yes, marked-no}
 use Rattle.builder.proofs.Steps.{row-to}
 use Rattle.builder.proofs.Turns.{step-of-fits}
@@ -99,6 +100,13 @@ module _ (w : List ℕ) where
   unfolding lowest
   scan-start = record { most = omega arith; same = refl }
 
+  -- none waits below where the look begins
+  pub scan-from : (from : ℕ) → from ≤ length w → ((i : ℕ) → i < from → getD w i 0 ≡ 0) → Scanned w from
+  scan-from zero l h = scan-start
+  scan-from (suc k) l h =
+      let S = scan-from k (omega arith) (λ i b. h i (omega arith)) in
+      record { most = l; same = S .same ∙ skip-at (λ k x. not (eqb x 0)) w k (omega arith) (rw (eq-eqb (getD w k 0) 0 (h k (omega arith)))) ∙ rw (add-one k) refl }
+
   module _ (i : ℕ) (S : Scanned w i) where
     pub scan-skip : i < length w → getD w i 0 ≡ 0 → Scanned w (i + 1)
     scan-skip l e = record { most = omega arith; same = S .same ∙ skip-at (λ k x. not (eqb x 0)) w i l (rw (eq-eqb (getD w i 0) 0 e)) }
@@ -108,3 +116,16 @@ module _ (w : List ℕ) where
 
     pub scan-end : length w ≤ i → none ≡ lowest w
     scan-end l = sym (S .same ∙ end-at (λ k x. not (eqb x 0)) w i l)
+
+-- ---- where to look on
+module _ (m t : List ℕ) (n : ℕ) {q : NewPlace} {k : ℕ} {b : Bool} (a : q ≡ newOf n) (e : k ≡ keptNumber q) (d : b ≡ marked m k) where
+  kept-told : marked m (keptNumber (newOf n)) ≡ b
+  kept-told = sym (d ∙ ap (marked m) (e ∙ ap (λ (x : NewPlace). keptNumber x) a))
+
+  pub low-at-kept : b ≡ true → 0 ≡ lowAfter m t n
+  unfolding lowAfter
+  low-at-kept h = rw (kept-told ∙ h, lowAfter)
+
+  pub low-at-targets : {u v x y : ℕ} → b ≡ false → u ≡ getD t (2 * n) 0 → v ≡ getD t (2 * n + 1) 0 → x ≡ min u v → y ≡ min n x → y ≡ lowAfter m t n
+  unfolding lowAfter
+  low-at-targets h p q u v = let z : index n 0 ≡ 2 * n = omega arith in v ∙ ap (min n) (u ∙ (λ i. min (p i) (q i))) ∙ rw (kept-told ∙ h, lowAfter) (rw z)

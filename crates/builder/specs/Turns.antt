@@ -2,7 +2,7 @@
 use mathlib.Core.Bool.{Bool, true, false, not}
 use mathlib.Core.List.{List}
 use mathlib.Core.Option.{Option, none, some}
-use Prim.Native.Nat.{ℕ, _^_}
+use Prim.Native.Nat.{ℕ, _^_, min}
 use lib.Dec.{eqb, ltb}
 use lib.ListN.{getD, set, replicate}
 use Rattle.base.specs.Walks.{firstFrom}
@@ -12,6 +12,7 @@ use Rattle.chart.specs.Places.{pairNumber, keptNumber, oldOf, newOf}
 use Rattle.chart.specs.Charts.{Chart, size, to, operation, leaving}
 use Rattle.align.specs.declared.spots.Spot.{Spot}
 use Rattle.align.specs.Steps.{step}
+use Rattle.checker.specs.Records.{index}
 use Rattle.builder.specs.Graphs.{Graph, graph, firstPair, marked, keep, aim, join, unwait}
 
 -- the new rows that leave the new place of pair n (line 4), and where the r-th of them leads
@@ -27,6 +28,11 @@ lowest w = firstFrom (λ i x. not (eqb x 0)) 0 w
 
 unfoldable pub next : Graph → Option ℕ
 next g = lowest (g .waiting)
+
+-- where to look on after the turn of pair n: no pair below this number waits, which is proved. Where n's place is kept, at 0; else at the
+-- lowest of n and the targets of its rows
+unfoldable pub lowAfter : List ℕ → List ℕ → ℕ → ℕ
+lowAfter m t n = elim (marked m (keptNumber (newOf n))) [ true ↦ 0 | false ↦ min n (min (getD t (index n 0) 0) (getD t (index n 1) 0)) ]
 
 -- "reading its set afresh for each": its own set; "Rows of the pair in hand are finished, under the set it had, even if it left the graph."
 unfoldable pub setNow : List ℕ → List ℕ → ℕ → ℕ → ℕ

@@ -65,8 +65,9 @@ pub fn explore<'a>(
         ≡ explored (charted old (now («old_rows» .entry))) (charted new (now («new_rows» .entry))) ⌝ }
 {
     begin(old, new, marks, targets, sets, waiting);
+    let mut from = 0;
     loop {
-        match turns::lowest(&*waiting) {
+        match turns::lowest(&*waiting, from) {
             Found::At(n) => {
                 turns::turn(
                     old,
@@ -79,6 +80,7 @@ pub fn explore<'a>(
                     waiting,
                     n,
                 );
+                from = turns::low_after(&*marks, &*targets, n);
             }
             Found::Nothing => {
                 return;

@@ -1,14 +1,14 @@
 // Algorithm 2: the rows of a waiting pair, and the turns of a build.
 ghost use mathlib.Core.Path.{_≡_};
 ghost use mathlib.Core.Option.{some};
-ghost use Prim.Native.Nat.{_<_};
-ghost use lib.ListN.{length};
+ghost use Prim.Native.Nat.{ℕ, _<_, _≤_, min};
+ghost use lib.ListN.{length, getD};
 ghost use Rattle.chart.specs.Charts.{charted};
 ghost use Rattle.chart.specs.Faultless.{FaultlessChart};
 ghost use Rattle.align.specs.declared.spots.Spot.{Spot};
 ghost use Rattle.align.specs.Steps.{told, toldFound};
 ghost use Rattle.builder.specs.Graphs.{graph, Sized};
-ghost use Rattle.builder.specs.Turns.{lowest, setNow, arrived, processed, rowDone, taken};
+ghost use Rattle.builder.specs.Turns.{lowest, lowAfter, setNow, arrived, processed, rowDone, taken};
 use crate::inner::buffers;
 use crate::inner::graphs;
 use align::inner::step::step;
@@ -25,11 +25,12 @@ use chart::inner::rows::rows_of;
 use chart::places::NewPlace;
 use chart::places::Place;
 
-// The lowest pair that waits.
-pub fn lowest(waiting: &[u8]) -> Found
+// The lowest pair that waits, where none waits below `from`.
+pub fn lowest(waiting: &[u8], from: usize) -> Found
+    requires { ⌜ (from ≤ length (now waiting)) × ((i : ℕ) → i < from → getD (now waiting) i 0 ≡ 0) ⌝ }
     ensures { λ r. ⌜ toldFound r ≡ lowest (now (waiting .entry)) ⌝ }
 {
-    let mut i = 0;
+    let mut i = from;
     while i < waiting.len() {
         if waiting[i] != 0 {
             return Found::At(i);
@@ -37,6 +38,33 @@ pub fn lowest(waiting: &[u8]) -> Found
         i += 1;
     }
     Found::Nothing
+}
+
+fn wide(x: u16) -> usize
+    ensures { λ r. ⌜ r ≡ x ⌝ }
+{
+    x as usize
+}
+
+fn lower(a: usize, b: usize) -> usize
+    ensures { λ r. ⌜ r ≡ min a b ⌝ }
+{
+    if a < b {
+        return a;
+    }
+    b
+}
+
+// Where to look on after the turn of pair n: no pair below waits.
+pub fn low_after(marks: &[u8], targets: &[u16], n: usize) -> usize
+    requires { ⌜ (n < 4096) × (length (now marks) ≡ 4160) × (length (now targets) ≡ 8192) ⌝ }
+    ensures { λ r. ⌜ r ≡ lowAfter (now (marks .entry)) (now (targets .entry)) n ⌝ }
+{
+    if graphs::is_marked(marks, kept(new_of(n))) {
+        return 0;
+    }
+    let at = 2 * n;
+    lower(n, lower(wide(targets[at]), wide(targets[at + 1])))
 }
 
 // Row r of pair n leads to new place q by a step that came to h.

@@ -2,16 +2,18 @@
 use Rattle.chart.specs.Charts.{charted}
 use Rattle.builder.specs.Graphs.{graph}
 use Rattle.builder.proofs.Measure.{weight}
-use Rattle.builder.proofs.Exploring.{Building, build-begun, build-sized, build-below, build-less, build-turn, build-done, same-marks, same-targets, same-sets, same-waiting}
+use Rattle.builder.proofs.Exploring.{Building, build-begun, build-sized, build-looks, build-below, build-less, build-turn, build-done, same-marks, same-targets, same-sets, same-waiting}
 use borrow.Author.Needs.{needs}
 use Rattle.builder.proofs.inner.explore.explore.Statement.{statement}
 use Rattle.builder.proofs.inner.explore.explore.Tie as tie
 
 abbrev Inv-loop : tie.InvT-loop
-Inv-loop old old-rows new new-rows marks₀ targets₀ sets₀ waiting₀ marks targets sets waiting = Building (charted old old-rows) (charted new new-rows) (graph marks targets sets waiting)
+Inv-loop old old-rows new new-rows marks₀ targets₀ sets₀ waiting₀ from₀ marks targets sets waiting from =
+    Building (charted old old-rows) (charted new new-rows) (graph marks targets sets waiting) from
 
 abbrev μ-loop : tie.MeasureT-loop
-μ-loop old old-rows new new-rows marks₀ targets₀ sets₀ waiting₀ marks targets sets waiting = weight (graph marks targets sets waiting)
+μ-loop old old-rows new new-rows marks₀ targets₀ sets₀ waiting₀ from₀ marks targets sets waiting from =
+    weight (graph marks targets sets waiting)
 
 begin-requires : tie.Need-begin-requires Inv-loop μ-loop
 begin-requires c κs = search needs
@@ -20,13 +22,16 @@ loop-holds : tie.Need-loop-holds Inv-loop μ-loop
 loop-holds c = build-begun _ _ (c .before .before .before .before .before .before .before .before .before .before .before .before .before .before .before .before .before .before .before .pre .0) (c .before .before .before .before .before .before .before .before .before .before .before .before .before .before .before .before .before .before .before .pre .1 .0) (c .before .before .before .before .before .before .before .before .begin .ensures _ _)
 
 lowest-requires : tie.Need-lowest-requires Inv-loop μ-loop
-lowest-requires c κs = search needs
+lowest-requires c κs = build-looks _ _ (c .before .loop .inv)
 
 enum-known-n : tie.Need-enum-known-n Inv-loop μ-loop
 enum-known-n c = search needs
 
 turn-requires : tie.Need-turn-requires Inv-loop μ-loop
 turn-requires c κs = ((c .before .before .before .before .before .before .before .before .before .before .before .before .before .before .before .before .before .before .before .before .before .before .before .before .before .before .before .before .before .pre .0), ((c .before .before .before .before .before .before .before .before .before .before .before .before .before .before .before .before .before .before .before .before .before .before .before .before .before .before .before .before .before .pre .1 .0), (build-below _ _ (c .before .before .before .before .before .before .before .before .before .loop .inv) (c .before .before .before .before .before .before .before .lowest .ensures) (c .before .before .before .before .before .n .given .1), build-sized _ _ (c .before .before .before .before .before .before .before .before .before .loop .inv))))
+
+low-after-requires : tie.Need-low-after-requires Inv-loop μ-loop
+low-after-requires c κs = let B = (c .before .before .before .before .before .before .before .before .before .before .before .before .before .before .before .before .before .before .before .before .loop .inv) in (build-below _ _ (c .before .before .before .before .before .before .before .before .before .before .before .before .before .before .before .before .before .before .before .before .loop .inv) (c .before .before .before .before .before .before .before .before .before .before .before .before .before .before .before .before .before .before .lowest .ensures) (c .before .before .before .before .before .before .before .before .before .before .before .before .before .before .before .before .n .given .1), search (needs, build-sized _ _ B), search (needs, build-sized _ _ B))
 
 loop-less : tie.Need-loop-less Inv-loop μ-loop
 loop-less c = search build-less
@@ -63,6 +68,7 @@ explore-spec =
     lowest-requires
     enum-known-n
     turn-requires
+    low-after-requires
     loop-less
     loop-again
     enum-told

@@ -1,19 +1,19 @@
 -- `builder::inner::turns::lowest` meets its contract. Assumes nothing.
 use Prim.Native.Nat.{_-_}
 use lib.ListN.{length}
-use Rattle.builder.proofs.Rows.{Scanned, scan-start, scan-skip, scan-here, scan-end}
+use Rattle.builder.proofs.Rows.{Scanned, scan-from, scan-skip, scan-here, scan-end}
 use borrow.Author.Needs.{needs}
 use Rattle.builder.proofs.inner.turns.lowest.Statement.{statement}
 use Rattle.builder.proofs.inner.turns.lowest.Tie as tie
 
 abbrev Inv-loop : tie.InvT-loop
-Inv-loop waiting i₀ i = Scanned waiting i
+Inv-loop waiting from i₀ i = Scanned waiting i
 
 abbrev μ-loop : tie.MeasureT-loop
-μ-loop waiting i₀ i = length waiting - i
+μ-loop waiting from i₀ i = length waiting - i
 
 loop-holds : tie.Need-loop-holds Inv-loop μ-loop
-loop-holds c = scan-start _
+loop-holds c = search scan-from
 
 shared-slice-read-if1 : tie.Need-shared-slice-read-if1 Inv-loop μ-loop
 shared-slice-read-if1 c = search needs

@@ -1,0 +1,73 @@
+-- `builder::inner::turns::low_after` meets its contract. Assumes nothing.
+use mathlib.Core.Path.{ap}
+use Rattle.chart.specs.declared.places.NewPlace.{NewPlace}
+use Rattle.builder.proofs.Rows.{low-at-kept, low-at-targets}
+use native.Mathlib.Omega.{arith}
+use borrow.Author.Needs.{needs}
+use Rattle.builder.proofs.inner.turns.low_after.Statement.{statement}
+use Rattle.builder.proofs.inner.turns.low_after.Tie as tie
+
+new-of-requires : tie.Need-new-of-requires
+new-of-requires c κs = search needs
+
+kept-requires : tie.Need-kept-requires
+kept-requires c κs = let e = ap (λ (q : NewPlace). q .0) (c .new-of .ensures) in omega arith
+
+is-marked-requires : tie.Need-is-marked-requires
+is-marked-requires c κs = let e = ap (λ (q : NewPlace). q .0) (c .before .new-of .ensures) in omega (arith, c .kept .ensures)
+
+returns : tie.Need-returns
+returns c = search low-at-kept
+
+mul-at : tie.Need-mul-at
+mul-at c = search needs
+
+mul-wide : tie.Need-mul-wide
+mul-wide c = search needs
+
+shared-slice-read-wide : tie.Need-shared-slice-read-wide
+shared-slice-read-wide c = search needs
+
+wide-requires : tie.Need-wide-requires
+wide-requires c κs = search needs
+
+add-wide : tie.Need-add-wide
+add-wide c = search needs
+
+mul-wide-2 : tie.Need-mul-wide-2
+mul-wide-2 c = search needs
+
+shared-slice-read-wide-2 : tie.Need-shared-slice-read-wide-2
+shared-slice-read-wide-2 c = search needs
+
+wide-requires-2 : tie.Need-wide-requires-2
+wide-requires-2 c κs = search needs
+
+lower-requires : tie.Need-lower-requires
+lower-requires c κs = search needs
+
+lower-requires-2 : tie.Need-lower-requires-2
+lower-requires-2 c κs = search needs
+
+returns-2 : tie.Need-returns-2
+returns-2 c = search low-at-targets
+
+pub low-after-spec : {M : Type 1} → statement M
+low-after-spec =
+    tie.close
+    (tie.spec
+    new-of-requires
+    kept-requires
+    is-marked-requires
+    returns
+    mul-at
+    mul-wide
+    shared-slice-read-wide
+    wide-requires
+    add-wide
+    mul-wide-2
+    shared-slice-read-wide-2
+    wide-requires-2
+    lower-requires
+    lower-requires-2
+    returns-2)

@@ -1,0 +1,143 @@
+-- The answers of a build are small, and so is the number that each makes; what is below 2^56 tells the start.
+-- Assumes nothing.
+use mathlib.Core.Path.{_≡_, refl, sym, ap, subst, _∙_}
+use mathlib.Core.Bool.{Bool, true, false, not}
+use mathlib.Core.List.{List, [], _∷_}
+use mathlib.Core.Logic.{⊎-elim}
+use mathlib.Core.Option.{Option, none, some}
+use Prim.Native.Nat.{ℕ, _+_, _%_, _^_, _≤_, _<_}
+use native.Mathlib.Omega.{arith}
+use borrow.Author.Tests.{not-false}
+use lib.Dec.{eqb}
+use lib.ListN.{length}
+use Rattle.base.specs.Answers.{Answer, given, refused}
+use Rattle.base.specs.Chains.{mapped}
+use Rattle.base.specs.Options.{orElse}
+use Rattle.base.specs.Refusals.{Refusal, refusedIf}
+use Rattle.base.specs.Says.{bool}
+use Rattle.base.specs.Walks.{count}
+use Rattle.base.proofs.OnSome.{OnSome, or-on}
+use Rattle.base.proofs.Options.{both-missing, not-due}
+use Rattle.base.proofs.Says.{says}
+use Rattle.base.proofs.Tests.{T-true}
+use Rattle.chart.specs.Charts.{Chart}
+use Rattle.chart.specs.Faults.{fault}
+use Rattle.chart.proofs.Bounds.{fault-slight}
+use Rattle.checker.specs.Records.{Record, recordOf}
+use Rattle.checker.specs.Rules.{startFits}
+use Rattle.checker.specs.Checks.{sized, inChart, recordFault, refusal as checkRefusal}
+use Rattle.checker.proofs.Passed.{passed}
+use Rattle.builder.specs.declared.answers.Summary.{Summary}
+use Rattle.builder.specs.declared.answers.Built.{Built}
+use Rattle.builder.specs.declared.answers.Built.the-variants as builts
+use Rattle.builder.specs.declared.answers.Verdict.the-variants as verdicts
+use Rattle.builder.specs.Graphs.{graph}
+use Rattle.builder.specs.Builds.{recorded}
+use Rattle.builder.specs.Answers.{told, lent, summary, refusal, answered}
+use Rattle.builder.proofs.Demand3.{record-passes}
+use Rattle.builder.proofs.Answering.{accepted}
+use Rattle.capi.specs.Numbers.{number, ofBuild}
+use Rattle.capi.proofs.Refusals.{Small, due-small, in-chart-small}
+
+count-most : (v : ℕ) (l : List ℕ) → count v l ≤ length l
+unfolding count
+count-most v [] = omega arith
+count-most v (x ∷ l) = go (eqb x v) (count-most v l)
+  where
+    go : (b : Bool) → count v l ≤ length l → elim b as (λ _. ℕ) [ true ↦ count v l + 1 | false ↦ count v l ] ≤ length (x ∷ l)
+    go true h = omega arith
+    go false h = omega arith
+
+-- ---- a record that passes
+module _ (old new : Chart) (R : Record) (e : checkRefusal old new R ≡ none) where
+  marks-long : length (R .graph .marks) ≡ 4160
+  unfolding checkRefusal sized
+  marks-long =
+      let t = sized (old .table) (new .table) (R .graph) in
+      let a = both-missing (refusedIf (not (bool t)) 21 0 0) (orElse (inChart 0 (fault old)) (orElse (inChart 1 (fault new)) (recordFault old new R))) e in
+      says t (T-true (not-false (bool t) (not-due (not (bool t)) _ (a .0)))) .0
+
+  start-near : R .start ≤ 4096
+  unfolding startFits
+  start-near = ⊎-elim (λ s. omega (arith, s .0)) (λ s. omega (arith, s .0)) (passed old new R e .starts)
+
+-- ---- what a build answers
+pub record Few (s : Summary) : Type 0 where
+  pub start : s .start ≤ 4096
+  pub opened : s .opened ≤ 4160
+  pub kept : s .kept ≤ 4160
+  pub covered : s .covered ≤ 4160
+
+abbrev SmallBuild : Answer Summary → Type 0
+SmallBuild (given s) = Few s
+SmallBuild (refused n c p) = Small (record { number = n; chart = c; position = p })
+
+recorded-few : (old new : Chart) → checkRefusal old new (recorded old new) ≡ none → Few (summary (recorded old new .start) (recorded old new .graph .marks))
+unfolding summary
+recorded-few old new e =
+    let m = recorded old new .graph .marks in
+    let l = marks-long old new (recorded old new) e in
+    record {
+      start = start-near old new (recorded old new) e;
+      opened = omega (arith, count-most 1 m);
+      kept = omega (arith, count-most 2 m);
+      covered = omega (arith, count-most 3 m);
+    }
+
+module _ (old new : Chart) (m t s w : List ℕ) where
+  due-is-small : OnSome Small (refusal old new (graph m t s w))
+  unfolding refusal
+  due-is-small =
+      let lengths = not (bool (lent (old .table) (new .table) (graph m t s w))) in
+      or-on Small (refusedIf lengths 21 0 0) (orElse (inChart 0 (fault old)) (inChart 1 (fault new))) (due-small lengths 21 0 (omega arith) (omega arith) (omega arith))
+      (λ _. or-on Small (inChart 0 (fault old)) (inChart 1 (fault new)) (in-chart-small 0 (omega arith) (fault old) (fault-slight old))
+      (λ _. in-chart-small 1 (omega arith) (fault new) (fault-slight new)))
+
+  -- Whatever a build answers is small.
+  build-small : SmallBuild (answered old new (graph m t s w))
+  unfolding answered
+  build-small = go (refusal old new (graph m t s w)) refl
+    where
+      go : (o : Option Refusal) → o ≡ refusal old new (graph m t s w)
+          → SmallBuild
+          (elim o as (λ _. Answer Summary) [
+            | none ↦ given (summary (recorded old new .start) (recorded old new .graph .marks))
+            | some r ↦ refused (r .number) (r .chart) (r .position)
+          ])
+      go none e =
+          let A = accepted old new m t s w verdicts.Sound e refl in
+          recorded-few old new (record-passes old new (A .old-faultless) (A .new-faultless) (A .old-sound) (A .new-sound))
+      go (some r) e = subst (OnSome Small) (sym e) due-is-small
+
+  module _ {b : Built} (is : told b ≡ answered old new (graph m t s w)) where
+    module _ {s′ : Summary} (done : b ≡ builts.Done s′) where
+      given-is : given s′ ≡ answered old new (graph m t s w)
+      given-is = ap told (sym done) ∙ is
+
+      pub done-few : Few s′
+      done-few = subst SmallBuild (sym given-is) build-small
+
+      pub done-number : {x : ℕ} → x ≡ number (given (ofBuild s′)) → x ≡ number (mapped ofBuild (answered old new (graph m t s w)))
+      done-number e = e ∙ ap (λ (a : Answer Summary). number (mapped ofBuild a)) given-is
+
+      -- the start is the answer's first number
+      pub done-passes : {x : ℕ} (m′ t′ s″ : List ℕ) → ((q : Summary) → b ≡ builts.Done q → checkRefusal old new (recordOf (q .start) m′ t′ s″) ≡ none)
+          → x ≡ number (given (ofBuild s′)) → x < 2 ^ 56 → checkRefusal old new (recordOf (x % 2 ^ 14) m′ t′ s″) ≡ none
+      done-passes {x} m′ t′ s″ passes e l =
+          let f = done-few in
+          let z : s′ .start ≡ x % 2 ^ 14 = omega arith in
+          subst (λ (k : ℕ). checkRefusal old new (recordOf k m′ t′ s″) ≡ none) z (passes s′ done)
+
+    module _ {n c p : ℕ} (stopped : b ≡ builts.Refused n c p) where
+      refused-is : refused n c p ≡ answered old new (graph m t s w)
+      refused-is = ap told (sym stopped) ∙ is
+
+      pub stopped-small : Small (record { number = n; chart = c; position = p })
+      stopped-small = subst SmallBuild (sym refused-is) build-small
+
+      pub stopped-number : {x : ℕ} → x ≡ number (refused n c p) → x ≡ number (mapped ofBuild (answered old new (graph m t s w)))
+      stopped-number e = e ∙ ap (λ (a : Answer Summary). number (mapped ofBuild a)) refused-is
+
+      -- a refusal is 2^56 or more
+      pub stopped-passes : {A : Type 0} {x : ℕ} → x ≡ number (refused n c p) → x < 2 ^ 56 → A
+      stopped-passes {A} {x} e l = absurd (omega (arith, stopped-small .some-number))
