@@ -23,6 +23,13 @@ uint64_t picker_lookup(uint32_t old_places, uint32_t old_alarm, const uint32_t *
                        uint32_t new_places, uint32_t new_alarm, const uint32_t *new_rows, size_t new_rows_len,
                        uint32_t chart, uint32_t place, uint32_t *rows, size_t rows_len);
 
+/* A build: start, open, kept, covered. There are 4,160 marks, 8,192 targets, 4,096 sets and 4,096 waiting; what they held before has no
+ * effect. */
+uint64_t picker_build(uint32_t old_places, uint32_t old_alarm, const uint32_t *old_rows, size_t old_rows_len,
+                      uint32_t new_places, uint32_t new_alarm, const uint32_t *new_rows, size_t new_rows_len,
+                      uint8_t *marks, size_t marks_len, uint16_t *targets, size_t targets_len, uint64_t *sets, size_t sets_len,
+                      uint8_t *waiting, size_t waiting_len);
+
 /* The check of a record, whoever made it: 0, 0, 0, 0 where it passes. There are 4,160 marks, 8,192 targets and 4,096 sets. Nothing is
  * written. */
 uint64_t picker_check(uint32_t old_places, uint32_t old_alarm, const uint32_t *old_rows, size_t old_rows_len,

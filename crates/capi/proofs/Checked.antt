@@ -4,39 +4,24 @@ use mathlib.Core.Path.{_≡_, refl, sym, ap, subst, _∙_}
 use mathlib.Core.Bool.{Bool, true, false, _&&_, not}
 use mathlib.Core.List.{List}
 use mathlib.Core.Option.{Option, none, some}
-use Prim.Native.Nat.{ℕ, _+_, _*_, _≤_, _<_}
+use Prim.Native.Nat.{ℕ, _<_}
 use native.Mathlib.Omega.{arith}
 use lib.Dec.{eqb, ltb}
 use Rattle.base.specs.Options.{orElse, firstOf}
 use Rattle.base.specs.Refusals.{Refusal, refusedIf}
 use Rattle.base.specs.Says.{bool}
-use Rattle.base.proofs.OnSome.{OnSome, when-on, or-on, first-on}
+use Rattle.base.proofs.OnSome.{OnSome, or-on, first-on}
 use Rattle.chart.specs.Charts.{Chart, size, leaving}
-use Rattle.chart.specs.Faults.{Fault, fault}
+use Rattle.chart.specs.Faults.{fault}
 use Rattle.chart.specs.Places.{newOf}
-use Rattle.chart.proofs.Bounds.{Slight, fault-slight}
+use Rattle.chart.proofs.Bounds.{fault-slight}
 use Rattle.checker.specs.declared.records.Checked.{Checked}
 use Rattle.checker.specs.Records.{Graph, Record, mark, index}
 use Rattle.checker.specs.Rules.{headOf, shaped, startFits, rowFits}
 use Rattle.checker.specs.Checks.{told, sized, inChart, targetFault, rowsFault, pairFault, ruleFault, recordFault, refusal}
 use Rattle.checker.specs.Promise.{Promise}
 use Rattle.capi.specs.Numbers.{number, unlessDue}
-
--- a refusal's number, chart and position
-pub record Small (f : Refusal) : Type 0 where
-  pub some-number : 1 ≤ f .number
-  pub few : f .number ≤ 32
-  pub one-of-two : f .chart ≤ 1
-  pub near : f .position ≤ 8192
-
-due-small : (b : Bool) (n p : ℕ) → 1 ≤ n → n ≤ 32 → p ≤ 8192 → OnSome Small (refusedIf b n 0 p)
-due-small b n p l h g =
-    when-on Small b (record { number = n; chart = 0; position = p }) (record { some-number = l; few = h; one-of-two = omega arith; near = g })
-
-in-chart-small : (chart : ℕ) → chart ≤ 1 → (o : Option Fault) → OnSome Slight o → OnSome Small (inChart chart o)
-in-chart-small chart l none s = tt
-in-chart-small chart l (some f) s =
-    record { some-number = s .some-number; few = omega (arith, s .few); one-of-two = l; near = omega (arith, s .row) }
+use Rattle.capi.proofs.Refusals.{Small, due-small, in-chart-small}
 
 module _ (old new : Chart) (G : Graph) where
   target-small : (m : ℕ) (rows : List ℕ) (k : ℕ) → m < 4096 → k < 2 → OnSome Small (targetFault old new G m rows k)

@@ -1,19 +1,19 @@
 -- A part that the lookup hands back fits 12 entries, and what is answered of it.
 -- Assumes nothing.
-use mathlib.Core.Path.{_≡_, refl, sym, ap, _∙_}
-use mathlib.Core.Bool.{Bool, true, false, cond, _&&_}
+use mathlib.Core.Path.{_≡_, refl, sym}
+use mathlib.Core.Bool.{Bool, true, false, cond}
 use mathlib.Core.List.{List, [], _++_}
-use Prim.Native.Nat.{ℕ, _*_, _/_, _%_, _^_, _≤_, _<_}
+use Prim.Native.Nat.{ℕ, _*_, _/_, _^_, _≤_, _<_}
 use native.Mathlib.Omega.{arith}
 use borrow.Author.Tests.{eq-eqb, ne-eqb}
 use lib.Dec.{eqb, ltb}
 use lib.ListN.{length, getD, drop}
-use Rattle.base.specs.Answers.{Answer, given, refused}
+use Rattle.base.specs.Answers.{given, refused}
 use Rattle.base.specs.Chains.{mapped}
 use Rattle.base.specs.Options.{missing}
 use Rattle.base.proofs.Options.{missing-none}
 use Rattle.base.proofs.Tests.{and-true}
-use Rattle.chart.specs.Charts.{Chart, size, leavingOf, leaving}
+use Rattle.chart.specs.Charts.{Chart, size, leaving}
 use Rattle.chart.specs.Faults.{refusal}
 use Rattle.chart.specs.Lookup.{openTo, lookup}
 use Rattle.chart.proofs.Faultless.{faultless}
@@ -37,14 +37,17 @@ open-short C w p true e = opened-short C w p e
 open-short C w p false e = omega arith
 
 module _ (old new : Chart) (chart p : ℕ) where
-  pub part-short : Words old → Words new → length (lookup old new chart p) ≤ 12
+  short : Words old → Words new → length (lookup old new chart p) ≤ 12
   unfolding lookup
-  part-short v w = go (eqb chart 0) (eqb chart 1)
+  short v w = go (eqb chart 0) (eqb chart 1)
     where
       go : (a b : Bool) → length (cond a (cond (openTo old p) (leaving (old .table) p) []) (cond b (cond (openTo new p) (leaving (new .table) p) []) [])) ≤ 12
       go true b = open-short old v p (openTo old p) refl
       go false true = open-short new w p (openTo new p) refl
       go false false = omega arith
+
+  pub part-short : {part : List ℕ} → Words old → Words new → part ≡ lookup old new chart p → length part ≤ 12
+  part-short v w e = rw e (short v w)
 
   module _ (rows : List ℕ) where
     refused-21 : (length rows ≡ 12 → ⊥) → lookedUp old new chart p rows ≡ refused 21 0 0

@@ -6,6 +6,7 @@ use lib.ListN.{length}
 use Rattle.base.specs.Answers.{Answer, given, refused}
 use Rattle.base.specs.Refusals.{Refusal}
 use Rattle.chart.specs.Charts.{Chart, size}
+use Rattle.builder.specs.declared.answers.Summary.{Summary}
 
 -- a chart as it is lent: two numbers beside its table
 abbrev pub chartOf : ℕ → ℕ → List ℕ → Chart
@@ -35,3 +36,7 @@ ofText t = record { a = length t; b = 0; c = 0; d = 0 }
 abbrev pub unlessDue : Option Refusal → Answer Four
 unlessDue none = given (record { a = 0; b = 0; c = 0; d = 0 })
 unlessDue (some f) = refused (f .number) (f .chart) (f .position)
+
+-- a build: start, open, kept, covered
+abbrev pub ofBuild : Summary → Four
+ofBuild s = record { a = s .start; b = s .opened; c = s .kept; d = s .covered }

@@ -1,5 +1,7 @@
 // The C interface (include/picker.h): numbers and lent memory in, one number out. Every function calls one entry point, and none has a `requires`.
 ghost use mathlib.Core.Path.{_≡_};
+ghost use mathlib.Core.Option.{none};
+ghost use Prim.Native.Nat.{_%_, _^_, _<_};
 ghost use lib.ListN.{length};
 ghost use Rattle.base.specs.Chains.{mapped};
 ghost use Rattle.text.specs.Texts.{readInto, filled};
@@ -7,8 +9,11 @@ ghost use Rattle.text.specs.Written.{writing, printed};
 ghost use Rattle.checker.specs.Records.{recordOf};
 ghost use Rattle.checker.specs.Checks.{refusal};
 ghost use Rattle.checker.specs.Promise.{Promise};
+ghost use Rattle.builder.specs.Graphs.{graph};
+ghost use Rattle.builder.specs.Answers.{answered, left};
 ghost use Rattle.capi.specs.Lookups.{lookedUp, handed, ofRows};
-ghost use Rattle.capi.specs.Numbers.{chartOf, number, ofChart, ofText, unlessDue};
+ghost use Rattle.capi.specs.Numbers.{chartOf, number, ofChart, ofText, unlessDue, ofBuild};
+use builder::answers::Built;
 use chart::charts::Head;
 use checker::records::Checked;
 use text::answers::Read;
@@ -111,5 +116,49 @@ pub extern "C" fn picker_check<'a>(
         Checked::Shape => 31 * 72057594037927936,
         Checked::Start => 32 * 72057594037927936 + 8192,
         Checked::Target(index) => 32 * 72057594037927936 + index as u64,
+    }
+}
+
+// A build: start, open, kept, covered. What an answer below 2^56 leaves in marks, targets and sets, with the start that it tells, the check
+// passes.
+#[no_mangle]
+pub extern "C" fn picker_build<'a>(
+    old_places: u32,
+    old_alarm: u32,
+    old_rows: &'a [u32],
+    new_places: u32,
+    new_alarm: u32,
+    new_rows: &'a [u32],
+    marks: &mut [u8],
+    targets: &mut [u16],
+    sets: &mut [u64],
+    waiting: &mut [u8],
+) -> u64
+    ensures answer { λ r. ⌜ r ≡ number (mapped ofBuild (answered (chartOf «old_places» «old_alarm» (now («old_rows» .entry))) (chartOf «new_places» «new_alarm» (now («new_rows» .entry))) (graph (now (marks .entry)) (now (targets .entry)) (now (sets .entry)) (now (waiting .entry))))) ⌝ }
+    ensures leaves { λ _. ⌜ graph (now (marks .exit)) (now (targets .exit)) (now (sets .exit)) (now (waiting .exit))
+        ≡ left (chartOf «old_places» «old_alarm» (now («old_rows» .entry))) (chartOf «new_places» «new_alarm» (now («new_rows» .entry))) (graph (now (marks .entry)) (now (targets .entry)) (now (sets .entry)) (now (waiting .entry))) ⌝ }
+    ensures passes { λ r. ⌜ (r < 2 ^ 56
+        → refusal (chartOf «old_places» «old_alarm» (now («old_rows» .entry))) (chartOf «new_places» «new_alarm» (now («new_rows» .entry))) (recordOf (r % 2 ^ 14) (now (marks .exit)) (now (targets .exit)) (now (sets .exit))) ≡ none) ⌝ }
+{
+    let old = Head {
+        places: old_places,
+        alarm: old_alarm,
+    };
+    let new = Head {
+        places: new_places,
+        alarm: new_alarm,
+    };
+    match builder::build(old, old_rows, new, new_rows, marks, targets, sets, waiting) {
+        Built::Done(s) => {
+            s.start as u64
+                + s.opened as u64 * 16384
+                + s.kept as u64 * 268435456
+                + s.covered as u64 * 4398046511104
+        }
+        Built::Refused {
+            number,
+            chart,
+            position,
+        } => number as u64 * 72057594037927936 + chart as u64 * 281474976710656 + position as u64,
     }
 }

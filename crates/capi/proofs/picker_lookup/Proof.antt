@@ -1,6 +1,4 @@
 -- `capi::picker_lookup` meets its contract: a part has 12 entries at most. Assumes nothing.
-use mathlib.Core.Path.{sym, ap, _∙_}
-use lib.ListN.{length}
 use Rattle.capi.proofs.Handed.{part-short, length-refused, part-handed}
 use native.Mathlib.Omega.{arith}
 use borrow.Author.Needs.{needs}
@@ -18,8 +16,8 @@ lookup-requires c κs = search needs
 
 copy-requires : tie.Need-copy-requires
 copy-requires c κs =
-    let s = part-short (record { places = c .before .before .before .before .before .before .args .old-places; alarm = c .before .before .before .before .before .before .args .old-alarm; table = c .before .before .before .before .before .before .args .old-rows .now }) (record { places = c .before .before .before .before .before .before .args .new-places; alarm = c .before .before .before .before .before .before .args .new-alarm; table = c .before .before .before .before .before .before .args .new-rows .now }) (c .before .before .before .before .before .before .args .chart) (c .before .before .before .before .before .before .args .place) (λ k. omega (arith, c .before .before .before .before .before .shared-slice-known .given k)) (λ k. omega (arith, c .before .before .before .before .shared-slice-known2 .given k)) in
-    omega (arith, s, ap length (c .before .lookup .ensures), c .before .before .if1 .left)
+    let s = part-short (record { places = c .before .before .before .before .before .before .args .old-places; alarm = c .before .before .before .before .before .before .args .old-alarm; table = c .before .before .before .before .before .before .args .old-rows .now }) (record { places = c .before .before .before .before .before .before .args .new-places; alarm = c .before .before .before .before .before .before .args .new-alarm; table = c .before .before .before .before .before .before .args .new-rows .now }) (c .before .before .before .before .before .before .args .chart) (c .before .before .before .before .before .before .args .place) (λ k. omega (arith, c .before .before .before .before .before .shared-slice-known .given k)) (λ k. omega (arith, c .before .before .before .before .shared-slice-known2 .given k)) (c .before .lookup .ensures) in
+    omega (arith, c .before .before .if1 .left)
 
 same-length : tie.Need-same-length
 same-length c = search needs
