@@ -1,6 +1,6 @@
 -- What a build answers, in the form in which the code meets it. Assumes nothing.
-use mathlib.Core.Path.{_≡_, refl, sym, ap, subst, _∙_}
-use mathlib.Core.Bool.{Bool, true, false, _&&_, not}
+use mathlib.Core.Path.{_≡_, refl, sym, ap, _∙_}
+use mathlib.Core.Bool.{Bool, true, false, not}
 use mathlib.Core.List.{List}
 use mathlib.Core.Option.{Option, none, some}
 use Prim.Native.Nat.{ℕ, _%_}
@@ -8,11 +8,11 @@ use native.Mathlib.Omega.{arith}
 use borrow.Author.Tests.{eq-eqb, ne-eqb, not-false}
 use lib.Dec.{eqb}
 use lib.ListN.{length}
-use Rattle.base.specs.Answers.{Answer, given, refused}
-use Rattle.base.specs.Options.{when, orElse, missing}
-use Rattle.base.specs.Refusals.{Refusal, refusedIf}
-use Rattle.base.specs.Says.{Test, bool, Says}
-use Rattle.base.proofs.Options.{missing-none, both-missing, not-due, first-there, first-missing}
+use Rattle.base.specs.Answers.{given, refused}
+use Rattle.base.specs.Options.{orElse, missing}
+use Rattle.base.specs.Refusals.{refusedIf}
+use Rattle.base.specs.Says.{bool}
+use Rattle.base.proofs.Options.{both-missing, not-due, first-there, first-missing}
 use Rattle.base.proofs.Says.{says}
 use Rattle.base.proofs.Tests.{T-true}
 use Rattle.base.specs.Walks.{count}
@@ -23,17 +23,15 @@ use Rattle.chart.specs.Faults.{Fault, fault, told as chartTold, refusal as char
 use Rattle.chart.specs.Faultless.{FaultlessChart}
 use Rattle.chart.proofs.Faultless.{faultless}
 use Rattle.checker.specs.Records.{recordOf}
-use Rattle.checker.specs.Rules.{headOf}
 use Rattle.checker.specs.Checks.{sized, inChart, refusal as checkRefusal}
 use Rattle.builder.specs.declared.answers.Summary.{Summary}
-use Rattle.builder.specs.declared.answers.Built.{Built}
 use Rattle.builder.specs.declared.answers.Built.the-variants as builts
 use Rattle.builder.specs.declared.answers.Verdict.{Verdict}
 use Rattle.builder.specs.declared.answers.Verdict.the-variants as verdicts
 use Rattle.builder.specs.Graphs.{Graph, graph, Sized}
 use Rattle.builder.specs.Turns.{explored}
 use Rattle.builder.specs.Builds.{finished, startOf, built, recorded}
-use Rattle.builder.specs.Answers.{told, toldVerdict, lent, summary, refusal, answered, left}
+use Rattle.builder.specs.Answers.{toldVerdict, lent, summary, refusal, answered, left}
 use Rattle.builder.proofs.Demand3.{record-passes}
 
 -- ---- the lengths

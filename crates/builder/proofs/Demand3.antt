@@ -1,40 +1,39 @@
 -- Demand 3, second half: the check passes what a build leaves. Assumes nothing.
-use mathlib.Core.Path.{_≡_, refl, sym, ap, subst, _∙_}
-use mathlib.Core.Bool.{Bool, true, false, _&&_, _||_, not}
+use mathlib.Core.Path.{_≡_, refl, sym, subst, _∙_}
+use mathlib.Core.Bool.{Bool, true, false, not}
 use mathlib.Core.Logic.{_≢_, _⊎_, inl, inr, ⊎-elim, dite}
 use mathlib.Core.List.{List, [], _∷_, map}
-use mathlib.Core.Option.{Option, none, some}
-use Prim.Native.Nat.{ℕ, zero, suc, _+_, _*_, _/_, _%_, _^_, _≤_, _<_}
+use mathlib.Core.Option.{Option, none}
+use Prim.Native.Nat.{ℕ, zero, suc, _/_, _%_, _≤_, _<_}
 use native.Mathlib.Omega.{arith}
 use native.Mathlib.Decide.{ℕ-discrete, decLt}
 use borrow.Author.Tests.{lt-ltb, le-ltb, not-false}
-use lib.Dec.{T, eqb, ltb}
+use lib.Dec.{T}
 use lib.ListN.{length, getD, set, replicate, length-set, length-map, length-replicate}
 use Rattle.base.specs.Says.{Test, bool, Says}
 use Rattle.base.proofs.Says.{says, said}
-use Rattle.base.proofs.Tests.{T-true, is-true, or-false}
+use Rattle.base.proofs.Tests.{T-true, or-false}
 use Rattle.base.proofs.Walks.{same-at}
-use Rattle.chart.specs.declared.places.NewPlace.{NewPlace}
-use Rattle.chart.specs.Charts.{Chart, size, operation, leaving}
+use Rattle.chart.specs.Charts.{Chart, size, operation}
 use Rattle.chart.specs.Faults.{fault}
 use Rattle.chart.specs.Faultless.{FaultlessChart}
-use Rattle.chart.specs.Places.{pairNumber, keptNumber, oldOf, newOf}
+use Rattle.chart.specs.Places.{keptNumber, oldOf, newOf}
 use Rattle.align.specs.declared.spots.Spot.{Spot}
 use Rattle.align.specs.Steps.{fair, step}
-use Rattle.checker.specs.Records.{Record, recordOf, graphOf, mark, index, target, spot}
+use Rattle.checker.specs.Records.{recordOf, graphOf, mark, index, target, spot}
 use Rattle.checker.specs.Records as records
 use Rattle.checker.specs.Rules.{headOf, oldStart, newStart, markFits, targetFits, marksFit, targetsFit, shaped, startFits, keeps, joins, joinsStep, restsAt, ranked, leads, rowFits}
 use Rattle.checker.specs.Checks.{sized, refusal}
-use Rattle.builder.specs.Graphs.{Graph, graph, firstPair, firstKept, marked}
+use Rattle.builder.specs.Graphs.{Graph, firstPair, firstKept, marked}
 use Rattle.builder.specs.Turns.{rowsOf, leadsTo, stepOf, explored}
 use Rattle.builder.specs.Marks.{finalMarks}
 use Rattle.builder.specs.Builds.{redirected, finalTargets, alone, lone, finished, built, startOf, recorded}
-use Rattle.builder.proofs.Ones.{one-there, one-other, one-only}
-use Rattle.builder.proofs.Graphs.{markAt, setAt, waitAt, targetAt, marked-yes, marked-no, not-marked}
+use Rattle.builder.proofs.Ones.{one-there, one-only}
+use Rattle.builder.proofs.Graphs.{markAt, targetAt, marked-yes, marked-no, not-marked}
 use Rattle.builder.proofs.Turns.{leads-below}
 use Rattle.builder.proofs.Measure.{nothing-waits}
-use Rattle.builder.proofs.Invariant.{ToKept, ToPair, ToStep, Led, Stepped, Inv, Every, explored-inv}
-use Rattle.builder.proofs.Marks.{Ranks, rank-there, rank-pair, Final, final-marks}
+use Rattle.builder.proofs.Invariant.{ToKept, ToPair, ToStep, Led, Stepped, explored-inv}
+use Rattle.builder.proofs.Marks.{rank-there, Final, final-marks}
 use Rattle.builder.proofs.Passes.{Rules, passes}
 
 -- ---- the final targets

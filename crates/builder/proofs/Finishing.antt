@@ -1,14 +1,13 @@
 -- The end of a build, in the form in which the code meets it. Assumes nothing.
 use mathlib.Core.Path.{_≡_, refl, sym, ap, _∙_}
-use mathlib.Core.Bool.{Bool, true, false, _||_, not}
+use mathlib.Core.Bool.{Bool, true, false, not}
 use mathlib.Core.List.{List, [], _∷_, map}
 use mathlib.Core.Logic.{dite}
-use Prim.Native.Nat.{ℕ, zero, suc, _+_, _-_, _%_, _≤_, _<_}
+use Prim.Native.Nat.{ℕ, _+_, _-_, _≤_, _<_}
 use native.Mathlib.Numerals.{add-one}
 use native.Mathlib.Omega.{arith}
 use native.Mathlib.Decide.{ℕ-discrete}
 use borrow.Author.Tests.{eq-eqb, ne-eqb, lt-ltb, le-ltb}
-use lib.Dec.{eqb}
 use lib.ListN.{length, getD, set, drop, replicate, drop-of-length-le}
 use lib.Seq.{drop-cons}
 use Rattle.base.specs.Says.{bool}
@@ -18,7 +17,7 @@ use Rattle.chart.specs.declared.places.OldPlace.{OldPlace}
 use Rattle.chart.specs.declared.places.NewPlace.{NewPlace}
 use Rattle.chart.specs.Places.{keptNumber, oldOf, newOf}
 use Rattle.align.specs.Steps.{fair}
-use Rattle.checker.specs.Rules.{oldStart, newStart, startPair, startKept}
+use Rattle.checker.specs.Rules.{startPair, startKept}
 use Rattle.builder.specs.Graphs.{Graph, graph, Sized, marked}
 use Rattle.builder.specs.Marks.{finalMarks}
 use Rattle.builder.specs.Builds.{redirected, finalTargets, alone, lone, finished, startOf}

@@ -1,21 +1,20 @@
 -- What each part of a turn leaves at each node. Assumes nothing.
 use mathlib.Core.Path.{_≡_, refl, sym, ap, _∙_}
 use mathlib.Core.Bool.{Bool, true, false, _&&_, _||_, not}
-use mathlib.Core.List.{List, [], _∷_}
+use mathlib.Core.List.{List}
 use mathlib.Core.Logic.{_⊎_, inl, inr}
-use Prim.Native.Nat.{ℕ, zero, suc, _+_, _*_, _-_, _/_, _%_, _^_, _≤_, _<_}
+use Prim.Native.Nat.{ℕ, _-_, _/_, _%_, _^_, _≤_, _<_}
 use native.Mathlib.Omega.{arith}
 use native.Mathlib.Decide.{ℕ-discrete}
 use borrow.Author.Tests.{eq-eqb, ne-eqb, eqb-true, eqb-false, lt-ltb, le-ltb, not-true, not-false}
 use lib.Dec.{eqb, ltb}
-use lib.ListN.{length, getD, set, length-set, List·getD-eq-default}
+use lib.ListN.{length, getD, set, length-set}
 use lib.Seq.{getD-set-same, getD-set-other}
 use lib.Bits.{bitOr, or-lt, or-add-and, and-le-r}
-use Rattle.base.specs.Walks.{pass}
 use Rattle.base.proofs.Walks.{length-pass, pass-at, small-pass, small-set}
 use Rattle.base.proofs.Tests.{T-true, and-true}
 use Rattle.chart.specs.declared.places.NewPlace.{NewPlace}
-use Rattle.chart.specs.Places.{keptNumber, oldOf, newOf}
+use Rattle.chart.specs.Places.{keptNumber, oldOf}
 use Rattle.checker.specs.Records.{index}
 use Rattle.align.specs.Sets.{joined, holdsAll}
 use Rattle.builder.specs.Graphs.{Graph, graph, Sized, marked, gone, cleared, untargeted, keep, aim, due, waits, join, unwait}

@@ -1,16 +1,15 @@
 -- What holds between the turns of a build: every pair of the graph that does not wait has, for each row, a target that the step under its
 -- present set gives, whose set holds the step's, or one that leads to a kept place. Assumes nothing.
 use mathlib.Core.Path.{_≡_, refl, sym, ap, subst, _∙_}
-use mathlib.Core.Bool.{Bool, true, false, not}
+use mathlib.Core.Bool.{Bool, true, false}
 use mathlib.Core.Logic.{_⊎_, inl, inr, ⊎-elim}
 use mathlib.Core.List.{List}
-use mathlib.Core.Option.{Option, none, some}
-use Prim.Native.Nat.{ℕ, zero, suc, _+_, _*_, _-_, _/_, _%_, _^_, _≤_, _<_}
+use mathlib.Core.Option.{some}
+use Prim.Native.Nat.{ℕ, suc, _-_, _/_, _%_, _^_, _≤_, _<_}
 use native.Mathlib.Omega.{arith}
 use native.Mathlib.Decide.{ℕ-discrete}
-use lib.ListN.{length, getD, set, replicate}
+use lib.ListN.{getD, set}
 use lib.Seq.{getD-set-same, getD-set-other}
-use Rattle.base.specs.Repeat.{repeated}
 use Rattle.base.proofs.Repeat.{repeated-keeps}
 use Rattle.base.proofs.Walks.{zeros-at, same-at}
 use Rattle.chart.specs.declared.places.NewPlace.{NewPlace}
@@ -21,13 +20,13 @@ use Rattle.align.specs.declared.spots.Spot.{Spot}
 use Rattle.align.specs.Sets.{joined, holdsAll}
 use Rattle.align.proofs.Sets.{holds-in, holds-all, joined-left, joined-right}
 use Rattle.checker.specs.Records.{index}
-use Rattle.builder.specs.Graphs.{Graph, graph, Sized, firstPair, firstKept, marked, keep, aim, due, join, unwait}
+use Rattle.builder.specs.Graphs.{Graph, Sized, firstPair, firstKept, keep, aim, due, join, unwait}
 use Rattle.builder.specs.Turns.{rowsOf, leadsTo, next, setNow, begun, stepOf, rowDone, secondDone, taken, explored}
 use Rattle.builder.proofs.Ones.{one-there, one-other, one-only}
 use Rattle.builder.proofs.Steps.{Fits}
 use Rattle.builder.proofs.Graphs.{markAt, setAt, waitAt, targetAt, Shaped, keep-node, keep-nodes, keep-mark, keep-set, keep-wait, keep-target, keep-mark-other, keep-set-other, keep-wait-other, keep-target-other, keep-shaped, aimed, by-aim, aimed-shaped, join-mark, join-set, join-due, join-not-due, join-mark-other, join-set-other, join-wait-other, join-target, join-shaped, join-small, held, not-due-why, unwait-shaped}
 use Rattle.builder.proofs.Turns.{by-row, set-now, set-now-small, leads-below, step-of-fits, next-lowest}
-use Rattle.builder.proofs.Measure.{turns, begun-shaped}
+use Rattle.builder.proofs.Measure.{begun-shaped}
 
 -- ---- a set that has gained another holds what it held, and the other
 module _ (s v : ℕ) (a : s < 2 ^ 64) (b : v < 2 ^ 64) where

@@ -1,24 +1,23 @@
 -- The marks of Algorithm 1 are the right ones: open is the least set that has the start and every pair with an open or kept target, and
 -- covered are exactly the other targets of open pairs. Assumes nothing.
-use mathlib.Core.Path.{_≡_, refl, sym, ap, subst, _∙_}
-use mathlib.Core.Bool.{Bool, true, false, _&&_, _||_}
+use mathlib.Core.Path.{_≡_, refl, sym, subst, _∙_}
+use mathlib.Core.Bool.{Bool, true, false}
 use mathlib.Core.Logic.{_⊎_, inl, inr, ⊎-elim, dite}
 use mathlib.Core.List.{List, [], _∷_}
-use mathlib.Core.Option.{Option, none, some}
-use Prim.Native.Nat.{ℕ, zero, suc, _+_, _*_, _≤_, _<_}
+use mathlib.Core.Option.{some}
+use Prim.Native.Nat.{ℕ, suc, _≤_, _<_}
 use native.Mathlib.Omega.{arith}
 use native.Mathlib.Decide.{ℕ-discrete, decLt}
 use borrow.Author.Tests.{eq-eqb, ne-eqb}
 use lib.Dec.{T, eqb, eqb→eq}
 use lib.ListN.{length, getD, set}
-use lib.Seq.{getD-set-same, getD-set-other}
-use Rattle.base.specs.Repeat.{repeated}
+use lib.Seq.{getD-set-other}
 use Rattle.base.proofs.Lists.{has}
 use Rattle.base.proofs.Repeat.{repeated-keeps}
 use Rattle.base.proofs.Tests.{T-or, T-or-l, T-or-r, T-true}
 use Rattle.checker.specs.Records.{index}
 use Rattle.builder.specs.Marks.{plainMarks, inQ, opening, nextOpening, opened, allOpened, transitions, cover, covered, allCovered, finalMarks}
-use Rattle.builder.proofs.Marks.{Ranks, rank-there, rank-pair, rank-set, plain-ranks, plain-pair, plain-node, length-plain, opening-why, first-opens, Opens, all-opens, covered-ranks, covered-same, covered-not, cover-here, cover-not, cover-same}
+use Rattle.builder.proofs.Marks.{Ranks, rank-there, rank-set, plain-ranks, plain-pair, plain-node, opening-why, first-opens, all-opens, covered-ranks, covered-same, covered-not, cover-here, cover-not, cover-same}
 
 -- ---- open: the least such set
 module _ (m t : List ℕ) (lm : length m ≡ 4160) (S : ℕ → Type 0) where

@@ -19,3 +19,4 @@ pub mod Demands
 pub mod Least
 pub mod Right
 pub mod Quiet
+pub mod Orders

@@ -1,23 +1,21 @@
 -- The marks of Algorithm 1: which a node can have, and that they are closed as the condition needs. Assumes nothing.
-use mathlib.Core.Path.{_≡_, refl, sym, ap, subst, _∙_}
-use mathlib.Core.Bool.{Bool, true, false, _&&_, _||_, not}
+use mathlib.Core.Path.{_≡_, refl, sym, _∙_}
+use mathlib.Core.Bool.{Bool, true, false}
 use mathlib.Core.Logic.{_⊎_, inl, inr, ⊎-elim, dite}
 use mathlib.Core.List.{List, [], _∷_}
-use mathlib.Core.Option.{Option, none, some}
-use Prim.Native.Nat.{ℕ, zero, suc, _+_, _*_, _≤_, _<_}
+use mathlib.Core.Option.{none, some}
+use Prim.Native.Nat.{ℕ, zero, suc, _≤_, _<_}
 use native.Mathlib.Omega.{arith}
 use native.Mathlib.Decide.{ℕ-discrete, decLt}
-use borrow.Author.Tests.{eq-eqb, ne-eqb, eqb-true, eqb-false, lt-ltb, le-ltb}
-use lib.Dec.{T, eqb, ltb, eqb→eq, eqb-refl}
+use borrow.Author.Tests.{ne-eqb, eqb-true, eqb-false, lt-ltb, le-ltb}
+use lib.Dec.{T, eqb, eqb→eq, eqb-refl}
 use lib.ListN.{length, getD, set, take, length-set, List·getD-eq-default}
 use lib.Seq.{getD-set-same, getD-set-other, getD-take, length-take-le}
-use Rattle.base.specs.Walks.{pass, firstFrom}
-use Rattle.base.specs.Repeat.{repeated}
 use Rattle.base.proofs.Lists.{has}
-use Rattle.base.proofs.Tests.{T-or, T-or-l, T-or-r, T-true, and-true, or-false}
+use Rattle.base.proofs.Tests.{T-or, T-or-l, T-or-r, and-true, or-false}
 use Rattle.base.proofs.Repeat.{Falls, rests, repeated-keeps}
 use Rattle.base.proofs.Sums.{sum, sum-lt, sum-most}
-use Rattle.base.proofs.Walks.{length-pass, pass-at, First, first-is, none-passes}
+use Rattle.base.proofs.Walks.{length-pass, pass-at, first-is, none-passes}
 use Rattle.checker.specs.Records.{index}
 use Rattle.builder.specs.Marks.{plainMark, plainMarks, inQ, opening, nextOpening, opened, allOpened, transitions, cover, covered, allCovered, finalMarks}
 
@@ -141,7 +139,7 @@ module _ (t : List ℕ) where
   unfolding fours
   fours-most x = omega (arith, sum-most 4096 1 (λ i. four (getD x i 0)) (λ i. four-most (getD x i 0)))
 
-  open-less : (x : List ℕ) (n : ℕ) → length x ≡ 4160 → n < 4096 → getD x n 0 ≡ 4 → fours (opened x n) < fours x
+  pub open-less : (x : List ℕ) (n : ℕ) → length x ≡ 4160 → n < 4096 → getD x n 0 ≡ 4 → fours (opened x n) < fours x
   unfolding fours four
   open-less x n l b f =
       sum-lt 4096 n (λ i. four (getD (opened x n) i 0)) (λ i. four (getD x i 0)) b (rw (f, getD-set-same x n 1 0 (omega arith)) (omega arith)) (λ i k. go i (ℕ-discrete i n))

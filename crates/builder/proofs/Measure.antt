@@ -1,28 +1,25 @@
 -- A number that falls with each turn of a build, so that nothing waits at its end. Assumes nothing.
-use mathlib.Core.Path.{_≡_, refl, sym, ap, _∙_}
-use mathlib.Core.Bool.{Bool, true, false, _&&_, not}
+use mathlib.Core.Path.{_≡_, refl, _∙_}
+use mathlib.Core.Bool.{Bool, true, false}
 use mathlib.Core.Logic.{_⊎_, inl, inr, ⊎-elim}
-use mathlib.Core.List.{List}
-use mathlib.Core.Option.{Option, none, some}
-use Prim.Native.Nat.{ℕ, zero, suc, _+_, _*_, _-_, _/_, _%_, _^_, _≤_, _<_}
+use mathlib.Core.Option.{none, some}
+use Prim.Native.Nat.{ℕ, _+_, _*_, _-_, _%_, _^_, _≤_, _<_}
 use native.Mathlib.Omega.{arith}
 use native.Mathlib.Decide.{ℕ-discrete}
-use lib.ListN.{length, getD, set, replicate}
+use lib.ListN.{set, replicate}
 use lib.Seq.{getD-set-same, getD-set-other}
 use Rattle.base.proofs.Sums.{sum, sum-le, sum-lt, sum-most}
 use Rattle.base.proofs.Walks.{small-set, zeros-at}
-use Rattle.base.proofs.Repeat.{Falls, Going, rests, repeated-keeps}
-use Rattle.base.specs.Repeat.{repeated}
+use Rattle.base.proofs.Repeat.{Falls, rests, repeated-keeps}
 use Rattle.chart.specs.declared.places.NewPlace.{NewPlace}
 use Rattle.chart.specs.Charts.{Chart, size}
 use Rattle.chart.specs.Faultless.{FaultlessChart}
-use Rattle.chart.specs.Places.{pairNumber, keptNumber, oldOf, newOf}
-use Rattle.align.specs.declared.spots.Spot.{Spot}
-use Rattle.align.specs.Sets.{joined, holdsAll}
-use Rattle.builder.specs.Graphs.{Graph, graph, Sized, marked, keep, aim, due, join, unwait}
-use Rattle.builder.specs.Turns.{rowsOf, leadsTo, next, setNow, begun, stepOf, rowDone, secondDone, taken, explored}
+use Rattle.chart.specs.Places.{pairNumber, keptNumber, newOf}
+use Rattle.align.specs.Sets.{joined}
+use Rattle.builder.specs.Graphs.{Graph, Sized, marked, keep, aim, due, join, unwait}
+use Rattle.builder.specs.Turns.{rowsOf, leadsTo, next, setNow, begun, rowDone, secondDone, taken, explored}
 use Rattle.builder.proofs.Steps.{Fits}
-use Rattle.builder.proofs.Graphs.{markAt, setAt, waitAt, Shaped, marked-yes, marked-no, not-marked, marked-same, keep-node, keep-nodes, keep-wait, keep-mark-other, keep-set-other, keep-wait-other, keep-shaped, aimed, by-aim, aimed-shaped, join-mark, join-set, join-due, join-not-due, join-mark-other, join-set-other, join-wait-other, join-shaped, join-more, join-small, grown, due-why, unwait-shaped}
+use Rattle.builder.proofs.Graphs.{markAt, setAt, waitAt, Shaped, marked-yes, marked-no, marked-same, keep-node, keep-nodes, keep-wait, keep-mark-other, keep-set-other, keep-wait-other, keep-shaped, aimed, by-aim, aimed-shaped, join-mark, join-set, join-due, join-not-due, join-mark-other, join-set-other, join-wait-other, join-shaped, join-more, join-small, grown, due-why, unwait-shaped}
 use Rattle.builder.proofs.Turns.{by-row, set-now-small, leads-below, step-of-fits, next-lowest, none-waits}
 
 -- what a pair has left: nothing more where its new place is kept; else twice the number of sets above its own, and its flag

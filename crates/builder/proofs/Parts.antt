@@ -1,12 +1,11 @@
 -- The parts of a turn in the form in which the code meets them. Assumes nothing.
-use mathlib.Core.Path.{_≡_, refl, sym, ap, subst, _∙_}
+use mathlib.Core.Path.{_≡_, refl, sym, ap, _∙_}
 use mathlib.Core.Bool.{Bool, true, false, not}
 use mathlib.Core.List.{List}
-use Prim.Native.Nat.{ℕ, _<_}
+use Prim.Native.Nat.{ℕ}
 use native.Mathlib.Omega.{arith}
-use borrow.Author.Tests.{eq-eqb, ne-eqb}
 use lib.Dec.{eqb}
-use lib.ListN.{length, getD, set}
+use lib.ListN.{getD, set}
 use Rattle.chart.specs.declared.places.OldPlace.{OldPlace}
 use Rattle.chart.specs.declared.places.NewPlace.{NewPlace}
 use Rattle.chart.specs.Places.{pairNumber, keptNumber, oldOf}
@@ -16,7 +15,7 @@ use Rattle.align.specs.Steps.{told}
 use Rattle.align.specs.declared.spots.Spot.{Spot}
 use Rattle.align.specs.declared.spots.Aligned.{Aligned}
 use Rattle.align.specs.declared.spots.Aligned.the-variants as aligneds
-use Rattle.builder.specs.Graphs.{Graph, graph, Sized, marked, cleared, untargeted, keep, aim, due, waits, join}
+use Rattle.builder.specs.Graphs.{Graph, graph, marked, cleared, untargeted, keep, aim, due, waits, join}
 use Rattle.builder.specs.Turns.{arrived, processed}
 use Rattle.builder.proofs.Graphs.{marked-yes, marked-no, aim-there, aim-gone}
 

@@ -1,26 +1,23 @@
 -- A record of which every part is as the check asks is passed. Assumes nothing.
-use mathlib.Core.Path.{_≡_, refl, sym, ap, _∙_}
-use mathlib.Core.Bool.{Bool, true, false, _&&_, not}
-use mathlib.Core.Logic.{_≢_, _⊎_, inl, inr, dite}
-use mathlib.Core.List.{List}
-use mathlib.Core.Option.{Option, none, some}
-use Prim.Native.Nat.{ℕ, zero, suc, _≤_, _<_}
+use mathlib.Core.Path.{_≡_}
+use mathlib.Core.Bool.{not}
+use mathlib.Core.Logic.{_≢_, dite}
+use mathlib.Core.Option.{none}
+use Prim.Native.Nat.{ℕ, _<_}
 use native.Mathlib.Omega.{arith}
 use native.Mathlib.Decide.{ℕ-discrete, decLt}
 use borrow.Author.Tests.{eq-eqb, ne-eqb, lt-ltb, le-ltb}
-use lib.Dec.{eqb, ltb}
-use Rattle.base.specs.Options.{when, orElse, firstOf}
-use Rattle.base.specs.Refusals.{Refusal, refusedIf}
+use Rattle.base.specs.Refusals.{refusedIf}
 use Rattle.base.specs.Says.{Test, bool, Says}
 use Rattle.base.proofs.Options.{none-everywhere}
 use Rattle.base.proofs.Says.{said}
 use Rattle.base.proofs.Tests.{is-true}
 use Rattle.chart.specs.Charts.{Chart, size, leaving}
-use Rattle.chart.specs.Faults.{Fault, fault}
+use Rattle.chart.specs.Faults.{fault}
 use Rattle.chart.specs.Places.{newOf}
 use Rattle.checker.specs.Records.{Graph, Record, mark, index}
 use Rattle.checker.specs.Rules.{headOf, shaped, startFits, rowFits}
-use Rattle.checker.specs.Checks.{sized, inChart, targetFault, rowsFault, pairFault, ruleFault, recordFault, refusal}
+use Rattle.checker.specs.Checks.{sized, targetFault, rowsFault, pairFault, ruleFault, recordFault, refusal}
 
 -- a refusal by a test that says what is so is not due
 off : (t : Test) (n c p : ℕ) → Says t → refusedIf (not (bool t)) n c p ≡ none

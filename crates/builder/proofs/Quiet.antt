@@ -1,26 +1,24 @@
 -- After a turn no pair waits below the pair that was taken and the targets of its rows. Assumes nothing.
-use mathlib.Core.Path.{_≡_, refl, sym, ap, subst, _∙_}
-use mathlib.Core.Bool.{Bool, true, false}
+use mathlib.Core.Path.{_≡_, sym, ap, _∙_}
 use mathlib.Core.Logic.{_⊎_, inl, inr, ⊎-elim, dite}
 use mathlib.Core.List.{List}
-use mathlib.Core.Option.{Option, none, some}
-use Prim.Native.Nat.{ℕ, zero, suc, _+_, _*_, _/_, _%_, _^_, _≤_, _<_, min}
+use mathlib.Core.Option.{some}
+use Prim.Native.Nat.{ℕ, zero, suc, _+_, _%_, _^_, _≤_, _<_, min}
 use native.Mathlib.Omega.{arith}
 use native.Mathlib.Decide.{ℕ-discrete}
-use lib.ListN.{length, getD, set}
+use lib.ListN.{getD, set}
 use lib.Seq.{getD-set-same, getD-set-other}
 use Rattle.chart.specs.declared.places.NewPlace.{NewPlace}
 use Rattle.chart.specs.Charts.{Chart, size}
 use Rattle.chart.specs.Faultless.{FaultlessChart}
-use Rattle.chart.specs.Places.{pairNumber, keptNumber, oldOf, newOf}
-use Rattle.align.specs.declared.spots.Spot.{Spot}
+use Rattle.chart.specs.Places.{pairNumber, keptNumber, newOf}
 use Rattle.checker.specs.Records.{index}
-use Rattle.builder.specs.Graphs.{Graph, graph, Sized, marked, keep, aim, join, unwait}
+use Rattle.builder.specs.Graphs.{Graph, Sized, keep, aim, join, unwait}
 use Rattle.builder.specs.Turns.{rowsOf, leadsTo, next, setNow, rowDone, secondDone, taken, lowAfter}
 use Rattle.builder.proofs.Steps.{Fits}
 use Rattle.builder.proofs.Graphs.{markAt, setAt, waitAt, targetAt, Shaped, marked-yes, marked-no, keep-node, keep-nodes, keep-wait, keep-mark-other, keep-wait-other, keep-target-other, aimed, by-aim, join-mark, join-mark-other, join-wait-other, join-target, keep-shaped, join-shaped, unwait-shaped}
 use Rattle.builder.proofs.Turns.{by-row, set-now-small, leads-below, step-of-fits, Lowest, next-lowest}
-use Rattle.builder.proofs.Measure.{Lighter, row-lighter}
+use Rattle.builder.proofs.Measure.{row-lighter}
 use Rattle.builder.proofs.Invariant.{Inv, Every}
 
 module _ (n : ℕ) where

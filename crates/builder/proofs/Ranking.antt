@@ -1,27 +1,19 @@
 -- Algorithm 1 in the form in which the code meets it. Assumes nothing.
 use mathlib.Core.Path.{_≡_, refl, sym, ap, _∙_}
-use mathlib.Core.Bool.{Bool, true, false, _&&_, _||_}
+use mathlib.Core.Bool.{Bool, true, false}
 use mathlib.Core.List.{List, [], _∷_}
-use mathlib.Core.Option.{Option, none, some}
 use mathlib.Core.Logic.{dite}
-use Prim.Native.Nat.{ℕ, zero, suc, _+_, _*_, _-_, _≤_, _<_}
+use Prim.Native.Nat.{ℕ, suc, _+_, _*_, _-_, _≤_, _<_}
 use native.Mathlib.Numerals.{add-one}
 use native.Mathlib.Omega.{arith}
 use native.Mathlib.Decide.{ℕ-discrete, decLt}
-use borrow.Author.Tests.{eq-eqb, ne-eqb, lt-ltb, le-ltb}
+use borrow.Author.Tests.{ne-eqb, lt-ltb, le-ltb}
 use lib.Dec.{eqb}
-use lib.ListN.{length, getD, set, take, drop, length-set, length-drop, drop-of-length-le, List·getD-eq-default}
-use lib.Seq.{drop-cons, getD-take, getD-drop, length-take-le, getD-set-same, getD-set-other, ext-getD}
-use Rattle.base.specs.Walks.{firstFrom}
-use Rattle.base.proofs.Walks.{skip-at, stop-at, end-at}
-use Rattle.base.proofs.Repeat.{Going, less-by, again-by, done-by}
-use Rattle.base.proofs.Sums.{sum, sum-most}
-use Rattle.align.specs.declared.spots.Found.{Found}
+use lib.ListN.{length, getD, set, drop, length-set, length-drop, drop-of-length-le, List·getD-eq-default}
+use lib.Seq.{drop-cons, getD-drop, getD-set-same, getD-set-other}
 use Rattle.align.specs.declared.spots.Found.the-variants as founds
-use Rattle.align.specs.Steps.{toldFound}
 use Rattle.checker.specs.Records.{index}
-use Rattle.builder.specs.Marks.{plainMark, plainMarks, inQ, opening, nextOpening, opened, allOpened, transitions, cover, covered, coverFrom, allCovered, finalMarks}
-use Rattle.builder.proofs.Marks.{opening-why, fours, openings, fours-most}
+use Rattle.builder.specs.Marks.{plainMark, plainMarks, inQ, opening, allOpened, transitions, cover, covered, coverFrom, allCovered, finalMarks}
 
 -- ---- plain marks
 module _ (i x : ℕ) where
@@ -63,54 +55,6 @@ module _ (t m : List ℕ) (i x : ℕ) where
   pub opens-second : {r s : Bool} → x ≡ 4 → r ≡ inQ m (getD t (2 * i) 0) → r ≡ false → s ≡ inQ m (getD t (2 * i + 1) 0) → s ≡ opening t m i x
   unfolding opening
   opens-second e b c d = let z : index i 0 ≡ 2 * i = omega arith in rw (e, z, sym b ∙ c) d
-
--- ---- the loop that looks for a pair to open
-pub record Seeking (t m : List ℕ) (i : ℕ) : Type 0 where
-  pub most : i ≤ 4096
-  pub same : nextOpening t m ≡ firstFrom (opening t m) i (drop i (take 4096 m))
-
-module _ (t m : List ℕ) (l : length m ≡ 4160) where
-  pub seek-start : Seeking t m 0
-  unfolding nextOpening
-  seek-start = record { most = omega arith; same = refl }
-
-  long : length (take 4096 m) ≡ 4096
-  long = length-take-le 4096 m (omega arith)
-
-  module _ (i : ℕ) (S : Seeking t m i) where
-    pub seek-skip : {r : Bool} → i < 4096 → r ≡ opening t m i (getD m i 0) → r ≡ false → Seeking t m (i + 1)
-    seek-skip b e f =
-        record {
-          most = omega arith;
-          same = S .same ∙ skip-at (opening t m) (take 4096 m) i (omega (arith, long)) (rw (getD-take 4096 m i 0 b) (sym e ∙ f));
-        }
-
-    pub seek-here : {r : Bool} → i < 4096 → r ≡ opening t m i (getD m i 0) → r ≡ true → some i ≡ nextOpening t m
-    seek-here b e f = sym (S .same ∙ stop-at (opening t m) (take 4096 m) i (omega (arith, long)) (rw (getD-take 4096 m i 0 b) (sym e ∙ f)))
-
-    pub seek-end : 4096 ≤ i → none ≡ nextOpening t m
-    seek-end b = sym (S .same ∙ end-at (opening t m) (take 4096 m) i (omega (arith, long)))
-
--- ---- the loop that opens
-pub record Opening (t m₀ m : List ℕ) : Type 0 where
-  pub going : Going (nextOpening t) opened (fours t) (λ x. length x ≡ 4160) (allOpened t m₀) m
-
-pub open-start : (t m : List ℕ) → length m ≡ 4160 → Opening t m m
-unfolding allOpened
-open-start t m l = record { going = record { good = l; turns = 4096; enough = fours-most t m; same = refl } }
-
-module _ (t : List ℕ) {m₀ m : List ℕ} {f : Found} (O : Opening t m₀ m) (e : toldFound f ≡ nextOpening t m) where
-  pub open-below : {n : ℕ} → f ≡ founds.At n → n < length m
-  open-below {n} a = omega (arith, O .going .good, opening-why t m n (O .going .good) (sym e ∙ ap toldFound a) .0)
-
-  pub open-less : {n : ℕ} {m′ : List ℕ} → f ≡ founds.At n → m′ ≡ set m n 1 → fours t m′ < fours t m
-  open-less a q = less-by (nextOpening t) opened (fours t) (λ x. length x ≡ 4160) (openings t) (O .going .good) (sym e ∙ ap toldFound a) q
-
-  pub open-again : {n : ℕ} {m′ : List ℕ} → f ≡ founds.At n → m′ ≡ set m n 1 → Opening t m₀ m′
-  open-again a q = record { going = again-by (nextOpening t) opened (fours t) (λ x. length x ≡ 4160) (openings t) (O .going) (sym e ∙ ap toldFound a) q }
-
-  pub open-done : f ≡ founds.Nothing → m ≡ allOpened t m₀
-  open-done a = done-by (nextOpening t) opened (fours t) (λ x. length x ≡ 4160) (openings t) (O .going) (sym e ∙ ap toldFound a)
 
 -- ---- covering
 module _ (m : List ℕ) (n : ℕ) where

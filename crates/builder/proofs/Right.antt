@@ -1,29 +1,26 @@
 -- What a build leaves is right: which pairs a kept place has, where each row of a pair leads, and which pairs are open or covered. Assumes nothing.
-use mathlib.Core.Path.{_≡_, refl, sym, ap, subst, _∙_}
-use mathlib.Core.Bool.{Bool, true, false}
-use mathlib.Core.Logic.{_≢_, _⊎_, inl, inr, ⊎-elim, dite}
-use mathlib.Core.List.{List}
-use mathlib.Core.Option.{Option, none, some}
-use Prim.Native.Nat.{ℕ, _+_, _%_, _≤_, _<_}
+use mathlib.Core.Path.{_≡_, ap, subst}
+use mathlib.Core.Bool.{false}
+use mathlib.Core.Logic.{_≢_, _⊎_, ⊎-elim, dite}
+use mathlib.Core.Option.{some}
+use Prim.Native.Nat.{ℕ, _+_, _<_}
 use native.Mathlib.Omega.{arith}
 use native.Mathlib.Decide.{ℕ-discrete}
-use lib.ListN.{length, getD}
 use Rattle.chart.specs.Charts.{Chart, size}
 use Rattle.chart.specs.Faultless.{FaultlessChart}
 use Rattle.chart.specs.Places.{pairNumber, keptNumber, oldOf, newOf}
 use Rattle.align.specs.declared.spots.Spot.{Spot}
-use Rattle.checker.specs.Records.{mark, index, target}
+use Rattle.checker.specs.Records.{mark, target}
 use Rattle.checker.specs.Rules.{headOf}
 use Rattle.builder.specs.Graphs.{firstPair}
 use Rattle.builder.specs.Turns.{rowsOf, leadsTo, stepOf, explored}
-use Rattle.builder.specs.Marks.{finalMarks}
 use Rattle.builder.specs.Builds.{finalTargets, alone}
 use Rattle.builder.proofs.Graphs.{markAt, setAt}
-use Rattle.builder.proofs.Invariant.{ToPair, ToStep, Inv, explored-inv}
+use Rattle.builder.proofs.Invariant.{ToStep, explored-inv}
 use Rattle.builder.proofs.Turns.{leads-below}
-use Rattle.builder.proofs.Marks.{Ranks, rank-there, Final}
+use Rattle.builder.proofs.Marks.{rank-there, Final}
 use Rattle.builder.proofs.Least.{Closed, least-open, Reached, covered-reached}
-use Rattle.builder.proofs.Demand3.{Keeps, starts, targets-length, marks, left, final, here, steps}
+use Rattle.builder.proofs.Demand3.{starts, targets-length, marks, left, final, steps}
 
 -- unless the start is the lone kept node
 module _ (old new : Chart) (F : FaultlessChart old) (H : FaultlessChart new) (joint : alone (headOf old) (headOf new) (explored old new .marks) ≡ false) where

@@ -1,15 +1,13 @@
 -- What an aligned step comes to is a place of the old chart and a set of 64 variables. Assumes nothing.
-use mathlib.Core.Path.{_≡_, refl, sym, ap, subst, _∙_}
+use mathlib.Core.Path.{_≡_, refl, sym, subst}
 use mathlib.Core.Bool.{Bool, true, false, _&&_, _||_, not}
 use mathlib.Core.List.{List}
 use mathlib.Core.Option.{Option, none, some}
 use Prim.Native.Nat.{ℕ, zero, suc, _-_, _^_, _≤_, _<_}
 use native.Mathlib.Omega.{arith}
 use native.Mathlib.Nat.{lt-of-le-of-lt}
-use lib.Bits.{bitOr, bitAnd, or-lt, and-le-l}
+use lib.Bits.{or-lt, and-le-l}
 use lib.Pow.{pow-lt}
-use lib.Dec.{T}
-use Rattle.base.specs.Options.{when, orElse, firstOf}
 use Rattle.base.specs.Says.{bool}
 use Rattle.base.proofs.Maybe.{All, All-none, All-some, All-map, All-when, All-orElse, All-firstOf}
 use Rattle.chart.specs.declared.operations.Operation.{Operation}

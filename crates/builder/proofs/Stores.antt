@@ -1,13 +1,13 @@
 -- Stores one after another that make the lists of the definitions: all elements, each element anew, or the pairs of a new place. Assumes nothing.
 use mathlib.Core.Path.{_≡_, refl, sym, ap, _∙_}
-use mathlib.Core.List.{List, [], _∷_, _++_, append-nil, map}
+use mathlib.Core.List.{List, _++_, append-nil}
 use Prim.Native.Nat.{ℕ, zero, suc, _+_, _*_, _-_, _/_, _%_, _≤_, _<_}
 use native.Mathlib.Numerals.{add-one}
 use native.Mathlib.Omega.{arith}
 use native.Mathlib.Decide.{ℕ-discrete, decLt}
 use borrow.Author.Fill.{fill-more}
-use lib.ListN.{length, getD, set, take, drop, replicate, length-set, drop-of-length-le}
-use lib.Seq.{getD-set-same, getD-set-other, drop-cons, drop-length, take-suc-set, drop-set-lt, append-snoc, take-all}
+use lib.ListN.{length, getD, set, drop, replicate, length-set}
+use lib.Seq.{getD-set-same, getD-set-other, drop-length}
 use Rattle.base.specs.Walks.{pass}
 use Rattle.base.proofs.Walks.{pass-is}
 use Rattle.chart.specs.declared.places.NewPlace.{NewPlace}

@@ -1,24 +1,20 @@
 -- What a row comes to, case by case, and the pair that a turn takes. Assumes nothing.
-use mathlib.Core.Path.{_≡_, refl, sym, ap, _∙_}
+use mathlib.Core.Path.{_≡_, refl, ap, _∙_}
 use mathlib.Core.Bool.{Bool, true, false, not}
-use mathlib.Core.List.{List}
 use mathlib.Core.Option.{Option, none, some}
-use Prim.Native.Nat.{ℕ, zero, suc, _/_, _%_, _^_, _≤_, _<_}
+use Prim.Native.Nat.{ℕ, _^_, _≤_, _<_}
 use native.Mathlib.Omega.{arith}
 use native.Mathlib.Decide.{decLt}
 use borrow.Author.Tests.{lt-ltb, le-ltb, eqb-false, eqb-true, not-true, not-false}
-use lib.Dec.{eqb, ltb}
+use lib.Dec.{eqb}
 use lib.ListN.{length, getD}
-use Rattle.base.specs.Walks.{firstFrom}
-use Rattle.base.proofs.Walks.{First, first-is, none-passes}
-use Rattle.base.proofs.Maybe.{All}
-use Rattle.chart.specs.declared.places.NewPlace.{NewPlace}
-use Rattle.chart.specs.Charts.{Chart, size, to, operation, leaving}
+use Rattle.base.proofs.Walks.{first-is, none-passes}
+use Rattle.chart.specs.Charts.{Chart, size, operation}
 use Rattle.chart.specs.Faultless.{FaultlessChart}
 use Rattle.chart.specs.Places.{pairNumber, keptNumber, oldOf, newOf}
 use Rattle.align.specs.declared.spots.Spot.{Spot}
-use Rattle.builder.specs.Graphs.{Graph, graph, Sized, marked, keep, aim, join, unwait}
-use Rattle.builder.specs.Turns.{rowsOf, leadsTo, lowest, next, setNow, stepOf, arrived, processed, rowDone, secondDone, taken}
+use Rattle.builder.specs.Graphs.{Graph, marked, keep, aim, join}
+use Rattle.builder.specs.Turns.{rowsOf, leadsTo, lowest, next, setNow, stepOf, arrived, processed, rowDone}
 use Rattle.builder.proofs.Steps.{Fits, row-to, row-a, step-fits}
 use Rattle.builder.proofs.Graphs.{markAt, setAt, waitAt, marked-yes, marked-no, is-marked, not-marked, Shaped}
 

@@ -1,5 +1,4 @@
 -- What a build answers, and what it leaves in the four buffers ("Who can cause a refusal", "Four questions for each public call").
-use mathlib.Core.Path.{_≡_}
 use mathlib.Core.Bool.{not}
 use mathlib.Core.List.{List}
 use mathlib.Core.Option.{Option, none, some}
@@ -12,7 +11,7 @@ use Rattle.base.specs.Says.{Test, eq, _and_, bool}
 use Rattle.base.specs.Walks.{count}
 use Rattle.chart.specs.Charts.{Chart}
 use Rattle.chart.specs.Faults.{fault}
-use Rattle.checker.specs.Records.{Record, graphOf}
+use Rattle.checker.specs.Records.{graphOf}
 use Rattle.checker.specs.Checks.{sized, inChart}
 use Rattle.builder.specs.declared.answers.Summary.{Summary}
 use Rattle.builder.specs.declared.answers.Built.{Built}

@@ -1,10 +1,11 @@
 -- Algorithm 1: the marks ("Marks, from Algorithm 1").
+use mathlib.Core.Path.{_≡_}
 use mathlib.Core.Bool.{Bool, true, false, _&&_, _||_}
 use mathlib.Core.List.{List, [], _∷_}
 use mathlib.Core.Option.{Option}
-use Prim.Native.Nat.{ℕ}
+use Prim.Native.Nat.{ℕ, suc, _-_, _≤_, _<_}
 use lib.Dec.{eqb, ltb}
-use lib.ListN.{getD, set, take}
+use lib.ListN.{length, getD, set, take}
 use Rattle.base.specs.Walks.{pass, firstFrom}
 use Rattle.base.specs.Repeat.{repeated}
 use Rattle.checker.specs.Records.{index}
@@ -34,6 +35,25 @@ opened m n = set m n 1
 -- lines 2 to 5, over the targets t: each of 4,096 pairs is opened once at most
 unfoldable pub allOpened : List ℕ → List ℕ → List ℕ
 allOpened t m = repeated (nextOpening t) opened 4096 m
+
+-- n pairs opened one after another, in any order, each beyond and with an open or kept target when it is (lines 3 to 5)
+pub data Opened (t x : List ℕ) : ℕ → List ℕ → Type 0 where
+  none-yet : Opened t x 0 x
+  one-more : {n : ℕ} {y : List ℕ} (i : ℕ) → Opened t x n y → i < 4096 → opening t y i (getD y i 0) ≡ true → Opened t x (suc n) (set y i 1)
+
+-- pair i was opened, if it was to be: y is what x has become, n how many were opened
+pub record Tried (t x : List ℕ) (i n : ℕ) (y : List ℕ) : Type 0 where
+  pub did : Opened t x n y
+  pub most : n ≤ 1
+  pub else-not : n ≡ 0 → (y ≡ x) × (opening t x i (getD x i 0) ≡ false)
+
+-- so were the pairs from i on
+pub record Swept (t x : List ℕ) (i n : ℕ) (y : List ℕ) : Type 0 where
+  pub did : Opened t x n y
+  pub long : length y ≡ length x
+  pub near : i ≤ 4096
+  pub most : n ≤ 4096 - i
+  pub else-not : n ≡ 0 → (y ≡ x) × ((k : ℕ) → i ≤ k → k < 4096 → opening t x k (getD x k 0) ≡ false)
 
 -- ---- line 6: "3 covered: other pairs that are a target of an open one"
 -- "The condition's transitions are the targets of open pairs": these, in order, of the pairs with the marks m

@@ -1,5 +1,5 @@
 -- Algorithm 2 ("The builder"): begin, take the lowest waiting pair and its rows, until none waits.
-use mathlib.Core.Bool.{Bool, true, false, not}
+use mathlib.Core.Bool.{true, false, not}
 use mathlib.Core.List.{List}
 use mathlib.Core.Option.{Option, none, some}
 use Prim.Native.Nat.{ℕ, _^_, min}

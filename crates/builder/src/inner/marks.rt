@@ -2,10 +2,8 @@
 ghost use mathlib.Core.Path.{_≡_};
 ghost use Prim.Native.Nat.{_<_};
 ghost use lib.ListN.{length, getD};
-ghost use Rattle.align.specs.Steps.{toldFound};
-ghost use Rattle.builder.specs.Marks.{plainMark, plainMarks, inQ, opening, nextOpening, allOpened, cover, coverFrom, allCovered, finalMarks};
+ghost use Rattle.builder.specs.Marks.{plainMark, plainMarks, inQ, opening, Tried, Swept, allOpened, cover, coverFrom, allCovered, finalMarks};
 use crate::inner::buffers;
-use align::spots::Found;
 
 fn plain_mark(i: usize, x: u8) -> u8
     ensures { λ r. ⌜ r ≡ plainMark i x ⌝ }
@@ -61,19 +59,31 @@ fn opens(marks: &[u8], targets: &[u16], i: usize) -> bool
     in_q(marks, targets[at + 1])
 }
 
-// The lowest pair that is to be opened.
-fn next_opening(marks: &[u8], targets: &[u16]) -> Found
-    requires { ⌜ (length (now marks) ≡ 4160) × (length (now targets) ≡ 8192) ⌝ }
-    ensures { λ r. ⌜ toldFound r ≡ nextOpening (now (targets .entry)) (now (marks .entry)) ⌝ }
+// Opens pair i, if it is to be opened, and says how many that were.
+fn open_if(marks: &mut [u8], targets: &[u16], i: usize) -> usize
+    requires { ⌜ (length (now marks) ≡ 4160) × (length (now targets) ≡ 8192) × (i < 4096) ⌝ }
+    ensures { λ r. ⌜ Tried (now (targets .entry)) (now (marks .entry)) i r (now (marks .exit)) ⌝ }
 {
-    let mut i = 0;
-    while i < 4096 {
-        if opens(marks, targets, i) {
-            return Found::At(i);
-        }
-        i += 1;
+    if opens(&*marks, targets, i) {
+        buffers::put8(marks, i, 1);
+        return 1;
     }
-    Found::Nothing
+    0
+}
+
+// Opens every pair that is to be opened when its turn comes, from the highest down, and says how many that were. Rows mostly lead to higher
+// nodes, so that few such passes are needed.
+fn sweep(marks: &mut [u8], targets: &[u16]) -> usize
+    requires { ⌜ (length (now marks) ≡ 4160) × (length (now targets) ≡ 8192) ⌝ }
+    ensures { λ r. ⌜ Swept (now (targets .entry)) (now (marks .entry)) 0 r (now (marks .exit)) ⌝ }
+{
+    let mut n = 0;
+    let mut i = 4096;
+    while 0 < i {
+        i -= 1;
+        n += open_if(marks, targets, i);
+    }
+    n
 }
 
 // All pairs from which an open or kept node is a target.
@@ -82,13 +92,8 @@ fn open_all(marks: &mut [u8], targets: &[u16])
     ensures { λ _. ⌜ now (marks .exit) ≡ allOpened (now (targets .entry)) (now (marks .entry)) ⌝ }
 {
     loop {
-        match next_opening(&*marks, targets) {
-            Found::At(n) => {
-                buffers::put8(marks, n, 1);
-            }
-            Found::Nothing => {
-                return;
-            }
+        if sweep(marks, targets) == 0 {
+            return;
         }
     }
 }

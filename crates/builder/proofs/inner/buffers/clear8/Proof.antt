@@ -1,6 +1,6 @@
 -- `builder::inner::buffers::clear8` meets its contract. Assumes nothing.
 use mathlib.Core.Path.{_≡_, refl, _∙_}
-use Prim.Native.Nat.{ℕ, _≤_, _-_}
+use Prim.Native.Nat.{_≤_, _-_}
 use lib.ListN.{length, length-set}
 use Rattle.builder.proofs.Stores.{strided, strided-none, strided-more, strided-all}
 use borrow.Author.Needs.{needs}

@@ -1,6 +1,6 @@
 -- `builder::inner::buffers::untarget` meets its contract. Assumes nothing.
 use mathlib.Core.Path.{_≡_, refl, _∙_}
-use Prim.Native.Nat.{ℕ, _≤_, _-_}
+use Prim.Native.Nat.{_≤_, _-_}
 use lib.ListN.{length, length-set}
 use Rattle.builder.proofs.Stores.{paired, paired-none, paired-more, paired-all}
 use borrow.Author.Needs.{needs}

@@ -1,7 +1,7 @@
 -- `builder::inner::finish::redirect_all` meets its contract. Assumes nothing.
 use Rattle.builder.proofs.Finishing.{mapped}
 use Rattle.builder.proofs.Stores.{Passing, passing-none, passing-more}
-use Prim.Native.Nat.{ℕ, _-_}
+use Prim.Native.Nat.{_-_}
 use lib.ListN.{length, length-set}
 use Rattle.builder.specs.Builds.{redirected}
 use Rattle.builder.proofs.Stores.{Passing, passing-none, passing-more}
