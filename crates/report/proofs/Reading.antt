@@ -1,6 +1,6 @@
 -- Laws of reading both texts: what the two answers of the reader make.
 -- Assumes nothing.
-use mathlib.Core.Path.{_≡_, refl, sym, ap, _∙_}
+use mathlib.Core.Path.{_≡_, refl, sym, ap, subst, _∙_}
 use mathlib.Core.List.{List}
 use Prim.Native.Nat.{ℕ, _≤_}
 use native.Mathlib.Omega.{arith}
@@ -15,7 +15,7 @@ use Rattle.text.proofs.Bounds.{SmallRead, read-small}
 use Rattle.report.specs.declared.charts.Both.{Both}
 use Rattle.report.specs.declared.charts.Both.the-variants as both
 use Rattle.report.specs.Printed.{bothOf}
-use Rattle.report.specs.Both.{Headings, headings, toldBoth, BothAs}
+use Rattle.report.specs.Both.{Headings, headings, toldBoth, Few, BothAs}
 
 -- the numbers of an answer, in order
 abbrev first : Answer Heading → ℕ
@@ -95,3 +95,7 @@ module _ (old-text new-text old old′ new : List ℕ) (r : Read)
     both-charts g n e′ =
         two-charts old old′ new new′ (readInto old-text old) (readInto new-text new) h k g n (read-small old-text old) (read-small new-text new)
         (rw e at is .0) (is .1) (rw e′ at is′ .0) (is′ .1)
+
+-- the row counts of two charts that are read
+pub few-rows : (r : Both) → Few r → (h : Head) (m : ℕ) (g : Head) (n : ℕ) → r ≡ both.Charts h m g n → (m ≤ 128) × (n ≤ 128)
+few-rows r f h m g n e = subst Few e f

@@ -1,0 +1,75 @@
+-- The counts of rows are within the tables. Assumes nothing.
+use mathlib.Core.Path.{sym}
+use Prim.Native.Nat.{_*_}
+use lib.ListN.{length-take}
+use lib.Seq.{length-take-le}
+use Rattle.report.proofs.Reading.{few-rows}
+use native.Mathlib.Omega.{arith}
+use borrow.Author.Needs.{needs}
+use Rattle.pick.proofs.main.Statement.{statement}
+use Rattle.pick.proofs.main.Tie as tie
+
+slice-aggregate-charts : tie.Need-slice-aggregate-charts
+slice-aggregate-charts c = search needs
+
+slice-aggregate-charts-2 : tie.Need-slice-aggregate-charts-2
+slice-aggregate-charts-2 c = search needs
+
+charts-requires : tie.Need-charts-requires
+charts-requires c κs = search needs
+
+enum-known-number : tie.Need-enum-known-number
+enum-known-number c = search needs
+
+refuse-requires : tie.Need-refuse-requires
+refuse-requires c κs = search needs
+
+enum-known-head : tie.Need-enum-known-head
+enum-known-head c = search needs
+
+mul-m : tie.Need-mul-m
+mul-m c = let f = few-rows _ (c .before .before .before .before .before .charts .ensures) _ _ _ _ (c .before .head .given .1) in omega (arith, f .0)
+
+mul-n : tie.Need-mul-n
+mul-n c = let f = few-rows _ (c .before .before .before .before .before .charts .ensures) _ _ _ _ (c .before .head .given .1) in omega (arith, f .1)
+
+array-share-prefix-old : tie.Need-array-share-prefix-old
+array-share-prefix-old c = let f = few-rows _ (c .before .before .before .before .before .charts .ensures) _ _ _ _ (c .before .head .given .1) in omega (arith, f .0)
+
+slice-aggregate-show : tie.Need-slice-aggregate-show
+slice-aggregate-show c = let f = few-rows _ (c .before .before .before .before .before .before .charts .ensures) _ _ _ _ (c .before .before .head .given .1) in sym (length-take-le _ (c .before .before .before .before .before .before .charts .last .0) (omega (arith, f .0)))
+
+array-share-prefix-new : tie.Need-array-share-prefix-new
+array-share-prefix-new c = let f = few-rows _ (c .before .before .before .before .before .before .charts .ensures) _ _ _ _ (c .before .before .head .given .1) in omega (arith, f .1)
+
+slice-aggregate-show-2 : tie.Need-slice-aggregate-show-2
+slice-aggregate-show-2 c = let f = few-rows _ (c .before .before .before .before .before .before .before .charts .ensures) _ _ _ _ (c .before .before .before .head .given .1) in sym (length-take-le _ (c .before .before .before .before .before .before .before .charts .last .1 .0) (omega (arith, f .1)))
+
+show-requires : tie.Need-show-requires
+show-requires c κs = let f = few-rows _ (c .before .before .before .before .before .before .before .charts .ensures) _ _ _ _ (c .before .before .before .head .given .1) in let l = length-take-le (6 * (c .before .before .before .head .given .0 .1 .1 .1 .0)) (c .before .before .before .before .before .before .before .charts .last .1 .0) (omega (arith, f .1)) in omega (arith, f .1)
+
+returns : tie.Need-returns
+returns c = search needs
+
+returns-2 : tie.Need-returns-2
+returns-2 c = search needs
+
+pub main-spec : {M : Type 1} → statement M
+main-spec =
+    tie.close
+    (tie.spec
+    slice-aggregate-charts
+    slice-aggregate-charts-2
+    charts-requires
+    enum-known-number
+    refuse-requires
+    enum-known-head
+    mul-m
+    mul-n
+    array-share-prefix-old
+    slice-aggregate-show
+    array-share-prefix-new
+    slice-aggregate-show-2
+    show-requires
+    returns
+    returns-2)

@@ -1,0 +1,129 @@
+// The program: reads old.csv and new.csv, and prints the condition of the two charts, or a refusal. It opens, reads and writes; what it
+// prints is made by the crate report, in portions that together are `printed` of that crate's specs.
+ghost use Prim.Native.Nat.{_≤_};
+ghost use lib.ListN.{length};
+ghost use Rattle.io.specs.Counts.{Counts};
+ghost use Rattle.report.specs.Both.{Few};
+ghost use Rattle.report.specs.Printed.{Small};
+use builder::answers::Built;
+use builder::answers::Summary;
+use builder::build;
+use chart::charts::Head;
+use libc::STDOUT_FILENO;
+use report::charts::Both;
+use report::charts::read_both;
+
+// Reads to the end of the file, or as much as the text holds, and answers the count of bytes: none where a read fails.
+fn fill(fd: i32, text: &mut [u8]) -> usize
+    ensures { λ r. ⌜ Counts r (now (text .exit)) ⌝ }
+{
+    let mut at = 0;
+    while at < text.len() {
+        let got = libc::read(fd, &mut text[at..]);
+        if got < 0 {
+            return 0;
+        }
+        let n = io::count(got, &text[at..]);
+        if n == 0 {
+            return at;
+        }
+        at += n;
+    }
+    at
+}
+
+// The bytes of a file, at the front of the text, and their count: a file that can't be read counts as one without bytes.
+fn load(path: &[u8], text: &mut [u8]) -> usize
+    ensures { λ r. ⌜ Counts r (now (text .exit)) ⌝ }
+{
+    let fd = os::open_read(path);
+    if fd < 0 {
+        return 0;
+    }
+    let n = fill(fd, text);
+    libc::close(fd);
+    n
+}
+
+// Both charts. At most 16,384 bytes of a file are read: more do not change what is printed.
+fn charts(old: &mut [u32], new: &mut [u32]) -> Both
+    ensures { λ r. ⌜ Few r ⌝ }
+{
+    let mut old_text = [0u8; 16384];
+    let mut new_text = [0u8; 16384];
+    let m = load(b"old.csv", &mut old_text);
+    let n = load(b"new.csv", &mut new_text);
+    read_both(&old_text[..m], &new_text[..n], old, new)
+}
+
+fn refuse(number: u32, chart: u32, position: u32) {
+    let mut bytes = [0u8; 1024];
+    let n = report::refusal(number, chart, position, &mut bytes);
+    io::write_all(STDOUT_FILENO, &bytes[..n]);
+}
+
+// The transitions, portion after portion.
+fn transitions(rows: &[u32], marks: &[u8; 4160], targets: &[u16; 8192])
+    requires { ⌜ length (now rows) ≤ 768 ⌝ }
+{
+    let mut bytes = [0u8; 1024];
+    let mut pair = 0;
+    while pair < 4096 {
+        let extent = report::portion(rows, marks, targets, pair, &mut bytes);
+        let n = extent.count;
+        io::write_all(STDOUT_FILENO, &bytes[..n]);
+        pair = extent.next;
+    }
+}
+
+// The first record of a condition.
+fn head(s: Summary)
+    requires { ⌜ Small s ⌝ }
+{
+    let mut bytes = [0u8; 1024];
+    let n = report::summary(s, &mut bytes);
+    io::write_all(STDOUT_FILENO, &bytes[..n]);
+}
+
+// The condition of two charts.
+fn show<'a>(old: Head, old_rows: &'a [u32], new: Head, new_rows: &'a [u32])
+    requires { ⌜ length (now «new_rows») ≤ 768 ⌝ }
+{
+    let mut marks = [0u8; 4160];
+    let mut targets = [0u16; 8192];
+    let mut sets = [0u64; 4096];
+    let mut waiting = [0u8; 4096];
+    match build(
+        old,
+        old_rows,
+        new,
+        new_rows,
+        &mut marks,
+        &mut targets,
+        &mut sets,
+        &mut waiting,
+    ) {
+        Built::Refused {
+            number,
+            chart,
+            position,
+        } => refuse(number, chart, position as u32),
+        Built::Done(s) => {
+            head(s);
+            transitions(new_rows, &marks, &targets);
+        }
+    }
+}
+
+fn main() {
+    let mut old = [0u32; 768];
+    let mut new = [0u32; 768];
+    match charts(&mut old, &mut new) {
+        Both::Refused(number, chart, position) => refuse(number, chart, position),
+        Both::Charts(head, rows, other, more) => {
+            let m = 6 * rows;
+            let n = 6 * more;
+            show(head, &old[..m], other, &new[..n]);
+        }
+    }
+}
