@@ -1,4 +1,4 @@
-//! The table of building and checking: the proved code (feature `builder`), plain Rust over the same buffers, and Rust over std's
+//! The table of building and checking: the proved code, plain Rust over the same buffers, and Rust over std's
 //! collections, taking turns on the same charts.
 
 use crate::plain_build;
@@ -52,7 +52,6 @@ fn lent() -> Lent {
     Lent { marks: vec![0xA5; 4160], targets: vec![0xA5A5; 8192], sets: vec![0xA5A5; 4096], waiting: vec![0xA5; 4096] }
 }
 
-#[cfg(feature = "builder")]
 mod ours {
     use super::*;
     use picker_tests::conditions::{build, check, Buffers};
@@ -81,19 +80,6 @@ mod ours {
                 assert!(black_box(check(black_box(old), black_box(new), record)).is_ok());
             }
         }))
-    }
-}
-
-#[cfg(not(feature = "builder"))]
-mod ours {
-    use super::*;
-
-    pub fn builder<'a>(_: &'a [(Chart, Chart)]) -> Option<Contender<'a>> {
-        None
-    }
-
-    pub fn checker<'a>(_: &'a [(Chart, Chart)], _: &'a [Record]) -> Option<Contender<'a>> {
-        None
     }
 }
 

@@ -2,7 +2,6 @@
 
 pub mod algorithms;
 pub mod checker;
-#[cfg(feature = "builder")]
 pub mod conditions;
 pub mod drawn;
 pub mod model;

@@ -1,5 +1,5 @@
-//! Algorithms 1 and 2 and the checker in plain Rust against the vectors; with the feature `builder`, the proved builder and checker, through
-//! the C interface, against both.
+//! Algorithms 1 and 2 and the checker in plain Rust against the vectors; and the proved builder and checker, through the C interface,
+//! against both.
 
 use picker_tests::algorithms::{self, printed};
 use picker_tests::checker::{self, Record};
@@ -139,7 +139,6 @@ fn drawn_charts_are_varied() {
 
 // ---- the proved code
 
-#[cfg(feature = "builder")]
 mod proved {
     use super::*;
     use picker_tests::conditions::{build, check, Buffers};

@@ -77,18 +77,16 @@ module _ (m s : List ℕ) (n v : ℕ) where
   now-had e = rw (marked-no m n e, setNow)
 
 -- ---- a turn: the pair waits no more, and its two rows are done
-pub turn-is : (old new : Chart) (m t s w : List ℕ) (n : ℕ) {w₁ m₂ t₂ s₂ w₂ : List ℕ} {v : ℕ} {g : Graph}
-    → w₁ ≡ set w n 0
-    → graph m₂ t₂ s₂ w₂ ≡ rowDone old new (graph m t s w₁) n (getD s n 0) 0
-    → v ≡ setNow m₂ s₂ n (getD s n 0)
-    → g ≡ rowDone old new (graph m₂ t₂ s₂ w₂) n v 1
-    → g ≡ taken old new (graph m t s w) n
-unfolding taken secondDone unwait
-turn-is old new m t s w n {m₂ = m₂} {t₂ = t₂} {s₂ = s₂} {w₂ = w₂} a b c d =
-    d
-    ∙ (λ i. rowDone old new (graph m₂ t₂ s₂ w₂) n (c i) 1)
-    ∙ (λ i. rowDone old new (b i) n (setNow (b i .marks) (b i .sets) n (getD s n 0)) 1)
-    ∙ ap (λ (x : List ℕ). secondDone old new (rowDone old new (graph m t s x) n (getD s n 0) 0) n (getD s n 0)) a
+pub second-is : (old new : Chart) (m t s w : List ℕ) (n v : ℕ) {u : ℕ} {g : Graph}
+    → u ≡ setNow m s n v → g ≡ rowDone old new (graph m t s w) n u 1 → g ≡ secondDone old new (graph m t s w) n v
+unfolding secondDone
+second-is old new m t s w n v c d = d ∙ (λ i. rowDone old new (graph m t s w) n (c i) 1)
+
+pub turn-is : (old new : Chart) (m t s w : List ℕ) (n : ℕ) {w₁ : List ℕ} {f g : Graph}
+    → w₁ ≡ set w n 0 → f ≡ rowDone old new (graph m t s w₁) n (getD s n 0) 0 → g ≡ secondDone old new f n (getD s n 0) → g ≡ taken old new (graph m t s w) n
+unfolding taken unwait
+turn-is old new m t s w n a b c =
+    c ∙ (λ i. secondDone old new (b i) n (getD s n 0)) ∙ (λ i. secondDone old new (rowDone old new (graph m t s (a i)) n (getD s n 0) 0) n (getD s n 0))
 
 -- ---- the loop that looks for the lowest waiting pair
 pub record Scanned (w : List ℕ) (i : ℕ) : Type 0 where

@@ -8,7 +8,7 @@ ghost use Rattle.chart.specs.Faultless.{FaultlessChart};
 ghost use Rattle.align.specs.declared.spots.Spot.{Spot};
 ghost use Rattle.align.specs.Steps.{told, toldFound};
 ghost use Rattle.builder.specs.Graphs.{graph, Sized};
-ghost use Rattle.builder.specs.Turns.{lowest, lowAfter, setNow, arrived, processed, rowDone, taken};
+ghost use Rattle.builder.specs.Turns.{lowest, lowAfter, setNow, arrived, processed, rowDone, secondDone, taken};
 use crate::inner::buffers;
 use crate::inner::graphs;
 use align::inner::step::step;
@@ -176,6 +176,42 @@ fn set_now(marks: &[u8], sets: &[u64], n: usize, v: u64) -> u64
     v
 }
 
+// The second row of pair n, which had the set v at its first.
+fn second_row<'a>(
+    old: Head,
+    old_rows: &'a [u32],
+    new: Head,
+    new_rows: &'a [u32],
+    marks: &mut [u8],
+    targets: &mut [u16],
+    sets: &mut [u64],
+    waiting: &mut [u8],
+    n: usize,
+    v: u64,
+)
+    requires { ⌜ FaultlessChart (charted old (now «old_rows»)) ⌝ }
+    requires { ⌜ FaultlessChart (charted new (now «new_rows»)) ⌝ }
+    requires { ⌜ n < 4096 ⌝ }
+    requires { ⌜ Sized (graph (now marks) (now targets) (now sets) (now waiting)) ⌝ }
+    ensures { λ _. ⌜ graph (now (marks .exit)) (now (targets .exit)) (now (sets .exit)) (now (waiting .exit))
+        ≡ secondDone (charted old (now («old_rows» .entry))) (charted new (now («new_rows» .entry))) (graph (now (marks .entry)) (now (targets .entry)) (now (sets .entry)) (now (waiting .entry))) n v ⌝ }
+{
+    let own = set_now(&*marks, &*sets, n, v);
+    row(
+        old,
+        old_rows,
+        new,
+        new_rows,
+        marks,
+        targets,
+        sets,
+        waiting,
+        n,
+        own,
+        1,
+    );
+}
+
 // Takes pair n up.
 pub fn turn<'a>(
     old: Head,
@@ -210,8 +246,7 @@ pub fn turn<'a>(
         first,
         0,
     );
-    let second = set_now(&*marks, &*sets, n, first);
-    row(
+    second_row(
         old,
         old_rows,
         new,
@@ -221,7 +256,6 @@ pub fn turn<'a>(
         sets,
         waiting,
         n,
-        second,
-        1,
+        first,
     );
 }
