@@ -56,10 +56,22 @@ fn charts(old: &mut [u32], new: &mut [u32]) -> Both
     read_both(&old_text[..m], &new_text[..n], old, new)
 }
 
+// Writes the bytes to standard output, as far as it takes them. No copy is made of them, so that what is live at once stays small.
+fn put(bytes: &[u8]) {
+    let mut at = 0;
+    while at < bytes.len() {
+        let n = io::count(libc::write(STDOUT_FILENO, &bytes[at..]), &bytes[at..]);
+        if n == 0 {
+            return;
+        }
+        at += n;
+    }
+}
+
 fn refuse(number: u32, chart: u32, position: u32) {
     let mut bytes = [0u8; 1024];
     let n = report::refusal(number, chart, position, &mut bytes);
-    io::write_all(STDOUT_FILENO, &bytes[..n]);
+    put(&bytes[..n]);
 }
 
 // The transitions, portion after portion.
@@ -71,7 +83,7 @@ fn transitions(rows: &[u32], marks: &[u8; 4160], targets: &[u16; 8192])
     while pair < 4096 {
         let extent = report::portion(rows, marks, targets, pair, &mut bytes);
         let n = extent.count;
-        io::write_all(STDOUT_FILENO, &bytes[..n]);
+        put(&bytes[..n]);
         pair = extent.next;
     }
 }
@@ -82,7 +94,7 @@ fn head(s: Summary)
 {
     let mut bytes = [0u8; 1024];
     let n = report::summary(s, &mut bytes);
-    io::write_all(STDOUT_FILENO, &bytes[..n]);
+    put(&bytes[..n]);
 }
 
 // The condition of two charts.

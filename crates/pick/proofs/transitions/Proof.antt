@@ -20,11 +20,11 @@ portion-requires c κs = search needs
 array-share-prefix-bytes : tie.Need-array-share-prefix-bytes Inv-loop μ-loop
 array-share-prefix-bytes c = c .portion .ensures .front .fits
 
-slice-aggregate-write-all : tie.Need-slice-aggregate-write-all Inv-loop μ-loop
-slice-aggregate-write-all c = c .before .portion .ensures .front .counts
+slice-aggregate-put : tie.Need-slice-aggregate-put Inv-loop μ-loop
+slice-aggregate-put c = c .before .portion .ensures .front .counts
 
-write-all-requires : tie.Need-write-all-requires Inv-loop μ-loop
-write-all-requires c κs = search needs
+put-requires : tie.Need-put-requires Inv-loop μ-loop
+put-requires c κs = search needs
 
 loop-less : tie.Need-loop-less Inv-loop μ-loop
 loop-less c = omega (arith, c .before .before .portion .ensures .onward (c .before .before .before .before .loop-test .taken))
@@ -44,8 +44,8 @@ transitions-spec =
     loop-holds
     portion-requires
     array-share-prefix-bytes
-    slice-aggregate-write-all
-    write-all-requires
+    slice-aggregate-put
+    put-requires
     loop-less
     loop-again
     returns)
