@@ -4,5 +4,6 @@ pub mod Numbering
 pub mod Fronts
 pub mod Going
 pub mod Reading
+pub mod Lengths
 pub mod Whole
 pub mod Built

@@ -16,6 +16,7 @@ use Rattle.builder.specs.Builds.{recorded}
 use Rattle.report.specs.Lines.{refusalLine}
 use Rattle.report.specs.Transitions.{transitionsFrom, remaining}
 use Rattle.report.specs.Printed.{Pair, bothRead, summaryLine, transitions, condition, conditionOf, printed}
+use Rattle.report.proofs.Lengths.{built-targets}
 use Rattle.report.specs.Portions.{Front, Portioned, Portions, last, more}
 
 -- past the last pair there is nothing
@@ -39,14 +40,14 @@ module _ (old new : List ℕ) where
   refusal-printed n c p e = rw e
 
   -- a condition is printed by its first record and then the portions from pair 0 on
-  pub condition-printed : (P : Pair) → bothRead old new ≡ given P → length (recorded (P .old) (P .new) .graph .targets) ≡ 8192
+  pub condition-printed : (P : Pair) → bothRead old new ≡ given P
       → (before after : List ℕ) (r : ℕ) → Front before (summaryLine (summary (recorded (P .old) (P .new) .start) (recorded (P .old) (P .new) .graph .marks))) after r
       → {out : List ℕ} → Portions (P .new .table) (recorded (P .old) (P .new) .graph .marks) (recorded (P .old) (P .new) .graph .targets) 0 out
       → take r after ++ out ≡ printed old new
   unfolding printed conditionOf condition transitions
-  condition-printed P e l before after r f ps =
+  condition-printed P e before after r f ps =
       let R = recorded (P .old) (P .new) in
-      rw e (ap₂ (λ (x y : List ℕ). x ++ y) (f .is) (portions-are (P .new .table) (R .graph .marks) (R .graph .targets) l ps))
+      rw e (ap₂ (λ (x y : List ℕ). x ++ y) (f .is) (portions-are (P .new .table) (R .graph .marks) (R .graph .targets) (built-targets old new P e) ps))
 
 -- "at most 16,384 bytes" of a file say as much as all of it
 cut-read : (text : List ℕ) → readText (take 16384 text) ≡ readText text
