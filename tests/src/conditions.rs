@@ -1,4 +1,4 @@
-//! The proved builder and checker as the tests call them.
+//! The proved lookup, builder and checker of the C interface, as the tests call them.
 
 use crate::checker::Record;
 use crate::texts::{taken_apart, Refusal};
@@ -6,6 +6,20 @@ use crate::Chart;
 
 mod linked {
     extern "C" {
+        pub fn picker_lookup(
+            old_places: u32,
+            old_alarm: u32,
+            old_rows: *const u32,
+            old_rows_len: usize,
+            new_places: u32,
+            new_alarm: u32,
+            new_rows: *const u32,
+            new_rows_len: usize,
+            chart: u32,
+            place: u32,
+            rows: *mut u32,
+            rows_len: usize,
+        ) -> u64;
         pub fn picker_build(
             old_places: u32,
             old_alarm: u32,
@@ -101,6 +115,26 @@ pub fn check_parts(old: &Chart, new: &Chart, start: u32, marks: &[u8], targets: 
             targets.len(),
             sets.as_ptr(),
             sets.len(),
+        )
+    })
+}
+
+/// The count of rows that leave a place; the rows go to the front of the lent entries.
+pub fn lookup(old: &Chart, new: &Chart, chart: u32, place: u32, rows: &mut [u32]) -> Result<[u64; 4], Refusal> {
+    taken_apart(unsafe {
+        linked::picker_lookup(
+            old.places,
+            old.alarm,
+            old.rows.as_ptr(),
+            old.rows.len(),
+            new.places,
+            new.alarm,
+            new.rows.as_ptr(),
+            new.rows.len(),
+            chart,
+            place,
+            rows.as_mut_ptr(),
+            rows.len(),
         )
     })
 }

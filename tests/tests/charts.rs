@@ -1,6 +1,6 @@
 //! The crate `chart` against the vectors and against a plain Rust reading of the specification.
 
-use picker_tests::{cases, exactly_one, fault, implies, lookup, meets, model, written, Chart, Operation, Random};
+use picker_tests::{cases, conditions, exactly_one, fault, implies, lookup, meets, model, written, Chart, Operation, Random};
 
 /// Each line of the vectors: two assumptions, then `never`, `implied` or `not`.
 #[test]
@@ -80,12 +80,27 @@ fn faults_and_lookup_as_modelled() {
         seen[expected.0 as usize] += 1;
         for which in 0..3 {
             for place in 0..=old.places.max(new.places) {
-                assert_eq!(lookup(&old, &new, which, place), model::lookup(&old, &new, which, place), "{old:?} {new:?} {which} {place}");
+                let part = model::lookup(&old, &new, which, place);
+                assert_eq!(lookup(&old, &new, which, place), part, "{old:?} {new:?} {which} {place}");
+                handed_over(&old, &new, which, place, &part);
             }
         }
     }
     for number in [0, 1, 4, 5, 6, 7, 8] {
         assert!(seen[number] > 0, "no chart with refusal {number} was drawn");
+    }
+}
+
+/// The lookup of the C interface: the part at the front of 12 entries, the rest as it was; another length is 21 and writes nothing.
+fn handed_over(old: &Chart, new: &Chart, which: u32, place: u32, part: &[u32]) {
+    let rubbish: Vec<u32> = (0..12).map(|i| 0xDEAD_0000 + i).collect();
+    let mut rows = rubbish.clone();
+    assert_eq!(conditions::lookup(old, new, which, place, &mut rows), Ok([part.len() as u64 / 6, 0, 0, 0]));
+    assert!(rows[..part.len()] == *part && rows[part.len()..] == rubbish[part.len()..]);
+    for lent in [0, 6, 11, 13] {
+        let mut rows = vec![0xDEAD; lent];
+        assert_eq!(conditions::lookup(old, new, which, place, &mut rows), Err((21, 0, 0)));
+        assert!(rows.iter().all(|x| *x == 0xDEAD));
     }
 }
 
