@@ -32,31 +32,6 @@ mod linked {
         pub fn testing_fault_position(places: u32, alarm: u32, rows: *const u32, len: usize) -> usize;
         pub fn testing_written(code: u32, a: u32, b: u32, c: u32, values: *const u32, len: usize) -> u64;
         pub fn testing_meets(code: u32, a: u32, b: u32, c: u32, values: *const u32, len: usize) -> u64;
-        pub fn testing_lookup_length(
-            old_places: u32,
-            old_alarm: u32,
-            old_rows: *const u32,
-            old_len: usize,
-            new_places: u32,
-            new_alarm: u32,
-            new_rows: *const u32,
-            new_len: usize,
-            chart: u32,
-            place: u32,
-        ) -> usize;
-        pub fn testing_lookup_entry(
-            old_places: u32,
-            old_alarm: u32,
-            old_rows: *const u32,
-            old_len: usize,
-            new_places: u32,
-            new_alarm: u32,
-            new_rows: *const u32,
-            new_len: usize,
-            chart: u32,
-            place: u32,
-            index: usize,
-        ) -> u32;
     }
 }
 
@@ -93,41 +68,6 @@ pub fn written(o: Operation, values: &[u32]) -> u64 {
 /// 1 or 0, or 2^32 and a refusal's number.
 pub fn meets(o: Operation, values: &[u32]) -> u64 {
     unsafe { linked::testing_meets(o.code, o.a, o.b, o.c, values.as_ptr(), values.len()) }
-}
-
-/// The part that lookup hands back, copied.
-pub fn lookup(old: &Chart, new: &Chart, chart: u32, place: u32) -> Vec<u32> {
-    let len = unsafe {
-        linked::testing_lookup_length(
-            old.places,
-            old.alarm,
-            old.rows.as_ptr(),
-            old.rows.len(),
-            new.places,
-            new.alarm,
-            new.rows.as_ptr(),
-            new.rows.len(),
-            chart,
-            place,
-        )
-    };
-    (0..len)
-        .map(|index| unsafe {
-            linked::testing_lookup_entry(
-                old.places,
-                old.alarm,
-                old.rows.as_ptr(),
-                old.rows.len(),
-                new.places,
-                new.alarm,
-                new.rows.as_ptr(),
-                new.rows.len(),
-                chart,
-                place,
-                index,
-            )
-        })
-        .collect()
 }
 
 /// Numbers from a seed (xorshift64*): the same in every run. `PICKER_CASES` multiplies the number of cases of every test.

@@ -1,6 +1,6 @@
 //! The crate `chart` against the vectors and against a plain Rust reading of the specification.
 
-use picker_tests::{cases, conditions, exactly_one, fault, implies, lookup, meets, model, written, Chart, Operation, Random};
+use picker_tests::{cases, conditions, exactly_one, fault, implies, meets, model, written, Chart, Operation, Random};
 
 /// Each line of the vectors: two assumptions, then `never`, `implied` or `not`.
 #[test]
@@ -81,7 +81,6 @@ fn faults_and_lookup_as_modelled() {
         for which in 0..3 {
             for place in 0..=old.places.max(new.places) {
                 let part = model::lookup(&old, &new, which, place);
-                assert_eq!(lookup(&old, &new, which, place), part, "{old:?} {new:?} {which} {place}");
                 handed_over(&old, &new, which, place, &part);
             }
         }
@@ -95,8 +94,8 @@ fn faults_and_lookup_as_modelled() {
 fn handed_over(old: &Chart, new: &Chart, which: u32, place: u32, part: &[u32]) {
     let rubbish: Vec<u32> = (0..12).map(|i| 0xDEAD_0000 + i).collect();
     let mut rows = rubbish.clone();
-    assert_eq!(conditions::lookup(old, new, which, place, &mut rows), Ok([part.len() as u64 / 6, 0, 0, 0]));
-    assert!(rows[..part.len()] == *part && rows[part.len()..] == rubbish[part.len()..]);
+    assert_eq!(conditions::lookup(old, new, which, place, &mut rows), Ok([part.len() as u64 / 6, 0, 0, 0]), "{old:?} {new:?} {which} {place}");
+    assert!(rows[..part.len()] == *part && rows[part.len()..] == rubbish[part.len()..], "{old:?} {new:?} {which} {place}");
     for lent in [0, 6, 11, 13] {
         let mut rows = vec![0xDEAD; lent];
         assert_eq!(conditions::lookup(old, new, which, place, &mut rows), Err((21, 0, 0)));

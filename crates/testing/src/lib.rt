@@ -1,9 +1,7 @@
 // What the tests outside Rattle call of the crate `chart`: numbers and slices in, one number out.
 ghost use mathlib.Core.Path.{_≡_};
-ghost use lib.ListN.{length, getD};
 ghost use Rattle.chart.specs.Charts.{Chart};
 ghost use Rattle.chart.specs.Faults.{refusal, writtenBy, metBy};
-ghost use Rattle.chart.specs.Lookup.{lookup};
 ghost use Rattle.chart.specs.Trials.{implication, exclusive};
 ghost use Rattle.testing.specs.Numbers.{operation, implicationNumber, bit, faultNumber, faultPosition, writtenNumber, metNumber};
 use chart::assumptions::Implication;
@@ -120,60 +118,4 @@ pub extern "C" fn testing_meets(code: u32, a: u32, b: u32, c: u32, values: &[u32
         Met::No => 0,
         Met::Refused(n) => 4294967296 + n as u64,
     }
-}
-
-// How many entries the part has that lookup hands back.
-#[no_mangle]
-pub extern "C" fn testing_lookup_length<'a>(
-    old_places: u32,
-    old_alarm: u32,
-    old_rows: &'a [u32],
-    new_places: u32,
-    new_alarm: u32,
-    new_rows: &'a [u32],
-    chart: u32,
-    place: u32,
-) -> usize
-    ensures { λ r. ⌜ r ≡ length (lookup (record { places = «old_places»; alarm = «old_alarm»; table = now («old_rows» .entry) }) (record { places = «new_places»; alarm = «new_alarm»; table = now («new_rows» .entry) }) chart place) ⌝ }
-{
-    let old = Head {
-        places: old_places,
-        alarm: old_alarm,
-    };
-    let new = Head {
-        places: new_places,
-        alarm: new_alarm,
-    };
-    let part = chart::lookup(old, old_rows, new, new_rows, chart, place);
-    part.len()
-}
-
-// The entry at an index of the part that lookup hands back, 0 past its end.
-#[no_mangle]
-pub extern "C" fn testing_lookup_entry<'a>(
-    old_places: u32,
-    old_alarm: u32,
-    old_rows: &'a [u32],
-    new_places: u32,
-    new_alarm: u32,
-    new_rows: &'a [u32],
-    chart: u32,
-    place: u32,
-    index: usize,
-) -> u32
-    ensures { λ r. ⌜ r ≡ getD (lookup (record { places = «old_places»; alarm = «old_alarm»; table = now («old_rows» .entry) }) (record { places = «new_places»; alarm = «new_alarm»; table = now («new_rows» .entry) }) chart place) index 0 ⌝ }
-{
-    let old = Head {
-        places: old_places,
-        alarm: old_alarm,
-    };
-    let new = Head {
-        places: new_places,
-        alarm: new_alarm,
-    };
-    let part = chart::lookup(old, old_rows, new, new_rows, chart, place);
-    if index < part.len() {
-        return part[index];
-    }
-    0
 }
