@@ -3,6 +3,7 @@
 mod conditions;
 mod plain;
 mod plain_build;
+mod program;
 
 use picker_tests::{texts, Chart};
 use std::hint::black_box;
@@ -46,6 +47,9 @@ fn largest() -> Chart {
 }
 
 fn main() {
+    if std::env::args().any(|word| word == "--plain") {
+        return program::plain_program();
+    }
     let chart = largest();
     let text = texts::plain_write(&chart);
     let mut quoted = Vec::new();
@@ -101,4 +105,5 @@ fn main() {
         ),
     );
     conditions::table();
+    program::table();
 }
