@@ -1,4 +1,5 @@
 -- Laws that several proofs cite.
+pub mod Comparisons
 pub mod Codes
 pub mod Order
 pub mod Trials

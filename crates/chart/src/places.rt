@@ -1,5 +1,5 @@
-// Places of the old and of the new chart: an old place number is never taken for a new one. Only here, in the pair number and in the
-// lookup is a place opened.
+// Places of the old and of the new chart: an old place number is never taken for a new one. A place is opened in three spots alone: here,
+// where it is compared with n, in the pair number and in the lookup.
 ghost use mathlib.Core.Path.{_≡_};
 ghost use lib.Dec.{eqb, ltb};
 
@@ -16,40 +16,41 @@ pub enum Place {
 }
 
 impl OldPlace {
-    // Whether it is this place of the old chart, as its alarm.
+    // Whether it is one of n places. A u64, so that there is a number after every place.
+    pub fn below(self, n: u64) -> bool
+        ensures { λ r. ⌜ r ≡ ltb (self .0) n ⌝ }
+    {
+        (self.0 as u64) < n
+    }
+
+    // Whether it is this place of the old chart, as its alarm: one of the places up to this one, and of none before.
     pub fn is(self, place: u32) -> bool
         ensures { λ r. ⌜ r ≡ eqb (self .0) place ⌝ }
     {
-        self.0 == place
-    }
-
-    // Whether it is one of n places.
-    pub fn below(self, n: u32) -> bool
-        ensures { λ r. ⌜ r ≡ ltb (self .0) n ⌝ }
-    {
-        self.0 < n
+        let n = place as u64;
+        if self.below(n) {
+            return false;
+        }
+        self.below(n + 1)
     }
 }
 
 impl NewPlace {
-    // Whether it is this place of the new chart, as its alarm.
+    // Whether it is one of n places. A u64, so that there is a number after every place.
+    pub fn below(self, n: u64) -> bool
+        ensures { λ r. ⌜ r ≡ ltb (self .0) n ⌝ }
+    {
+        (self.0 as u64) < n
+    }
+
+    // Whether it is this place of the new chart, as its alarm: one of the places up to this one, and of none before.
     pub fn is(self, place: u32) -> bool
         ensures { λ r. ⌜ r ≡ eqb (self .0) place ⌝ }
     {
-        self.0 == place
-    }
-
-    // Whether it is one of n places.
-    pub fn below(self, n: u32) -> bool
-        ensures { λ r. ⌜ r ≡ ltb (self .0) n ⌝ }
-    {
-        self.0 < n
-    }
-
-    // Whether it is the same place as another of the new chart.
-    pub fn same(self, other: NewPlace) -> bool
-        ensures { λ r. ⌜ r ≡ eqb (self .0) (other .0) ⌝ }
-    {
-        self.0 == other.0
+        let n = place as u64;
+        if self.below(n) {
+            return false;
+        }
+        self.below(n + 1)
     }
 }

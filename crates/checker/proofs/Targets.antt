@@ -4,7 +4,7 @@ use mathlib.Core.Bool.{Bool, true, false, not}
 use mathlib.Core.Logic.{inl, inr}
 use mathlib.Core.List.{List}
 use mathlib.Core.Option.{Option, none, some}
-use Prim.Native.Nat.{ℕ, _/_, _%_, _≤_, _<_}
+use Prim.Native.Nat.{ℕ, _+_, _*_, _/_, _%_, _≤_, _<_}
 use native.Mathlib.Omega.{arith}
 use borrow.Author.Tests.{eq-eqb, ne-eqb, lt-ltb, le-ltb}
 use lib.Dec.{eqb}
@@ -72,17 +72,18 @@ module _ (marks : List ℕ) (q : NewPlace) (t : ℕ) {k : Bool} (some : t ≡ 65
   unfolding restsAt
   rests-nowhere u l = rw (ne-eqb t 65535 some, sym e ∙ u, le-ltb t 4096 l)
 
-  module _ {p : NewPlace} {s : Bool} (u : k ≡ false) (l : t < 4096) (f : p ≡ newOf t) (g : s ≡ eqb (p .0) (q .0)) where
-    same-place : eqb (t % 64) (q .0) ≡ s
-    same-place = sym (g ∙ ap (λ (p : NewPlace). eqb (p .0) (q .0)) f)
+  -- the target is a pair of q exactly if the pair of its old place with q is the target itself
+  module _ {p : OldPlace} {n : ℕ} (u : k ≡ false) (l : t < 4096) (f : p ≡ oldOf t) (g : n ≡ pairNumber p q) where
+    with-q : n ≡ 64 * (t / 64) + q .0
+    with-q = g ∙ ap (λ (p : OldPlace). pairNumber p q) f
 
-    pub rests-elsewhere : s ≡ false → false ≡ bool (restsAt marks q t)
+    pub rests-elsewhere : (t ≡ n → ⊥) → q .0 < 64 → false ≡ bool (restsAt marks q t)
     unfolding restsAt
-    rests-elsewhere v = rw (ne-eqb t 65535 some, sym e ∙ u, lt-ltb t 4096 l, same-place ∙ v)
+    rests-elsewhere v b = rw (ne-eqb t 65535 some, sym e ∙ u, lt-ltb t 4096 l, ne-eqb (t % 64) (q .0) (λ w. v (omega (arith, with-q))))
 
-    pub rests-present : {r : Bool} → s ≡ true → r ≡ not (eqb (getD marks t 0) 0) → r ≡ bool (restsAt marks q t)
+    pub rests-present : {r : Bool} → t ≡ n → q .0 < 64 → r ≡ not (eqb (getD marks t 0) 0) → r ≡ bool (restsAt marks q t)
     unfolding restsAt
-    rests-present v h = rw (ne-eqb t 65535 some, sym e ∙ u, lt-ltb t 4096 l, same-place ∙ v) h
+    rests-present v b h = rw (ne-eqb t 65535 some, sym e ∙ u, lt-ltb t 4096 l, eq-eqb (t % 64) (q .0) (omega (arith, with-q))) h
 
 -- ---- marks in order
 pub ranked-none : (marks : List ℕ) (m t : ℕ) → t ≡ 65535 → true ≡ bool (ranked marks m t)

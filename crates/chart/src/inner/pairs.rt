@@ -1,4 +1,4 @@
-// The numbers of nodes: a pair, the only place where an old and a new place are joined, and a kept new place; and sets of old places.
+// The numbers of nodes: a pair, where alone an old and a new place are joined, and a kept new place; and sets of old places.
 ghost use mathlib.Core.Path.{_≡_};
 ghost use Prim.Native.Nat.{_^_, _<_};
 ghost use Rattle.chart.specs.Places.{pairNumber, keptNumber, oldOf, newOf};
@@ -16,7 +16,7 @@ pub fn kept(q: NewPlace) -> usize
     requires { ⌜ q .0 < 64 ⌝ }
     ensures { λ r. ⌜ r ≡ keptNumber q ⌝ }
 {
-    (4096 + q.0) as usize
+    4096 + pair(OldPlace(0), q)
 }
 
 pub fn old_of(pair: usize) -> OldPlace
@@ -32,10 +32,11 @@ pub fn new_of(pair: usize) -> NewPlace
     NewPlace((pair % 64) as u32)
 }
 
-// The set of an old place alone, as a bit of a set of old places.
+// The set of an old place alone, as a bit of a set of old places. Its pair with the new place 0 is 64 × p.
 pub fn bit(p: OldPlace) -> u64
     requires { ⌜ p .0 < 64 ⌝ }
     ensures { λ r. ⌜ r ≡ 2 ^ p .0 ⌝ }
 {
-    1u64 << p.0
+    let n = pair(p, NewPlace(0)) / 64;
+    1u64 << n
 }

@@ -42,14 +42,14 @@ fn mark_fits(old: Head, new: Head, n: usize, x: u8) -> bool
         return true;
     }
     let q = new_of(n);
-    if !q.below(new.places) {
+    if !q.below(new.places as u64) {
         return false;
     }
     if 4096 <= n {
         return x == 2;
     }
     let p = old_of(n);
-    if !p.below(old.places) {
+    if !p.below(old.places as u64) {
         return false;
     }
     marks_pair(x)

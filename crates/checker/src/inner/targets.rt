@@ -16,7 +16,6 @@ use align::spots::Aligned;
 use align::spots::Spot;
 use chart::charts::Head;
 use chart::inner::pairs::kept;
-use chart::inner::pairs::new_of;
 use chart::inner::pairs::old_of;
 use chart::inner::pairs::pair;
 use chart::inner::rows::new_to;
@@ -62,8 +61,7 @@ fn rests_at(marks: &[u8], q: NewPlace, t: usize) -> bool
     if 4096 <= t {
         return false;
     }
-    let r = new_of(t);
-    if !r.same(q) {
+    if t != pair(old_of(t), q) {
         return false;
     }
     marks[t] != 0
