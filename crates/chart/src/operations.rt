@@ -138,7 +138,7 @@ pub fn operand_c(o: Operation) -> Operand
 }
 
 // Whether a number can stand in an operand's place.
-pub fn fits(operand: Operand, x: u32) -> bool
+fn fits(operand: Operand, x: u32) -> bool
     ensures { λ r. ⌜ r ≡ fits operand x ⌝ }
 {
     match operand {
