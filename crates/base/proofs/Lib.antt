@@ -4,6 +4,7 @@ pub mod Lists
 pub mod Options
 pub mod Says
 pub mod Maybe
+pub mod Answers
 pub mod Picks
 pub mod OnSome
 pub mod Walks

@@ -7,32 +7,18 @@ use native.Mathlib.Omega.{arith}
 use lib.ListN.{length}
 use Rattle.base.specs.Answers.{Answer, given, refused}
 use Rattle.base.specs.Chains.{mapped}
+use Rattle.base.proofs.Answers.{different}
 use Rattle.chart.specs.declared.charts.Head.{Head}
 use Rattle.chart.specs.Charts.{Chart, size}
 use Rattle.text.specs.declared.answers.Read.{Read}
 use Rattle.text.specs.declared.answers.Read.the-variants as read
 use Rattle.text.specs.declared.answers.Wrote.{Wrote}
 use Rattle.text.specs.declared.answers.Wrote.the-variants as wrote
-use Rattle.text.specs.Texts.{Heading, heading, toldRead, readInto}
+use Rattle.text.specs.Texts.{heading, toldRead, readInto}
 use Rattle.text.specs.Written.{toldWrote, writing}
 use Rattle.text.proofs.Bounds.{SmallRead, read-small, SmallWrite, write-small}
+use Rattle.text.proofs.Headings.{first, second, third}
 use Rattle.capi.specs.Numbers.{Four, number, ofChart, ofText}
-
--- the numbers of an answer, in order
-abbrev first : Answer Heading → ℕ
-first (given h) = h .places
-first (refused n c p) = n
-
-abbrev second : Answer Heading → ℕ
-second (given h) = h .alarm
-second (refused n c p) = c
-
-abbrev third : Answer Heading → ℕ
-third (given h) = h .rows
-third (refused n c p) = p
-
-different : {A : Type 0} {x : A} {n c p : ℕ} → _≡_ {A = Answer A} (given x) (refused n c p) → ⊥
-different e = let z : _≡_ {A = ℕ} 0 1 = cc in omega arith
 
 -- what an answer of the reader is
 pub record OfChart (h : Head) (n : ℕ) (a : Answer Chart) : Type 0 where

@@ -13,6 +13,7 @@ use Rattle.base.specs.Refusals.{Refusal, refusedIf}
 use Rattle.base.specs.Walks.{count}
 use Rattle.base.specs.Options.{orElse}
 use Rattle.base.specs.Says.{bool}
+use Rattle.base.proofs.Answers.{different}
 use Rattle.base.proofs.OnSome.{OnSome, when-on, or-on}
 use Rattle.chart.specs.Charts.{Chart}
 use Rattle.chart.specs.Faults.{Fault, fault}
@@ -44,9 +45,6 @@ start-small old new m = go (alone (headOf old) (headOf new) m)
     go : (b : Bool) → elim b as (λ _. ℕ) [ true ↦ startKept (headOf new) | false ↦ startPair (headOf old) (headOf new) ] ≤ 4160
     go true = omega arith
     go false = omega arith
-
-different : {A : Type 0} {x : A} {n c p : ℕ} → _≡_ {A = Answer A} (given x) (refused n c p) → ⊥
-different e = let z : _≡_ {A = ℕ} 0 1 = cc in omega arith
 
 orNone : Summary → Answer Summary → Summary
 orNone s (given x) = x

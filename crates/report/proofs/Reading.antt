@@ -6,32 +6,18 @@ use Prim.Native.Nat.{ℕ, _≤_}
 use native.Mathlib.Omega.{arith}
 use Rattle.base.specs.Answers.{Answer, given, refused}
 use Rattle.base.specs.Chains.{mapped}
+use Rattle.base.proofs.Answers.{different}
 use Rattle.chart.specs.declared.charts.Head.{Head}
 use Rattle.chart.specs.Charts.{Chart, size}
 use Rattle.text.specs.declared.answers.Read.{Read}
 use Rattle.text.specs.declared.answers.Read.the-variants as read
-use Rattle.text.specs.Texts.{Heading, heading, toldRead, readInto, filled}
+use Rattle.text.specs.Texts.{heading, toldRead, readInto, filled}
 use Rattle.text.proofs.Bounds.{SmallRead, read-small}
+use Rattle.text.proofs.Headings.{first, second, third}
 use Rattle.report.specs.declared.charts.Both.{Both}
 use Rattle.report.specs.declared.charts.Both.the-variants as both
 use Rattle.report.specs.Printed.{bothOf}
 use Rattle.report.specs.Both.{Headings, headings, toldBoth, Few, BothAs}
-
--- the numbers of an answer, in order
-abbrev first : Answer Heading → ℕ
-first (given h) = h .places
-first (refused n c p) = n
-
-abbrev second : Answer Heading → ℕ
-second (given h) = h .alarm
-second (refused n c p) = c
-
-abbrev third : Answer Heading → ℕ
-third (given h) = h .rows
-third (refused n c p) = p
-
-different : {A : Type 0} {x : A} {n c p : ℕ} → _≡_ {A = Answer A} (given x) (refused n c p) → ⊥
-different e = let z : _≡_ {A = ℕ} 0 1 = cc in omega arith
 
 -- a position that is told is small
 position : (a : Answer Chart) (m p : ℕ) → toldRead (read.Refused m p) ≡ mapped heading a → SmallRead a → p ≤ 10191

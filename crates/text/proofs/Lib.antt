@@ -15,3 +15,4 @@ pub mod Exactly
 pub mod Lengths
 pub mod Theorems
 pub mod Bounds
+pub mod Headings

@@ -1,0 +1,16 @@
+-- The numbers of an answer of the reader, in order. Assumes nothing.
+use Prim.Native.Nat.{ℕ}
+use Rattle.base.specs.Answers.{Answer, given, refused}
+use Rattle.text.specs.Texts.{Heading}
+
+abbrev pub first : Answer Heading → ℕ
+first (given h) = h .places
+first (refused n c p) = n
+
+abbrev pub second : Answer Heading → ℕ
+second (given h) = h .alarm
+second (refused n c p) = c
+
+abbrev pub third : Answer Heading → ℕ
+third (given h) = h .rows
+third (refused n c p) = p
