@@ -1,7 +1,5 @@
 // The program: reads old.csv and new.csv, and prints the condition of the two charts, or a refusal. It opens, reads and writes; what it
 // prints is made by the crate report, in portions that together are `printed` of that crate's specs.
-ghost use Prim.Native.Nat.{_≤_};
-ghost use lib.ListN.{length};
 ghost use Rattle.io.specs.Counts.{Counts};
 ghost use Rattle.report.specs.Both.{Few};
 ghost use Rattle.report.specs.Printed.{Small};
@@ -75,9 +73,7 @@ fn refuse(number: u32, chart: u32, position: u32) {
 }
 
 // The transitions, portion after portion.
-fn transitions(rows: &[u32], marks: &[u8; 4160], targets: &[u16; 8192])
-    requires { ⌜ length (now rows) ≤ 768 ⌝ }
-{
+fn transitions(rows: &[u32], marks: &[u8; 4160], targets: &[u16; 8192]) {
     let mut bytes = [0u8; 1024];
     let mut pair = 0;
     while pair < 4096 {
@@ -93,14 +89,18 @@ fn head(s: Summary)
     requires { ⌜ Small s ⌝ }
 {
     let mut bytes = [0u8; 1024];
-    let n = report::summary(s, &mut bytes);
+    let n = report::summary(
+        s.start as u32,
+        s.opened as u32,
+        s.kept as u32,
+        s.covered as u32,
+        &mut bytes,
+    );
     put(&bytes[..n]);
 }
 
 // The condition of two charts.
-fn show<'a>(old: Head, old_rows: &'a [u32], new: Head, new_rows: &'a [u32])
-    requires { ⌜ length (now «new_rows») ≤ 768 ⌝ }
-{
+fn show<'a>(old: Head, old_rows: &'a [u32], new: Head, new_rows: &'a [u32]) {
     let mut marks = [0u8; 4160];
     let mut targets = [0u16; 8192];
     let mut sets = [0u64; 4096];

@@ -7,8 +7,8 @@ use native.Mathlib.Numerals.{add-one}
 use native.Mathlib.Omega.{arith}
 use native.Mathlib.Decide.{decLt}
 use mathlib.Core.Logic.{dite}
-use lib.ListN.{length, getD, drop}
-use lib.Seq.{drop-cons}
+use lib.ListN.{length, getD, take, drop}
+use lib.Seq.{drop-cons, take-all}
 use Rattle.text.specs.Written.{Put}
 use Rattle.text.proofs.Puts.{put-then, put-length}
 use Rattle.report.specs.Transitions.{ofPair, transitionsFrom, remaining}
@@ -79,3 +79,8 @@ module _ (t marks targets : List ℕ) (pair : ℕ) (before : List ℕ) where
           rest = c .rest;
           onward = f;
         }
+
+-- a table of fewer than 768 entries is looked at whole
+pub portion-whole : {t marks targets before after : List ℕ} {n next r : ℕ} → length t < 768 → Portioned t marks targets n before after next r
+    → Portioned (take 768 t) marks targets n before after next r
+portion-whole {t} l p = rw (take-all 768 t (omega arith)) p

@@ -1,5 +1,5 @@
--- What is built of two charts that were read has 8,192 targets. Assumes nothing.
-use mathlib.Core.Path.{_≡_, ap}
+-- Of two charts that were read the table has at most 768 entries, and what is built 8,192 targets. Assumes nothing.
+use mathlib.Core.Path.{_≡_, sym, ap}
 use mathlib.Core.Bool.{true, not}
 use mathlib.Core.List.{List}
 use mathlib.Core.Option.{none}
@@ -7,14 +7,16 @@ use Prim.Native.Nat.{ℕ, _%_}
 use native.Mathlib.Omega.{arith}
 use borrow.Author.Tests.{not-false}
 use lib.Dec.{eqb}
-use lib.ListN.{length}
+use lib.ListN.{length, take}
+use lib.Seq.{take-all}
 use Rattle.base.specs.Answers.{Answer, given, refused}
 use Rattle.base.specs.Refusals.{refusedIf}
 use Rattle.base.specs.Says.{bool}
+use Rattle.base.proofs.Answers.{different}
 use Rattle.base.proofs.Options.{both-missing, not-due}
 use Rattle.base.proofs.Says.{says}
 use Rattle.base.proofs.Tests.{T-true}
-use Rattle.chart.specs.Charts.{Chart}
+use Rattle.chart.specs.Charts.{Chart, size}
 use Rattle.chart.specs.Faults.{due, fault, refusal}
 use Rattle.chart.proofs.Faultless.{faultless}
 use Rattle.text.specs.Texts.{readText}
@@ -41,9 +43,6 @@ targets-long O N o n =
     says stated (T-true is) .1 .0
 
 -- both charts were read
-different : {A : Type 0} {x : A} {n c p : ℕ} → _≡_ {A = Answer A} (refused n c p) (given x) → ⊥
-different e = let z : _≡_ {A = ℕ} 0 1 = cc in omega arith
-
 oldIn : Pair → Answer Pair → Chart
 oldIn P (given Q) = Q .old
 oldIn P (refused n c p) = P .old
@@ -55,11 +54,20 @@ newIn P (refused n c p) = P .new
 both-given : (a b : Answer Chart) (P : Pair) → bothOf a b ≡ given P → (a ≡ given (P .old)) × (b ≡ given (P .new))
 unfolding bothOf oldIn newIn
 both-given (given O) (given N) P e = (ap (λ (C : Chart). given C) (ap (oldIn P) e), ap (λ (C : Chart). given C) (ap (newIn P) e))
-both-given (given O) (refused n c p) P e = absurd (different e)
-both-given (refused n c p) b P e = absurd (different e)
+both-given (given O) (refused n c p) P e = absurd (different (sym e))
+both-given (refused n c p) b P e = absurd (different (sym e))
 
 pub built-targets : (old new : List ℕ) (P : Pair) → bothRead old new ≡ given P → length (recorded (P .old) (P .new) .graph .targets) ≡ 8192
 unfolding bothRead
 built-targets old new P e =
     let q = both-given (readText old) (readText new) P e in
     targets-long (P .old) (P .new) (read-exactly (P .old) old .0 (q .0) .faultless) (read-exactly (P .new) new .0 (q .1) .faultless)
+
+-- the portions are those of the whole table
+pub whole-table : (old new : List ℕ) (P : Pair) → bothRead old new ≡ given P → take 768 (P .new .table) ≡ P .new .table
+unfolding bothRead
+whole-table old new P e =
+    let q = both-given (readText old) (readText new) P e in
+    let C = P .new in
+    let f = faultless C (read-exactly C new .0 (q .1) .faultless) in
+    take-all 768 (C .table) (omega (arith, f .whole, f .few-rows))

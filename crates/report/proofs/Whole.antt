@@ -16,7 +16,7 @@ use Rattle.builder.specs.Builds.{recorded}
 use Rattle.report.specs.Lines.{refusalLine}
 use Rattle.report.specs.Transitions.{transitionsFrom, remaining}
 use Rattle.report.specs.Printed.{Pair, bothRead, summaryLine, transitions, condition, conditionOf, printed}
-use Rattle.report.proofs.Lengths.{built-targets}
+use Rattle.report.proofs.Lengths.{built-targets, whole-table}
 use Rattle.report.specs.Portions.{Front, Portioned, Portions, last, more}
 
 -- past the last pair there is nothing
@@ -42,12 +42,13 @@ module _ (old new : List ℕ) where
   -- a condition is printed by its first record and then the portions from pair 0 on
   pub condition-printed : (P : Pair) → bothRead old new ≡ given P
       → (before after : List ℕ) (r : ℕ) → Front before (summaryLine (summary (recorded (P .old) (P .new) .start) (recorded (P .old) (P .new) .graph .marks))) after r
-      → {out : List ℕ} → Portions (P .new .table) (recorded (P .old) (P .new) .graph .marks) (recorded (P .old) (P .new) .graph .targets) 0 out
+      → {out : List ℕ} → Portions (take 768 (P .new .table)) (recorded (P .old) (P .new) .graph .marks) (recorded (P .old) (P .new) .graph .targets) 0 out
       → take r after ++ out ≡ printed old new
   unfolding printed conditionOf condition transitions
   condition-printed P e before after r f ps =
       let R = recorded (P .old) (P .new) in
-      rw e (ap₂ (λ (x y : List ℕ). x ++ y) (f .is) (portions-are (P .new .table) (R .graph .marks) (R .graph .targets) (built-targets old new P e) ps))
+      let all = portions-are (take 768 (P .new .table)) (R .graph .marks) (R .graph .targets) (built-targets old new P e) ps in
+      rw e (ap₂ (λ (x y : List ℕ). x ++ y) (f .is) (all ∙ ap (λ (t : List ℕ). remaining t (R .graph .marks) (R .graph .targets) 0) (whole-table old new P e)))
 
 -- "at most 16,384 bytes" of a file say as much as all of it
 cut-read : (text : List ℕ) → readText (take 16384 text) ≡ readText text

@@ -1,11 +1,9 @@
 // What the program prints, in portions of at most 1,024 bytes. Together they are `printed` of specs/Printed.antt.
 ghost use mathlib.Core.Path.{_≡_};
-ghost use Prim.Native.Nat.{_≤_};
-ghost use lib.ListN.{length};
+ghost use lib.ListN.{take};
 ghost use Rattle.report.specs.Lines.{refusalLine};
-ghost use Rattle.report.specs.Printed.{summaryLine, Small};
+ghost use Rattle.report.specs.Printed.{summaryLine};
 ghost use Rattle.report.specs.Portions.{Front, Portioned};
-use builder::answers::Summary;
 use inner::lines::put_line;
 use inner::transitions::Extent;
 use inner::transitions::put_pairs;
@@ -21,21 +19,13 @@ pub fn refusal(number: u32, chart: u32, position: u32, bytes: &mut [u8; 1024]) -
 }
 
 // The first record of a condition, at the front of the bytes, and their count.
-pub fn summary(s: Summary, bytes: &mut [u8; 1024]) -> usize
-    requires { ⌜ Small s ⌝ }
-    ensures { λ r. ⌜ Front (now (bytes .entry)) (summaryLine s) (now (bytes .exit)) r ⌝ }
+pub fn summary(start: u32, opened: u32, kept: u32, covered: u32, bytes: &mut [u8; 1024]) -> usize
+    ensures { λ r. ⌜ Front (now (bytes .entry)) (summaryLine (record { start = start; opened = opened; kept = kept; covered = covered })) (now (bytes .exit)) r ⌝ }
 {
-    put_line(
-        bytes,
-        0,
-        s.start as u32,
-        s.opened as u32,
-        s.kept as u32,
-        s.covered as u32,
-    )
+    put_line(bytes, 0, start, opened, kept, covered)
 }
 
-// Some of the transitions from this pair on, at the front of the bytes.
+// Some of the transitions from this pair on, at the front of the bytes. A chart has at most 128 rows: no entry past them is looked at.
 pub fn portion(
     table: &[u32],
     marks: &[u8; 4160],
@@ -43,8 +33,10 @@ pub fn portion(
     pair: usize,
     bytes: &mut [u8; 1024],
 ) -> Extent
-    requires { ⌜ length (now table) ≤ 768 ⌝ }
-    ensures { λ r. ⌜ Portioned (now (table .entry)) (now (marks .entry)) (now (targets .entry)) pair (now (bytes .entry)) (now (bytes .exit)) (r .next) (r .count) ⌝ }
+    ensures { λ r. ⌜ Portioned (take 768 (now (table .entry))) (now (marks .entry)) (now (targets .entry)) pair (now (bytes .entry)) (now (bytes .exit)) (r .next) (r .count) ⌝ }
 {
-    put_pairs(table, marks, targets, pair, bytes)
+    if table.len() < 768 {
+        return put_pairs(table, marks, targets, pair, bytes);
+    }
+    put_pairs(&table[..768], marks, targets, pair, bytes)
 }

@@ -1,7 +1,5 @@
 -- The counts of rows are within the tables. Assumes nothing.
 use mathlib.Core.Path.{sym}
-use Prim.Native.Nat.{_*_}
-use lib.ListN.{length-take}
 use lib.Seq.{length-take-le}
 use Rattle.report.proofs.Reading.{few-rows}
 use native.Mathlib.Omega.{arith}
@@ -46,7 +44,7 @@ slice-aggregate-show-2 : tie.Need-slice-aggregate-show-2
 slice-aggregate-show-2 c = let f = few-rows _ (c .before .before .before .before .before .before .before .charts .ensures) _ _ _ _ (c .before .before .before .head .given .1) in sym (length-take-le _ (c .before .before .before .before .before .before .before .charts .last .1 .0) (omega (arith, f .1)))
 
 show-requires : tie.Need-show-requires
-show-requires c κs = let f = few-rows _ (c .before .before .before .before .before .before .before .charts .ensures) _ _ _ _ (c .before .before .before .head .given .1) in let l = length-take-le (6 * (c .before .before .before .head .given .0 .1 .1 .1 .0)) (c .before .before .before .before .before .before .before .charts .last .1 .0) (omega (arith, f .1)) in omega (arith, f .1)
+show-requires c κs = search needs
 
 returns : tie.Need-returns
 returns c = search needs
