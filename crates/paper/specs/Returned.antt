@@ -1,0 +1,55 @@
+-- A record is what Algorithms 2 and 1 return: document 01's marks, targets and sets in the source's words. That every build leaves such a
+-- record is the theorem in proofs/Theorem.antt.
+use mathlib.Core.Path.{_≡_}
+use mathlib.Core.Logic.{_⊎_, _≢_, _↔_}
+use Prim.Native.Nat.{ℕ, _<_}
+use Rattle.chart.specs.Charts.{Chart}
+use Rattle.align.specs.Steps.{moved}
+use Rattle.checker.specs.Records.{Record, mark, setAt, target}
+use Rattle.paper.specs.Nodes.{Set, _∈_, _∉_, Pair, Node, aligned, Edge, edge, number, nodeNumber, pairOf, Numbered, NodeNumbered}
+use Rattle.paper.specs.Algorithm2.{State, DifferenceGraph, Run, Ended, returned}
+use Rattle.paper.specs.Algorithm1.{Search, F, Transition}
+
+module _ (R : Record) where
+  -- a node, if it has a number, with a mark that is so
+  abbrev pub Marked : (ℕ → Type 0) → Node → Type 0
+  Marked P x = NodeNumbered x × P (mark (R .graph) (nodeNumber x))
+
+  -- an edge as the record has it: "targets ([..] at 2 × pair + 0 or 1 for a place's first and second row)". 65535 is no node's number
+  pub record Targeted (e : Edge) : Type 0 where
+    pub pred : Numbered (e .pred)
+    pub two : e .row < 2
+    pub succ : NodeNumbered (e .succ)
+    pub is : target (R .graph) (number (e .pred)) (e .row) ≡ nodeNumber (e .succ)
+
+  -- the difference graph G, with the sets V_δ
+  pub record IsGraph (G : DifferenceGraph) (Vδ : Pair → ℕ) : Type 0 where
+    pub start : R .start ≡ nodeNumber (G .n₀)
+    pub nodes : (x : Node) → (x ∈ G .N) ↔ Marked (λ m. m ≢ 0) x
+    pub kept : (x : Node) → (x ∈ G .Δ) ↔ Marked (λ m. m ≡ 2) x
+    pub edges : (e : Edge) → G .E e ↔ Targeted e
+    -- V_δ on N_l, and 0 elsewhere
+    pub sets : (n : Pair) → aligned n ∈ G .N → setAt (R .graph) (number n) ≡ Vδ n
+    pub bare : (n : Pair) → Numbered n → aligned n ∉ G .N → setAt (R .graph) (number n) ≡ 0
+
+  -- the condition that lines 6 and 7 make of it with Q
+  pub record IsCondition (G : DifferenceGraph) (Q : Set Node) : Type 0 where
+    -- marks 1 and 2 are Q, mark 3 is F
+    pub open-or-kept : (x : Node) → (x ∈ Q) ↔ Marked (λ m. (m ≡ 1) ⊎ (m ≡ 2)) x
+    pub covered : (x : Node) → F G Q x ↔ Marked (λ m. m ≡ 3) x
+    -- "The condition's transitions are the targets of open pairs": those of line 7; and each target of an open pair is one, 65535 excepted
+    pub transitions : (e : Edge) → Transition G Q e ↔ (Targeted e × (mark (R .graph) (number (e .pred)) ≡ 1))
+    pub each : (i r : ℕ) → i < 4096 → r < 2 → mark (R .graph) i ≡ 1 → target (R .graph) i r ≢ 65535
+        → (x : Node) × (nodeNumber x ≡ target (R .graph) i r) × Transition G Q (edge (pairOf i) r x)
+
+-- one run of Algorithm 2 with document 01's step, to its end; then one run of Algorithm 1 on the graph that it returns, to its end
+pub record Returned (old new : Chart) (R : Record) : Type 0 where
+  pub state : State
+  pub ran : Run old new (moved old) state
+  pub ended : Ended old new (moved old) state
+  pub graph : IsGraph R (returned old new (moved old) state) (state .Vδ)
+  pub Q : Set Node
+  pub waitlist : Set Node
+  pub searched : Search (returned old new (moved old) state) Q waitlist
+  pub emptied : (n : Node) → n ∉ waitlist
+  pub condition : IsCondition R (returned old new (moved old) state) Q
