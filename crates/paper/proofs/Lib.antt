@@ -1,2 +1,6 @@
 -- That a build is a run of the source's algorithms.
 pub mod Successors
+pub mod Members
+pub mod Reading
+pub mod Edges
+pub mod Rounds
