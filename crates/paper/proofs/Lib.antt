@@ -4,3 +4,8 @@ pub mod Members
 pub mod Reading
 pub mod Edges
 pub mod Rounds
+pub mod Searching
+pub mod Returning
+pub mod Conditions
+pub mod Alone
+pub mod Theorem

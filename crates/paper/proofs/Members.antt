@@ -88,6 +88,9 @@ pub pair-is : (n : Pair) → Numbered n → pairOf (number n) ≡ n
 pair-is n B =
     ap₂ (λ (x y : ℕ). pair (record { 0 = x }) (record { 0 = y })) (omega (arith, B .new)) (omega (arith, B .new))
 
+pub number-is : (i : ℕ) → number (pairOf i) ≡ i
+number-is i = omega arith
+
 pub number-below : (n : Pair) → Numbered n → number n < 4096
 number-below n B = omega (arith, B .old, B .new)
 

@@ -1,0 +1,81 @@
+-- The lone kept start is the difference graph that line 19 returns, with its condition. Assumes nothing.
+use mathlib.Core.Path.{_≡_, refl, sym, ap, subst, _∙_}
+use mathlib.Core.Bool.{Bool, true, false}
+use mathlib.Core.Logic.{_⊎_, inl, inr, ⊎-elim, _↔_, _≢_}
+use Prim.Native.Nat.{ℕ, _<_}
+use native.Mathlib.Omega.{arith}
+use native.Mathlib.Decide.{ℕ-discrete}
+use lib.ListN.{set, replicate}
+use Rattle.base.proofs.Tests.{T-true}
+use Rattle.base.proofs.Walks.{zeros-at, same-at}
+use Rattle.chart.specs.declared.places.NewPlace.{NewPlace}
+use Rattle.chart.specs.Places.{keptNumber}
+use Rattle.chart.specs.Charts.{Chart}
+use Rattle.checker.specs.Records.{Record, recordOf, mark, target, index}
+use Rattle.builder.specs.Graphs.{firstKept}
+use Rattle.builder.proofs.Ones.{one-there, one-other, one-only}
+use Rattle.paper.specs.Nodes.{Set, _∈_, _∉_, Pair, Node, aligned, indicator, Edge, onlyNode, number, nodeNumber, NodeNumbered}
+use Rattle.paper.specs.Algorithm2.{Step, lone}
+use Rattle.paper.specs.Algorithm1.{Search, F, Transition}
+use Rattle.paper.specs.Returned.{Marked, Targeted, IsGraph, IsCondition}
+use Rattle.paper.proofs.Members.{in-first, not-in, in-or-not, only-node, the-node, number-below}
+use Rattle.paper.proofs.Searching.{within, first-found, node-below}
+
+module _ (old new : Chart) (lines : Step) where
+  abbrev pub single : Record
+  single = recordOf (firstKept new) (set (replicate 4160 0) (firstKept new) 2) (replicate 8192 65535) (replicate 4096 0)
+
+  abbrev first : Node
+  first = indicator (record { 0 = 0 })
+
+  -- the one node that is marked
+  single-node : (x : Node) → NodeNumbered x → mark (single .graph) (nodeNumber x) ≢ 0 → x ≡ first
+  single-node (aligned n) B e = absurd (let z = one-only 4160 (firstKept new) 2 (number n) (omega arith) in omega (arith, number-below n B))
+  single-node (indicator q) b e = let z = one-only 4160 (firstKept new) 2 (keptNumber q) (omega arith) in ap (λ (y : ℕ). indicator (record { 0 = y })) (omega arith)
+
+  first-mark : mark (single .graph) 4096 ≡ 2
+  first-mark = one-there 4160 4096 2 (omega arith)
+
+  first-so : (P : ℕ → Type 0) → P 2 → (x : Node) → x ∈ onlyNode first → Marked single P x
+  first-so P p x e = subst (λ (y : Node). Marked single P y) (only-node first x e) (omega arith, subst P (sym first-mark) p)
+
+  is-first : (x : Node) → NodeNumbered x → mark (single .graph) (nodeNumber x) ≢ 0 → x ∈ onlyNode first
+  is-first x B e = subst (λ (y : Node). y ∈ onlyNode first) (sym (single-node x B e)) (the-node first)
+
+  no-target : (e : Edge) → Targeted single e → ⊥
+  no-target e t = omega (arith, t .is, same-at 8192 65535 (index (number (e .pred)) (e .row)) (omega (arith, t .two, number-below (e .pred) (t .pred))), node-below (e .succ) (t .succ))
+
+  pub lone-graph : (S : Pair → ℕ) → IsGraph single (lone old new lines) S
+  unfolding onlyNode
+  lone-graph S =
+      record {
+        start = refl;
+        nodes = λ x. (first-so (λ m. m ≢ 0) (λ e. omega arith) x, λ M. is-first x (M .0) (M .1));
+        kept = λ x. (first-so (λ m. m ≡ 2) refl x, λ M. is-first x (M .0) (λ e. omega (arith, M .1)));
+        edges = λ e. (λ b. absurd b, λ t. no-target e t);
+        sets = λ n e. absurd (T-true e);
+        bare = λ n B e. zeros-at 4096 (number n);
+      }
+
+  module _ {Q waits : Set Node} (search : Search (lone old new lines) Q waits) where
+    Q-kept : (x : Node) → x ∈ Q → Marked single (λ m. (m ≡ 1) ⊎ (m ≡ 2)) x
+    Q-kept =
+        within (lone old new lines) (Marked single (λ m. (m ≡ 1) ⊎ (m ≡ 2))) (first-so (λ m. (m ≡ 1) ⊎ (m ≡ 2)) (inr refl) first (the-node first)) (first-so (λ m. (m ≡ 1) ⊎ (m ≡ 2)) (inr refl))
+        (λ p x o D. absurd (D .edge)) search .1
+
+    kept-Q : (x : Node) → Marked single (λ m. (m ≡ 1) ⊎ (m ≡ 2)) x → x ∈ Q
+    kept-Q x M = first-found (lone old new lines) search x (in-first (onlyNode first x) (onlyNode first x) (is-first x (M .0) (λ e. ⊎-elim (λ a. omega arith) (λ a. omega arith) (M .1))))
+
+    not-covered : (x : Node) → Marked single (λ m. m ≡ 3) x → ⊥
+    not-covered x M =
+        let z = first-so (λ m. m ≡ 2) refl x (is-first x (M .0) (λ e. omega (arith, M .1))) in
+        omega (arith, M .1, z .1)
+
+    pub lone-condition : IsCondition single (lone old new lines) Q
+    lone-condition =
+        record {
+          open-or-kept = λ x. (Q-kept x, kept-Q x);
+          covered = λ x. (λ f. absurd (f .edge .edge), λ M. absurd (not-covered x M));
+          transitions = λ e. (λ t. absurd (t .edge), λ t. absurd (no-target e (t .0)));
+          each = λ i r l c o u. absurd (let z = one-only 4160 (firstKept new) 2 i (omega (arith, o)) in omega arith);
+        }

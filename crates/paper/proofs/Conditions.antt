@@ -1,0 +1,172 @@
+-- The marks of a build are the condition that lines 6 and 7 of Algorithm 1 make of the graph, whichever nodes line 3 popped. Assumes nothing.
+use mathlib.Core.Path.{_≡_, refl, sym, ap, subst, _∙_}
+use mathlib.Core.Bool.{Bool, true, false, _||_}
+use mathlib.Core.Logic.{_⊎_, inl, inr, ⊎-elim, dite, _↔_, _≢_}
+use Prim.Native.Nat.{ℕ, _%_, _≤_, _<_}
+use native.Mathlib.Omega.{arith}
+use native.Mathlib.Decide.{decLt}
+use lib.ListN.{getD, List·getD-eq-default}
+use Rattle.base.proofs.Tests.{T-true}
+use Rattle.chart.specs.Places.{keptNumber, newOf}
+use Rattle.chart.specs.Charts.{Chart}
+use Rattle.chart.specs.Faultless.{FaultlessChart}
+use Rattle.align.specs.Steps.{moved}
+use Rattle.checker.specs.Records.{mark, target, index}
+use Rattle.checker.specs.Rules.{headOf}
+use Rattle.checker.specs.Promise.{Words}
+use Rattle.builder.specs.Graphs.{firstPair}
+use Rattle.builder.specs.Turns.{explored}
+use Rattle.builder.specs.Builds.{finalTargets, alone}
+use Rattle.builder.proofs.Graphs.{markAt}
+use Rattle.builder.proofs.Invariant.{explored-inv}
+use Rattle.builder.proofs.Least.{Closed, Reached}
+use Rattle.builder.proofs.Marks.{rank-pair}
+use Rattle.builder.proofs.Demand3.{marks, left, final}
+use Rattle.builder.proofs.Right.{open-closed, open-least, covered-only, covered-all}
+use Rattle.paper.specs.Nodes.{Set, _∈_, _∉_, Pair, Node, aligned, indicator, Edge, edge, onlyNode, number, nodeNumber, pairOf, Numbered, NodeNumbered}
+use Rattle.paper.specs.Algorithm2.{DifferenceGraph, nodes, indicators, whole}
+use Rattle.paper.specs.Algorithm1.{Precedes, Search, F, Transition}
+use Rattle.paper.specs.Returned.{Marked, Targeted, IsGraph, IsCondition}
+use Rattle.paper.proofs.Members.{in-either, in-first, not-in, in-or-not, the-node, pair-is, number-is, number-below, numbered}
+use Rattle.paper.proofs.Searching.{within, first-found, closed, in-second, node-below}
+use Rattle.paper.proofs.Returning.{last, built-graph, target-fits, left-mark, whole-graph}
+
+module _ (old new : Chart) (F′ : FaultlessChart old) (H : FaultlessChart new) (words : Words (new .table)) (joint : alone (headOf old) (headOf new) (explored old new .marks) ≡ false) where
+  abbrev G : DifferenceGraph
+  G = whole old new (moved old) (last old new F′ H words)
+
+  abbrev W : IsGraph (built-graph old new F′ H words joint) G (last old new F′ H words .Vδ)
+  W = whole-graph old new F′ H words joint
+
+  abbrev m : ℕ → ℕ
+  m k = mark (left old new F′ H joint) k
+
+  abbrev to : ℕ → ℕ → ℕ
+  to i r = target (left old new F′ H joint) i r
+
+  Open : Node → Type 0
+  Open x = Marked (built-graph old new F′ H words joint) (λ k. (k ≡ 1) ⊎ (k ≡ 2)) x
+
+  -- a pair of Q is open
+  pair-open : (n : Pair) → Numbered n → (m (number n) ≡ 1) ⊎ (m (number n) ≡ 2) → m (number n) ≡ 1
+  unfolding indicators
+  pair-open n B e = ⊎-elim (λ a. a) (λ a. absurd (not-kept (W .kept (aligned n) .1 (B, a)))) e
+    where
+      not-kept : G .Δ (aligned n) ≡ true → ⊥
+      not-kept e = T-true e
+
+  module _ {Q waits : Set Node} (search : Search G Q waits) (emptied : (x : Node) → x ∉ waits) where
+    Q-open : (x : Node) → x ∈ Q → Open x
+    unfolding Open nodes
+    Q-open =
+        within G Open (numbered 0 (omega arith), inl (final old new F′ H joint .start)) (λ x e. let k = W .kept x .0 e in (k .0, inr (k .1)))
+        (λ p x o D. let t = W .edges (edge (D .pair) (D .row) x) .0 (D .edge) in
+        let z = open-closed old new F′ H joint (number (D .pair)) (D .row) (number-below (D .pair) (t .pred)) (W .nodes (aligned (D .pair)) .0 (D .edge .from) .1) (t .two)
+        (subst (λ (k : ℕ). (m k ≡ 1) ⊎ (m k ≡ 2)) (sym (t .is)) (o .1)) in
+        subst Open (sym (D .is)) (t .pred, inl z)) search .1
+
+    -- an edge of the graph by pair and target
+    led : (i r : ℕ) → i < 4096 → r < 2 → (x : Node) → NodeNumbered x → to i r ≡ nodeNumber x → G .E (edge (pairOf i) r x)
+    led i r l c x B e = W .edges (edge (pairOf i) r x) .1 (record { pred = numbered i l; two = c; succ = B; is = ap (λ (j : ℕ). to j r) (number-is i) ∙ e })
+
+    kept-Q : (x : Node) → NodeNumbered x → m (nodeNumber x) ≡ 2 → x ∈ Q
+    kept-Q x B e = first-found G search x (in-second (onlyNode (G .n₀) x) (G .Δ x) (W .kept x .1 (B, e)))
+
+    Found : ℕ → Type 0
+    Found k = (k < 4096) × (aligned (pairOf k) ∈ Q)
+
+    found-closed : Closed (explored old new .marks) (finalTargets (explored old new)) (explored-inv old new F′ H .shaped .sized .marks) Found
+    unfolding Found
+    found-closed i r l p c e = (l, ⊎-elim (λ f. by (aligned (pairOf (to i r))) (numbered (to i r) (f .0)) (sym (number-is (to i r))) (f .1)) (λ f. up (f .0) (f .1)) e)
+      where
+        by : (x : Node) → NodeNumbered x → to i r ≡ nodeNumber x → x ∈ Q → aligned (pairOf i) ∈ Q
+        by x B z q = closed G search (aligned (pairOf i)) x q (emptied x) (record { pair = pairOf i; row = r; is = refl; edge = led i r l c x B z })
+
+        up : 4096 ≤ to i r → 0 < markAt (explored old new) (to i r) → aligned (pairOf i) ∈ Q
+        up a b =
+            let d : to i r < 4160 = dite (decLt (to i r) 4160) (λ z. z) (λ z. absurd (omega (arith, List·getD-eq-default (explored old new .marks) 0 {n = to i r} (omega (arith, explored-inv old new F′ H .shaped .sized .marks))))) in
+            let z : to i r ≡ keptNumber (newOf (to i r)) = omega arith in
+            by (indicator (newOf (to i r))) (omega arith) z (kept-Q (indicator (newOf (to i r))) (omega arith) (subst (λ (k : ℕ). m k ≡ 2) z (final old new F′ H joint .ranks .node (to i r) a d b)))
+
+    found-first : Found (firstPair old new)
+    unfolding Found
+    found-first = (omega arith, first-found G search (aligned (pairOf 0)) (in-first (onlyNode (G .n₀) (aligned (pairOf 0))) (G .Δ (aligned (pairOf 0))) (the-node (aligned (pairOf 0)))))
+
+    open-Q : (x : Node) → Open x → x ∈ Q
+    unfolding Open Found
+    open-Q x o = ⊎-elim (λ e. one x (o .0) e) (λ e. kept-Q x (o .0) e) (o .1)
+      where
+        one : (x : Node) → NodeNumbered x → m (nodeNumber x) ≡ 1 → x ∈ Q
+        one (aligned n) B e =
+            let f = open-least old new F′ H joint Found found-first found-closed (number n) e in
+            subst (λ (k : Pair). aligned k ∈ Q) (pair-is n B) (f .1)
+        one (indicator q) b e =
+            absurd (let z = rank-pair (explored old new .marks) (marks old new F′ H joint) (final old new F′ H joint .ranks) (keptNumber q) (omega arith) (λ k. omega arith) in omega arith)
+
+    not-open : (x : Node) → NodeNumbered x → x ∉ Q → (m (nodeNumber x) ≡ 1 → ⊥) × (m (nodeNumber x) ≡ 2 → ⊥)
+    unfolding Open
+    not-open x B o = (λ e. not-in (open-Q x (B, inl e)) o, λ e. not-in (open-Q x (B, inr e)) o)
+
+    -- a pair of Q has mark 1
+    pair-one : (n : Pair) → aligned n ∈ Q → m (number n) ≡ 1
+    unfolding Open
+    pair-one n e = let o = Q-open (aligned n) e in pair-open n (o .0) (o .1)
+
+    -- ---- line 6
+    F-covered : (x : Node) → F G Q x → Marked (built-graph old new F′ H words joint) (λ k. k ≡ 3) x
+    F-covered x f =
+        let D = f .edge in
+        let t = W .edges (edge (D .pair) (D .row) x) .0 (D .edge) in
+        let there = W .nodes x .0 (D .edge .to) in
+        let o = not-open x (there .0) (f .outside) in
+        let below : nodeNumber x < 4096 =
+        dite (decLt (nodeNumber x) 4096) (λ z. z)
+        (λ z. let k = left-mark old new F′ H words joint (nodeNumber x) (there .1) in absurd (o .1 (final old new F′ H joint .ranks .node (nodeNumber x) (omega arith) (k .0) (k .1)))) in (
+          there .0,
+          subst (λ (k : ℕ). m k ≡ 3) (t .is)
+              (covered-all old new F′ H joint (number (D .pair)) (D .row) (number-below (D .pair) (t .pred)) (pair-one (D .pair) (subst (λ (y : Node). y ∈ Q) (D .is) (f .«open»))) (t .two) (omega (arith, t .is))
+              (subst (λ (k : ℕ). m k ≢ 0) (sym (t .is)) (there .1)) (subst (λ (k : ℕ). m k ≢ 1) (sym (t .is)) (o .0))),
+        )
+
+    covered-F : (x : Node) → Marked (built-graph old new F′ H words joint) (λ k. k ≡ 3) x → F G Q x
+    unfolding Open
+    covered-F x M =
+        let T = covered-only old new F′ H joint (nodeNumber x) (M .1) in
+        let l = rank-pair (explored old new .marks) (marks old new F′ H joint) (final old new F′ H joint .ranks) (T .pair) (omega (arith, T .«open»)) (λ k. omega (arith, T .«open»)) in
+        record {
+          pred = aligned (pairOf (T .pair));
+          edge = record { pair = pairOf (T .pair); row = T .row; is = refl; edge = led (T .pair) (T .row) l (T .two) x (M .0) (T .is) };
+          «open» = open-Q (aligned (pairOf (T .pair))) (numbered (T .pair) l, inl (ap m (number-is (T .pair)) ∙ T .«open»));
+          outside = ⊎-elim (λ h. absurd (let o = Q-open x h in ⊎-elim (λ e. omega (arith, M .1)) (λ e. omega (arith, M .1)) (o .1))) (λ h. h) (in-or-not (Q x));
+        }
+
+    -- ---- line 7
+    transition : (e : Edge) → Targeted (built-graph old new F′ H words joint) e → m (number (e .pred)) ≡ 1 → Transition G Q e
+    unfolding Open
+    transition e t o =
+        let f = W .edges e .1 t in
+        let q = open-Q (aligned (e .pred)) (t .pred, inl o) in
+        record {
+          edge = f;
+          from = q;
+          to = ⊎-elim (λ h. inl h) (λ h. inr (record { pred = aligned (e .pred); edge = record { pair = e .pred; row = e .row; is = refl; edge = f }; «open» = q; outside = h })) (in-or-not (Q (e .succ)));
+        }
+
+    each : (i r : ℕ) → i < 4096 → r < 2 → m i ≡ 1 → to i r ≢ 65535 → (x : Node) × (nodeNumber x ≡ to i r) × Transition G Q (edge (pairOf i) r x)
+    each i r l c o u =
+        dite (decLt (to i r) 4096) (λ b. by (aligned (pairOf (to i r))) (numbered (to i r) b) (number-is (to i r)))
+        (λ b. ⊎-elim (λ d. by (indicator (newOf (to i r))) (omega arith) (omega arith)) (λ d. absurd (u d)) (target-fits old new F′ H words joint i r l c))
+      where
+        by : (x : Node) → NodeNumbered x → nodeNumber x ≡ to i r → (x : Node) × (nodeNumber x ≡ to i r) × Transition G Q (edge (pairOf i) r x)
+        by x B z =
+            (x, z, transition (edge (pairOf i) r x) (record { pred = numbered i l; two = c; succ = B; is = ap (λ (j : ℕ). to j r) (number-is i) ∙ sym z }) (ap m (number-is i) ∙ o))
+
+    pub whole-condition : IsCondition (built-graph old new F′ H words joint) G Q
+    unfolding Open
+    whole-condition =
+        record {
+          open-or-kept = λ x. (Q-open x, open-Q x);
+          covered = λ x. (F-covered x, covered-F x);
+          transitions = λ e. (λ t. (W .edges e .0 (t .edge), pair-one (e .pred) (t .from)), λ t. transition e (t .0) (t .1));
+          each = each;
+        }

@@ -1,0 +1,312 @@
+-- What a build leaves, unless the start is the lone kept node, is the difference graph that lines 20 and 21 return. Assumes nothing.
+use mathlib.Core.Path.{_≡_, refl, sym, ap, ap₂, subst, _∙_}
+use mathlib.Core.Bool.{Bool, true, false, not}
+use mathlib.Core.Logic.{_⊎_, inl, inr, ⊎-elim, dite, _↔_, _≢_}
+use mathlib.Core.List.{List}
+use Prim.Native.Nat.{ℕ, _%_, _≤_, _<_}
+use native.Mathlib.Omega.{arith}
+use native.Mathlib.Decide.{ℕ-discrete, decLt}
+use borrow.Author.Tests.{ltb-true, ltb-false}
+use lib.Dec.{ltb}
+use lib.ListN.{getD, List·getD-map}
+use Rattle.base.specs.Says.{bool}
+use Rattle.base.proofs.Tests.{T-true, or-false}
+use Rattle.chart.specs.declared.places.NewPlace.{NewPlace}
+use Rattle.chart.specs.declared.places.OldPlace.{OldPlace}
+use Rattle.chart.specs.Places.{keptNumber, oldOf, newOf}
+use Rattle.chart.specs.Charts.{Chart, size}
+use Rattle.chart.specs.Faultless.{FaultlessChart}
+use Rattle.align.specs.Steps.{moved}
+use Rattle.align.proofs.Parts.{two-at-most}
+use Rattle.checker.specs.Records.{Record, recordOf, mark, target, index}
+use Rattle.checker.specs.Rules.{headOf}
+use Rattle.checker.specs.Promise.{Words}
+use Rattle.builder.specs.Graphs.{firstPair, firstKept, marked}
+use Rattle.builder.specs.Turns.{rowsOf, leadsTo, explored}
+use Rattle.builder.specs.Builds.{redirected, finalTargets, alone}
+use Rattle.builder.proofs.Graphs.{markAt, setAt, targetAt, marked-yes, marked-no, is-marked, not-marked}
+use Rattle.builder.proofs.Turns.{leads-below}
+use Rattle.builder.proofs.Invariant.{Inv, Every, ToKept, ToPair, explored-inv}
+use Rattle.builder.proofs.Marks.{rank-there}
+use Rattle.builder.proofs.Demand3.{marks, left, final}
+use Rattle.paper.specs.Nodes.{_∈_, _∉_, Pair, pair, Node, aligned, indicator, Edge, edge, number, nodeNumber, pairOf, Numbered, NodeNumbered}
+use Rattle.paper.specs.Algorithm2.{State, nodes, indicators, Replaced, Line20, whole}
+use Rattle.paper.specs.Returned.{Marked, Targeted, IsGraph}
+use Rattle.paper.proofs.Members.{not-in, in-or-not, pair-is, number-below, numbered}
+use Rattle.paper.proofs.Edges as reading
+use Rattle.paper.proofs.Rounds.{Ran, explored-ran}
+use Rattle.paper.proofs.Searching.{node-below}
+
+-- ---- "At the end a target whose new place is kept becomes that kept node."
+record Turned (m : List ℕ) (t : ℕ) : Type 0 where
+  is : redirected m t ≡ keptNumber (newOf t)
+  below : t < 4096
+  kept : 0 < getD m (keptNumber (newOf t)) 0
+
+record Stays (m : List ℕ) (t : ℕ) : Type 0 where
+  is : redirected m t ≡ t
+  free : t < 4096 → getD m (keptNumber (newOf t)) 0 ≡ 0
+
+redirection : (m : List ℕ) (t : ℕ) → Turned m t ⊎ Stays m t
+unfolding redirected
+redirection m t = go (ltb t 4096) refl (marked m (keptNumber (newOf t))) refl
+  where
+    go : (a : Bool) → ltb t 4096 ≡ a → (b : Bool) → marked m (keptNumber (newOf t)) ≡ b → Turned m t ⊎ Stays m t
+    go true d true e = inl (record { is = rw (d, e, redirected); below = ltb-true t 4096 d; kept = is-marked m (keptNumber (newOf t)) e })
+    go true d false e = inr (record { is = rw (d, e, redirected); free = λ l. not-marked m (keptNumber (newOf t)) e })
+    go false d b e = inr (record { is = rw (d, redirected); free = λ l. absurd (let z = ltb-false t 4096 d in omega arith) })
+
+module _ (old new : Chart) (F : FaultlessChart old) (H : FaultlessChart new) (words : Words (new .table)) where
+  abbrev pub ran : Ran old new F H (explored old new)
+  ran = explored-ran old new F H words
+
+  abbrev pub last : State
+  last = ran .state
+
+  abbrev I : Inv old new Every (explored old new)
+  I = ran .inv
+
+  -- ---- N_l and Δ where the loop has ended
+  in-N : (i : ℕ) → i < 4096 → 0 < markAt (explored old new) i → pairOf i ∈ last .Nₗ
+  in-N i l p = ran .reads .sets .N i l ∙ marked-yes (explored old new .marks) i p
+
+  N-in : (n : Pair) → n ∈ last .Nₗ → Numbered n × (0 < markAt (explored old new) (number n))
+  N-in n e =
+      let B = ran .reads .sets .N-numbered n e in
+      let l = number-below n B in
+      (B, is-marked (explored old new .marks) (number n) (sym (ran .reads .sets .N (number n) l) ∙ ap (last .Nₗ) (pair-is n B) ∙ e))
+
+  in-Δ : (q : NewPlace) → q .0 < 64 → 0 < markAt (explored old new) (keptNumber q) → q ∈ last .Δ
+  in-Δ q l p = ran .reads .sets .Δ q l ∙ marked-yes (explored old new .marks) (keptNumber q) p
+
+  Δ-in : (q : NewPlace) → q ∈ last .Δ → (q .0 < 64) × (0 < markAt (explored old new) (keptNumber q))
+  Δ-in q e =
+      let l = ran .reads .sets .Δ-numbered q e in
+      (l, is-marked (explored old new .marks) (keptNumber q) (sym (ran .reads .sets .Δ q l) ∙ e))
+
+  free : (i : ℕ) → i < 4096 → 0 < markAt (explored old new) i → newOf i ∉ last .Δ
+  free i l p = ran .reads .sets .Δ (newOf i) (omega arith) ∙ marked-no (explored old new .marks) (keptNumber (newOf i)) (I .apart i l p)
+
+  module _ (joint : alone (headOf old) (headOf new) (explored old new .marks) ≡ false) where
+    abbrev pub built-graph : Record
+    built-graph = recordOf (firstPair old new) (marks old new F H joint) (finalTargets (explored old new)) (explored old new .sets)
+
+    zero-stays : redirected (explored old new .marks) 0 ≡ 0
+    unfolding redirected alone
+    zero-stays = let z = or-false (marked (explored old new .marks) (firstKept new)) _ joint in rw (z .0, redirected)
+
+    target-now : (i r : ℕ) → target (left old new F H joint) i r ≡ redirected (explored old new .marks) (targetAt (explored old new) i r)
+    unfolding finalTargets
+    target-now i r =
+        let f = redirected (explored old new .marks) in
+        subst (λ (d : ℕ). getD (finalTargets (explored old new)) (index i r) d ≡ f (targetAt (explored old new) i r)) zero-stays (List·getD-map f (explored old new .targets) (index i r) 0)
+
+    pub target-fits : (i r : ℕ) → i < 4096 → r < 2 → (target (left old new F H joint) i r < 4160) ⊎ (target (left old new F H joint) i r ≡ 65535)
+    target-fits i r b c =
+        rw (target-now i r)
+        (⊎-elim (λ T. inl (omega (arith, T .is))) (λ S. ⊎-elim (λ a. inl (omega (arith, S .is))) (λ a. inr (S .is ∙ a)) (I .aims i r b c)) (redirection (explored old new .marks) (targetAt (explored old new) i r)))
+
+    -- ---- where a target that is used leads in the end
+    record GoesKept (i r : ℕ) : Type 0 where
+      kept : 0 < markAt (explored old new) (keptNumber (leadsTo new i r))
+      is : target (left old new F H joint) i r ≡ keptNumber (leadsTo new i r)
+
+    record GoesPair (i r : ℕ) : Type 0 where
+      not-kept : markAt (explored old new) (keptNumber (leadsTo new i r)) ≡ 0
+      is : target (left old new F H joint) i r ≡ targetAt (explored old new) i r
+      below : targetAt (explored old new) i r < 4096
+      there : 0 < markAt (explored old new) (targetAt (explored old new) i r)
+
+    module _ (i r : ℕ) (l : i < 4096) (p : 0 < markAt (explored old new) i) (c : r < 2) (a : r < size (rowsOf new i)) where
+      goes : (targetAt (explored old new) i r ≡ 65535 → ⊥) → GoesKept i r ⊎ GoesPair i r
+      goes u = go (I .led i r l p c a) (redirection (explored old new .marks) (targetAt (explored old new) i r))
+        where
+          t : ℕ
+          t = targetAt (explored old new) i r
+
+          same : t % 64 ≡ leadsTo new i r .0 → keptNumber (newOf t) ≡ keptNumber (leadsTo new i r)
+          same e = omega arith
+
+          go : (t ≡ 65535) ⊎ (ToKept old new (explored old new .marks) i r t ⊎ ToPair old new (explored old new .marks) i r t) → Turned (explored old new .marks) t ⊎ Stays (explored old new .marks) t → GoesKept i r ⊎ GoesPair i r
+          go (inl e) d = absurd (u e)
+          go (inr (inl K)) (inl T) = ⊎-elim (λ e. absurd (omega (arith, T .below))) (λ e. inl (record { kept = K .kept; is = target-now i r ∙ T .is ∙ same (e .1) })) (K .leads)
+          go (inr (inl K)) (inr S) =
+              ⊎-elim (λ e. inl (record { kept = K .kept; is = target-now i r ∙ S .is ∙ e })) (λ e. absurd (omega (arith, subst (λ (k : ℕ). getD (explored old new .marks) k 0 ≡ 0) (same (e .1)) (S .free (e .0)), K .kept))) (K .leads)
+          go (inr (inr P)) (inl T) = absurd (omega (arith, T .kept, I .apart t (P .below) (P .there)))
+          go (inr (inr P)) (inr S) =
+              inr
+              (record {
+                not-kept = subst (λ (k : ℕ). markAt (explored old new) k ≡ 0) (same (P .place)) (I .apart t (P .below) (P .there));
+                is = target-now i r ∙ S .is;
+                below = P .below;
+                there = P .there;
+              })
+
+    -- ---- line 20, from an edge of E_l to a target
+    abbrev Kind : Pair → ℕ → Node → Type 0
+    Kind n r x = (edge n r x ∈ last .Eₗ) ⊎ Replaced old new (moved old) last n r x
+
+    -- the edge to y shows that the target of this row is used
+    module _ (i r : ℕ) (l : i < 4096) (p : 0 < markAt (explored old new) i) (y : Node) (h : edge (pairOf i) r y ∈ last .Eₗ) where
+      sound : reading.Sound old new (last .Δ) (edge (pairOf i) r y)
+      sound = ran .reads .edges .sound (edge (pairOf i) r y) h
+
+      two : r < 2
+      two = omega (arith, sound .row, two-at-most new H (words .small) (i % 64))
+
+      used : targetAt (explored old new) i r ≡ 65535 → ⊥
+      used e = not-in h (ran .reads .edges .unused i r l two (free i l p) e y)
+
+      leads : GoesKept i r ⊎ GoesPair i r
+      leads = goes i r l p two (sound .row) used
+
+      -- to a place of Δ
+      kept-target : (q : NewPlace) → q .0 ≡ leadsTo new i r .0 → q ∈ last .Δ → target (left old new F H joint) i r ≡ keptNumber q
+      kept-target q e k =
+          let z : keptNumber (leadsTo new i r) ≡ keptNumber q = omega arith in
+          ⊎-elim (λ K. K .is ∙ z) (λ P. absurd (omega (arith, Δ-in q k .1, rw z at (P .not-kept)))) leads
+
+    -- to a pair
+    pair-target : (i r : ℕ) → i < 4096 → 0 < markAt (explored old new) i → (m : Pair) → m ∈ last .Nₗ → edge (pairOf i) r (aligned m) ∈ last .Eₗ → target (left old new F H joint) i r ≡ number m
+    pair-target i r l p m v h =
+        let S = sound i r l p (aligned m) h in
+        let M = N-in m v in
+        let z : keptNumber (newOf (number m)) ≡ keptNumber (leadsTo new i r) = omega (arith, S .onto .0, M .0 .new) in
+        ⊎-elim (λ K. absurd (omega (arith, K .kept, subst (λ (k : ℕ). markAt (explored old new) k ≡ 0) z (I .apart (number m) (number-below m (M .0)) (M .1)))))
+        (λ P. P .is ∙ same P S (ran .reads .edges .aims i r l (two i r l p (aligned m) h) (free i l p) (used i r l p (aligned m) h))) (leads i r l p (aligned m) h)
+      where
+        same : GoesPair i r → reading.Sound old new (last .Δ) (edge (pairOf i) r (aligned m)) → reading.Aims old new (last .Eₗ) i r (targetAt (explored old new) i r) → targetAt (explored old new) i r ≡ number m
+        same P S (inl K) = absurd (omega (arith, K .is, P .below))
+        same P S (inr T) =
+            let U = ran .reads .edges .sound (edge (pairOf i) r (aligned (pairOf (targetAt (explored old new) i r)))) (T .edge) in
+            let o = ap (λ (x : OldPlace). x .0) (U .onto .1 ∙ sym (S .onto .1)) in
+            omega (arith, o, U .onto .0, S .onto .0)
+
+    -- the target of pair i by row r is the node x
+    record Leads (i r : ℕ) (x : Node) : Type 0 where
+      row : r < 2
+      succ : NodeNumbered x
+      is : target (left old new F H joint) i r ≡ nodeNumber x
+
+    to-target : (i r : ℕ) → i < 4096 → 0 < markAt (explored old new) i → (x : Node) → x ∈ nodes old new (moved old) last → Kind (pairOf i) r x → Leads i r x
+    unfolding nodes
+    to-target i r l p (aligned m) v (inl h) = record { row = two i r l p (aligned m) h; succ = N-in m v .0; is = pair-target i r l p m v h }
+    to-target i r l p (aligned m) v (inr b) = absurd b
+    to-target i r l p (indicator q) v (inl h) =
+        record { row = two i r l p (indicator q) h; succ = Δ-in q v .0; is = kept-target i r l p (indicator q) h q (sound i r l p (indicator q) h .onto .0) v }
+    to-target i r l p (indicator q) v (inr b) =
+        let y = aligned (pair (b .1 .0) q) in
+        record { row = two i r l p y (b .1 .1); succ = Δ-in q v .0; is = kept-target i r l p y (b .1 .1) q (sound i r l p y (b .1 .1) .onto .0) v }
+
+    line20-targets : (e : Edge) → Line20 old new (moved old) last e → Targeted built-graph e
+    line20-targets e L =
+        let N = N-in (e .pred) (L .from) in
+        let t =
+        to-target (number (e .pred)) (e .row) (number-below (e .pred) (N .0)) (N .1) (e .succ) (L .to) (subst (λ (n : Pair). Kind n (e .row) (e .succ)) (sym (pair-is (e .pred) (N .0))) (L .edge)) in
+        record { pred = N .0; two = t .row; succ = t .succ; is = t .is }
+
+    -- ---- and from a target to an edge
+    module _ (i r : ℕ) (l : i < 4096) (c : r < 2) where
+      used-target : target (left old new F H joint) i r < 4160 → targetAt (explored old new) i r ≡ 65535 → ⊥
+      used-target b e =
+          ⊎-elim (λ T. omega (arith, T .below)) (λ S. omega (arith, target-now i r, S .is)) (redirection (explored old new .marks) (targetAt (explored old new) i r))
+
+      module _ (u : targetAt (explored old new) i r ≡ 65535 → ⊥) where
+        there : 0 < markAt (explored old new) i
+        there = dite (ℕ-discrete (markAt (explored old new) i) 0) (λ z. absurd (u (I .unused i r l c (inl z)))) (λ z. omega arith)
+
+        a-row : r < size (rowsOf new i)
+        a-row = dite (decLt r (size (rowsOf new i))) (λ z. z) (λ z. absurd (u (I .unused i r l c (inr (omega arith)))))
+
+        -- some edge that leads to a place of Δ
+        to-place : (y : Node) → edge (pairOf i) r y ∈ last .Eₗ → (q : NewPlace) → q .0 ≡ leadsTo new i r .0 → q ∈ last .Δ → Kind (pairOf i) r (indicator q)
+        to-place (aligned m) h q e k =
+            let z : m ≡ pair (m .old) q = ap (λ (x : ℕ). pair (m .old) (record { 0 = x })) (sound i r l there (aligned m) h .onto .0 ∙ sym e) in
+            inr (k, (m .old, subst (λ (n : Pair). edge (pairOf i) r (aligned n) ∈ last .Eₗ) z h))
+        to-place (indicator p) h q e k =
+            let z : p ≡ q = ap (λ (x : ℕ). record { 0 = x }) (sound i r l there (indicator p) h .onto .0 ∙ sym e) in
+            inl (subst (λ (x : NewPlace). edge (pairOf i) r (indicator x) ∈ last .Eₗ) z h)
+
+        aims : reading.Aims old new (last .Eₗ) i r (targetAt (explored old new) i r)
+        aims = ran .reads .edges .aims i r l c (free i l there) u
+
+        to-edge : (x : Node) → NodeNumbered x → target (left old new F H joint) i r ≡ nodeNumber x → (x ∈ nodes old new (moved old) last) × Kind (pairOf i) r x
+        unfolding nodes
+        to-edge (aligned n) B e =
+            ⊎-elim (λ K. absurd (omega (arith, K .is, number-below n B)))
+            (λ P. let z : pairOf (targetAt (explored old new) i r) ≡ n = ap pairOf (sym (P .is) ∙ e) ∙ pair-is n B in (
+              subst (λ (m : Pair). m ∈ last .Nₗ) z (in-N (targetAt (explored old new) i r) (P .below) (P .there)),
+              ⊎-elim (λ K. absurd (omega (arith, K .is, P .below))) (λ T. inl (subst (λ (m : Pair). edge (pairOf i) r (aligned m) ∈ last .Eₗ) z (T .edge))) aims,
+            )) (goes i r l there c a-row u)
+        to-edge (indicator q) b e =
+            ⊎-elim
+            (λ K. let z : q .0 ≡ leadsTo new i r .0 = omega (arith, K .is) in
+            let w : keptNumber (leadsTo new i r) ≡ keptNumber q = omega arith in
+            let k = in-Δ q b (rw w at (K .kept)) in
+            (k, ⊎-elim (λ T. to-place (T .succ) (T .edge) q z k) (λ T. to-place (aligned (pairOf (targetAt (explored old new) i r))) (T .edge) q z k) aims))
+            (λ P. absurd (omega (arith, P .is, P .below))) (goes i r l there c a-row u)
+
+    targets-line20 : (e : Edge) → Targeted built-graph e → Line20 old new (moved old) last e
+    targets-line20 e T =
+        let i = number (e .pred) in
+        let l = number-below (e .pred) (T .pred) in
+        let u = used-target i (e .row) l (T .two) (omega (arith, T .is, node-below (e .succ) (T .succ))) in
+        let z = to-edge i (e .row) l (T .two) u (e .succ) (T .succ) (T .is) in
+        record {
+          from = subst (λ (n : Pair). n ∈ last .Nₗ) (pair-is (e .pred) (T .pred)) (in-N i l (there i (e .row) l (T .two) u));
+          to = z .0;
+          edge = subst (λ (n : Pair). Kind n (e .row) (e .succ)) (pair-is (e .pred) (T .pred)) (z .1);
+        }
+
+    -- ---- line 21
+    module _ (k : ℕ) where
+      pub left-mark : mark (left old new F H joint) k ≢ 0 → (k < 4160) × (0 < markAt (explored old new) k)
+      left-mark n = rank-there (explored old new .marks) (marks old new F H joint) (final old new F H joint .ranks) k (omega arith)
+
+      pub pair-marks : k < 4096 → 0 < markAt (explored old new) k → (mark (left old new F H joint) k ≡ 1) ⊎ ((mark (left old new F H joint) k ≡ 3) ⊎ (mark (left old new F H joint) k ≡ 4))
+      pair-marks l p = final old new F H joint .ranks .pair k l p
+
+    node-mark : (q : NewPlace) → q .0 < 64 → 0 < markAt (explored old new) (keptNumber q) → mark (left old new F H joint) (keptNumber q) ≡ 2
+    node-mark q l p = final old new F H joint .ranks .node (keptNumber q) (omega arith) (omega arith) p
+
+    not-two : (k : ℕ) → k < 4096 → mark (left old new F H joint) k ≡ 2 → ⊥
+    not-two k l e = ⊎-elim (λ a. omega arith) (λ a. ⊎-elim (λ b. omega arith) (λ b. omega arith) a) (pair-marks k l (left-mark k (λ z. omega arith) .1))
+
+    in-nodes : (x : Node) → x ∈ nodes old new (moved old) last → Marked built-graph (λ m. m ≢ 0) x
+    unfolding nodes
+    in-nodes (aligned n) e =
+        let N = N-in n e in
+        (N .0, λ z. ⊎-elim (λ a. omega arith) (λ a. ⊎-elim (λ b. omega arith) (λ b. omega arith) a) (pair-marks (number n) (number-below n (N .0)) (N .1)))
+    in-nodes (indicator q) e = let D = Δ-in q e in (D .0, λ z. omega (arith, node-mark q (D .0) (D .1)))
+
+    nodes-in : (x : Node) → Marked built-graph (λ m. m ≢ 0) x → x ∈ nodes old new (moved old) last
+    unfolding nodes
+    nodes-in (aligned n) M = subst (λ (m : Pair). m ∈ last .Nₗ) (pair-is n (M .0)) (in-N (number n) (number-below n (M .0)) (left-mark (number n) (M .1) .1))
+    nodes-in (indicator q) M = in-Δ q (M .0) (left-mark (keptNumber q) (M .1) .1)
+
+    in-kept : (x : Node) → x ∈ indicators old new (moved old) last → Marked built-graph (λ m. m ≡ 2) x
+    unfolding indicators
+    in-kept (aligned n) e = absurd (T-true e)
+    in-kept (indicator q) e = let D = Δ-in q e in (D .0, node-mark q (D .0) (D .1))
+
+    kept-in : (x : Node) → Marked built-graph (λ m. m ≡ 2) x → x ∈ indicators old new (moved old) last
+    unfolding indicators
+    kept-in (aligned n) M = absurd (not-two (number n) (number-below n (M .0)) (M .1))
+    kept-in (indicator q) M = in-Δ q (M .0) (left-mark (keptNumber q) (λ z. omega (arith, M .1)) .1)
+
+    pub whole-graph : IsGraph built-graph (whole old new (moved old) last) (last .Vδ)
+    unfolding nodes
+    whole-graph =
+        record {
+          start = refl;
+          nodes = λ x. (in-nodes x, nodes-in x);
+          kept = λ x. (in-kept x, kept-in x);
+          edges = λ e. (line20-targets e, targets-line20 e);
+          sets = λ n e.
+              (let N = N-in n e in
+              let l = number-below n (N .0) in
+              sym (ran .reads .sets .Vδ (number n) l (free (number n) l (N .1))) ∙ ap (last .Vδ) (pair-is n (N .0)));
+          bare = λ n B e.
+              (let l = number-below n B in
+              I .bare (number n) l (not-marked (explored old new .marks) (number n) (sym (ran .reads .sets .N (number n) l) ∙ ap (last .Nₗ) (pair-is n B) ∙ e)));
+        }

@@ -1,0 +1,260 @@
+-- Algorithm 1's search: it finds the least set that has n_0 and Δ and every node from which one of its nodes is reached by an edge; and on a
+-- graph whose edges are a record's targets it can be run to its end. Assumes nothing.
+use mathlib.Core.Path.{_≡_, refl, sym, ap, subst, _∙_}
+use mathlib.Core.Bool.{Bool, true, false, _&&_, _||_, not}
+use mathlib.Core.Logic.{_⊎_, inl, inr, ⊎-elim, dite, _↔_, _≢_}
+use mathlib.Core.Option.{Option, none, some}
+use Prim.Native.Nat.{ℕ, zero, suc, _+_, _%_, _≤_, _<_}
+use native.Mathlib.Omega.{arith}
+use native.Mathlib.Decide.{decLt}
+use borrow.Author.Tests.{eq-eqb, eqb-true, lt-ltb, le-ltb, ltb-true, not-true}
+use lib.Dec.{T, eqb, ltb}
+use Rattle.base.specs.Options.{when, firstOf}
+use Rattle.base.specs.Repeat.{repeated}
+use Rattle.base.proofs.Maybe.{All, All-when, All-firstOf}
+use Rattle.base.proofs.Options.{none-of, not-due}
+use Rattle.base.proofs.Repeat.{Falls, rests, repeated-keeps}
+use Rattle.base.proofs.Sums.{sum, sum-lt, sum-most}
+use Rattle.base.proofs.Tests.{T-true, is-true, and-true}
+use Rattle.chart.specs.Places.{newOf}
+use Rattle.checker.specs.Records.{Record, target}
+use Rattle.paper.specs.Nodes.{Set, _∈_, _∉_, _∪_, _∖_, Pair, Node, aligned, indicator, Edge, edge, onlyNode, number, nodeNumber, pairOf, Numbered, NodeNumbered}
+use Rattle.paper.specs.Algorithm2.{DifferenceGraph}
+use Rattle.paper.specs.Algorithm1.{Precedes, Turn, Search, line1, lines3to5}
+use Rattle.paper.specs.Returned.{Targeted}
+use Rattle.paper.proofs.Members.{in-either, in-first, in-neither, not-in, in-or-not, only-node, the-node, pair-is, number-below}
+
+pub in-second : (a b : Bool) → b ≡ true → a || b ≡ true
+in-second true b e = refl
+in-second false b e = e
+
+-- ---- what any search finds
+module _ (G : DifferenceGraph) where
+  -- no more than every set that has n_0 and Δ and is so closed
+  pub within : (S : Node → Type 0) → S (G .n₀) → ((x : Node) → x ∈ G .Δ → S x) → ((p x : Node) → S x → Precedes G p x → S p)
+      → {Q W : Set Node} → Search G Q W → ((x : Node) → x ∈ W → S x) × ((x : Node) → x ∈ Q → S x)
+  within S a b c line1 = (first, first)
+    where
+      first : (x : Node) → onlyNode (G .n₀) x || G .Δ x ≡ true → S x
+      first x e = ⊎-elim (λ h. subst S (only-node (G .n₀) x h) a) (λ h. b x h) (in-either (onlyNode (G .n₀) x) (G .Δ x) e)
+  within S a b c (lines3to5 n s t) =
+      let ih = within S a b c s in (
+        λ x e. ⊎-elim (λ h. ih .0 x (h .0)) (λ h. c x n (ih .0 n (t .pops)) (h .0)) (t .waits x .0 e),
+        λ x e. ⊎-elim (λ h. ih .1 x h) (λ h. c x n (ih .0 n (t .pops)) h) (t .adds x .0 e),
+      )
+
+  pub first-found : {Q W : Set Node} → Search G Q W → (x : Node) → onlyNode (G .n₀) x || G .Δ x ≡ true → x ∈ Q
+  first-found line1 x e = e
+  first-found (lines3to5 n s t) x e = t .adds x .1 (inl (first-found s x e))
+
+  pub closed : {Q W : Set Node} → Search G Q W → (p x : Node) → x ∈ Q → x ∉ W → Precedes G p x → p ∈ Q
+  closed line1 p x q w d = absurd (not-in q w)
+  closed (lines3to5 {Q} {W} {Q′} {W′} n s t) p x q w d =
+      ⊎-elim (λ h. ⊎-elim (λ k. popped h k) (λ k. t .adds p .1 (inl (closed s p x h k d))) (in-or-not (W x)))
+      (λ h. ⊎-elim (λ k. ⊎-elim (λ j. popped k j) (λ j. t .adds p .1 (inl (closed s p x k j d))) (in-or-not (W x))) (λ k. absurd (not-in (t .waits x .1 (inr (h, k))) w)) (in-or-not (Q x)))
+      (t .adds x .0 q)
+    where
+      popped : x ∈ Q → x ∈ W → p ∈ Q′
+      popped h k =
+          ⊎-elim (λ e. t .adds p .1 (inr (subst (λ (y : Node). Precedes G p y) (sym (only-node n x e)) d)))
+          (λ e. absurd (not-in (t .waits x .1 (inl (k, λ z. not-in (subst (λ (y : Node). y ∈ onlyNode n) (sym z) (the-node n)) e))) w))
+          (in-or-not (onlyNode n x))
+
+-- ---- nodes by number
+nodeOf : ℕ → Node
+nodeOf i = elim (ltb i 4096) [ true ↦ aligned (pairOf i) | false ↦ indicator (newOf i) ]
+
+node-is : (x : Node) → NodeNumbered x → nodeOf (nodeNumber x) ≡ x
+unfolding nodeOf
+node-is (aligned n) B = rw (lt-ltb (number n) 4096 (number-below n B), nodeOf) (ap aligned (pair-is n B))
+node-is (indicator q) b = rw (le-ltb (4096 + q .0) 4096 (omega arith), nodeOf) (ap (λ (y : ℕ). indicator (record { 0 = y })) (omega arith))
+
+pub node-below : (x : Node) → NodeNumbered x → nodeNumber x < 4160
+node-below (aligned n) B = omega (arith, number-below n B)
+node-below (indicator q) b = omega arith
+
+small : Set Pair
+small n = ltb (n .old .0) 64 && ltb (n .new .0) 64
+
+small-numbered : (n : Pair) → n ∈ small → Numbered n
+unfolding small
+small-numbered n e =
+    let z = and-true (ltb (n .old .0) 64) _ e in
+    record { old = ltb-true (n .old .0) 64 (z .0); new = ltb-true (n .new .0) 64 (z .1) }
+
+numbered-small : (n : Pair) → Numbered n → n ∈ small
+unfolding small
+numbered-small n B = rw (lt-ltb (n .old .0) 64 (B .old), lt-ltb (n .new .0) 64 (B .new))
+
+-- what a node still weighs: 2 outside Q, 1 in the waitlist
+rest : Bool → Bool → ℕ
+rest true true = 1
+rest true false = 0
+rest false true = 3
+rest false false = 2
+
+rest-most : (q w : Bool) → rest q w ≤ 3
+unfolding rest
+rest-most true true = omega arith
+rest-most true false = omega arith
+rest-most false true = omega arith
+rest-most false false = omega arith
+
+-- p: the node precedes the one popped; e: it is the one popped
+rest-le : (q w p e : Bool) → rest (q || p) (w && not e || p && not q) ≤ rest q w
+unfolding rest
+rest-le true true true true = omega arith
+rest-le true true true false = omega arith
+rest-le true true false true = omega arith
+rest-le true true false false = omega arith
+rest-le true false true e = omega arith
+rest-le true false false e = omega arith
+rest-le false true true true = omega arith
+rest-le false true true false = omega arith
+rest-le false true false true = omega arith
+rest-le false true false false = omega arith
+rest-le false false true e = omega arith
+rest-le false false false e = omega arith
+
+rest-lt : (q p : Bool) → rest (q || p) (true && not true || p && not q) < rest q true
+unfolding rest
+rest-lt true true = omega arith
+rest-lt true false = omega arith
+rest-lt false true = omega arith
+rest-lt false false = omega arith
+
+-- ---- a search to the end
+pub record Found (G : DifferenceGraph) : Type 0 where
+  pub Q : Set Node
+  pub W : Set Node
+  pub search : Search G Q W
+  pub emptied : (x : Node) → x ∉ W
+
+module _ (R : Record) (G : DifferenceGraph) (edges : (e : Edge) → G .E e ↔ Targeted R e) where
+  precedes : Node → Set Node
+  precedes x (aligned n) = small n && (eqb (target (R .graph) (number n) 0) (nodeNumber x) || eqb (target (R .graph) (number n) 1) (nodeNumber x))
+  precedes x (indicator q) = false
+
+  precedes-numbered : (x p : Node) → p ∈ precedes x → NodeNumbered p
+  unfolding precedes
+  precedes-numbered x (aligned n) e = small-numbered n (and-true (small n) _ e .0)
+  precedes-numbered x (indicator q) e = absurd (T-true e)
+
+  module _ (x : Node) (B : NodeNumbered x) where
+    precedes-so : (p : Node) → p ∈ precedes x → Precedes G p x
+    unfolding precedes
+    precedes-so (indicator q) e = absurd (T-true e)
+    precedes-so (aligned n) e =
+        let z = and-true (small n) _ e in
+        ⊎-elim (by 0 (small-numbered n (z .0)) (omega arith)) (by 1 (small-numbered n (z .0)) (omega arith)) (in-either (eqb (target (R .graph) (number n) 0) (nodeNumber x)) _ (z .1))
+      where
+        by : (r : ℕ) → Numbered n → r < 2 → eqb (target (R .graph) (number n) r) (nodeNumber x) ≡ true → Precedes G (aligned n) x
+        by r A b h =
+            record {
+              pair = n;
+              row = r;
+              is = refl;
+              edge = edges (edge n r x) .1 (record { pred = A; two = b; succ = B; is = eqb-true (target (R .graph) (number n) r) (nodeNumber x) h });
+            }
+
+    so-precedes : (p : Node) → Precedes G p x → p ∈ precedes x
+    unfolding precedes
+    so-precedes p D =
+        let t = edges (edge (D .pair) (D .row) x) .0 (D .edge) in
+        subst (λ (y : Node). y ∈ precedes x) (sym (D .is)) (rw (numbered-small (D .pair) (t .pred)) (by (D .row) (t .two) (t .is)))
+      where
+        by : (r : ℕ) → r < 2 → target (R .graph) (number (D .pair)) r ≡ nodeNumber x
+            → eqb (target (R .graph) (number (D .pair)) 0) (nodeNumber x) || eqb (target (R .graph) (number (D .pair)) 1) (nodeNumber x) ≡ true
+        by zero b h = in-first (eqb (target (R .graph) (number (D .pair)) 0) (nodeNumber x)) _ (eq-eqb (target (R .graph) (number (D .pair)) 0) (nodeNumber x) h)
+        by (suc zero) b h = in-second (eqb (target (R .graph) (number (D .pair)) 0) (nodeNumber x)) _ (eq-eqb (target (R .graph) (number (D .pair)) 1) (nodeNumber x) h)
+        by (suc (suc r)) b h = absurd (omega arith)
+
+  record Now : Type 0 where
+    Q : Set Node
+    W : Set Node
+
+  find : Now → Option ℕ
+  find s = firstOf 4160 (λ i. when (s .W (nodeOf i)) i)
+
+  act : Now → ℕ → Now
+  act s i = record { Q = s .Q ∪ precedes (nodeOf i); W = (s .W ∖ onlyNode (nodeOf i)) ∪ (precedes (nodeOf i) ∖ s .Q) }
+
+  record Good (s : Now) : Type 0 where
+    search : Search G (s .Q) (s .W)
+    numbered : (x : Node) → x ∈ s .W → NodeNumbered x
+
+  found : (s : Now) (i : ℕ) → find s ≡ some i → (i < 4160) × (nodeOf i ∈ s .W)
+  unfolding find
+  found s i e =
+      All-firstOf {P = λ k. (k < 4160) × (nodeOf k ∈ s .W)} 4160 {f = λ k. when (s .W (nodeOf k)) k} (λ k l. All-when (s .W (nodeOf k)) k (λ t. (l, is-true (s .W (nodeOf k)) t))) .of i e
+
+  turn : (s : Now) (x : Node) → x ∈ s .W → NodeNumbered x → Turn G (s .Q) (s .W) x (s .Q ∪ precedes x) ((s .W ∖ onlyNode x) ∪ (precedes x ∖ s .Q))
+  turn s x w B =
+      record {
+        pops = w;
+        adds = λ n. (
+          λ e. ⊎-elim (λ h. inl h) (λ h. inr (precedes-so x B n h)) (in-either (s .Q n) (precedes x n) e),
+          λ e. ⊎-elim (λ h. in-first (s .Q n) (precedes x n) h) (λ h. in-second (s .Q n) (precedes x n) (so-precedes x B n h)) e,
+        );
+        waits = λ n. (
+          λ e. ⊎-elim (λ h. let z = and-true (s .W n) _ h in inl (z .0, λ y. not-in (subst (λ (m : Node). m ∈ onlyNode x) (sym y) (the-node x)) (not-true (onlyNode x n) (z .1))))
+              (λ h. let z = and-true (precedes x n) _ h in inr (precedes-so x B n (z .0), not-true (s .Q n) (z .1))) (in-either (s .W n && not (onlyNode x n)) _ e),
+          λ e. ⊎-elim (λ h. in-first (s .W n && not (onlyNode x n)) _ (rw (h .0, other n (h .1)))) (λ h. in-second (s .W n && not (onlyNode x n)) _ (rw (so-precedes x B n (h .0), h .1))) e,
+        );
+      }
+    where
+      other : (n : Node) → n ≢ x → onlyNode x n ≡ false
+      other n f = ⊎-elim (λ h. absurd (f (sym (only-node x n h)))) (λ h. h) (in-or-not (onlyNode x n))
+
+  act-good : (s : Now) (i : ℕ) → Good s → find s ≡ some i → Good (act s i)
+  unfolding act
+  act-good s i A e =
+      let w = found s i e .1 in
+      record {
+        search = lines3to5 (nodeOf i) (A .search) (turn s (nodeOf i) w (A .numbered (nodeOf i) w));
+        numbered = λ x h. ⊎-elim (λ k. A .numbered x (and-true (s .W x) _ k .0)) (λ k. precedes-numbered (nodeOf i) x (and-true (precedes (nodeOf i) x) _ k .0))
+            (in-either (s .W x && not (onlyNode (nodeOf i) x)) _ h);
+      }
+
+  weight : Now → ℕ
+  weight s = sum 4160 (λ i. rest (s .Q (nodeOf i)) (s .W (nodeOf i)))
+
+  falls : Falls find act weight Good
+  unfolding weight act
+  falls =
+      record {
+        keeps = act-good;
+        less = λ s i A e.
+            (let z = found s i e in
+            sum-lt 4160 i (λ j. rest (act s i .Q (nodeOf j)) (act s i .W (nodeOf j))) (λ j. rest (s .Q (nodeOf j)) (s .W (nodeOf j))) (z .0)
+            (rw (z .1, the-node (nodeOf i)) (rest-lt (s .Q (nodeOf i)) (precedes (nodeOf i) (nodeOf i))))
+            (λ j l. rest-le (s .Q (nodeOf j)) (s .W (nodeOf j)) (precedes (nodeOf i) (nodeOf j)) (onlyNode (nodeOf i) (nodeOf j))));
+      }
+
+  pub search-ends : NodeNumbered (G .n₀) → ((x : Node) → x ∈ G .Δ → NodeNumbered x) → Found G
+  unfolding weight find
+  search-ends a b =
+      record {
+        Q = last .Q;
+        W = last .W;
+        search = good .search;
+        emptied = λ x. ⊎-elim (λ h. absurd (not-in (subst (λ (y : Node). y ∈ last .W) (sym (node-is x (good .numbered x h))) h) (none-waits (nodeNumber x) (node-below x (good .numbered x h))))) (λ h. h) (in-or-not (last .W x));
+      }
+    where
+      first : Now
+      first = record { Q = onlyNode (G .n₀) ∪ G .Δ; W = onlyNode (G .n₀) ∪ G .Δ }
+
+      first-good : Good first
+      first-good = record { search = line1; numbered = λ x e. ⊎-elim (λ h. subst NodeNumbered (only-node (G .n₀) x h) a) (b x) (in-either (onlyNode (G .n₀) x) (G .Δ x) e) }
+
+      last : Now
+      last = repeated find act 12480 first
+
+      good : Good last
+      good = repeated-keeps find act Good act-good 12480 first first-good
+
+      none-waits : (i : ℕ) → i < 4160 → nodeOf i ∉ last .W
+      none-waits i l = not-due (last .W (nodeOf i)) i (none-of (λ k. when (last .W (nodeOf k)) k) 4160 i (rests find act weight Good falls 12480 first first-good light) l)
+        where
+          light : weight first ≤ 12480
+          light = omega (arith, sum-most 4160 3 (λ i. rest (first .Q (nodeOf i)) (first .W (nodeOf i))) (λ i. rest-most (first .Q (nodeOf i)) (first .W (nodeOf i))))

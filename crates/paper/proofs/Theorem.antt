@@ -1,0 +1,108 @@
+-- Demand 2 in the source's words: what a build leaves is what Algorithm 2 and Algorithm 1 return. For any two faultless charts, the old and
+-- the new one, Algorithm 2 has a run, which pops the lowest waiting pair each time, that ends; and the record of the build is the graph that
+-- its lines 19 to 21 return, with the condition that Algorithm 1 makes of it. What that means is `Returned`, in specs/Returned.antt. Assumes
+-- nothing.
+use mathlib.Core.Path.{_≡_, refl, sym, ap, subst, _∙_}
+use mathlib.Core.Bool.{Bool, true, false, _&&_, _||_, not}
+use mathlib.Core.Logic.{_⊎_, ⊎-elim}
+use Prim.Native.Nat.{ℕ}
+use native.Mathlib.Omega.{arith}
+use lib.Dec.{eqb}
+use Rattle.base.specs.Says.{bool}
+use Rattle.chart.specs.Places.{keptNumber}
+use Rattle.chart.specs.Charts.{Chart}
+use Rattle.chart.specs.Faultless.{FaultlessChart}
+use Rattle.align.specs.Steps.{moved, fair}
+use Rattle.checker.specs.Records.{Record, recordOf}
+use Rattle.checker.specs.Rules.{headOf}
+use Rattle.checker.specs.Promise.{Words}
+use Rattle.builder.specs.Graphs.{Graph, graph, firstPair, firstKept, marked}
+use Rattle.builder.specs.Turns.{explored}
+use Rattle.builder.specs.Marks.{finalMarks}
+use Rattle.builder.specs.Builds.{finalTargets, alone, finished, built, startOf, recorded}
+use Rattle.builder.specs.Builds as builds
+use Rattle.builder.proofs.Graphs.{marked-no}
+use Rattle.builder.proofs.Measure.{nothing-waits}
+use Rattle.paper.specs.Nodes.{Set, _∈_, _∉_, Pair, Node, number, pairOf, NodeNumbered}
+use Rattle.paper.specs.Algorithm2.{DifferenceGraph, Ended, line19, lone, whole, returned}
+use Rattle.paper.specs.Algorithm1.{Search}
+use Rattle.paper.specs.Returned.{IsGraph, IsCondition, Returned}
+use Rattle.paper.proofs.Members.{not-in, in-or-not, pair-is, number-below, numbered}
+use Rattle.paper.proofs.Searching.{Found, search-ends}
+use Rattle.paper.proofs.Returning.{ran, last, whole-graph}
+use Rattle.paper.proofs.Conditions.{whole-condition}
+use Rattle.paper.proofs.Alone.{lone-graph, lone-condition}
+
+-- the graph that is returned, and one run of Algorithm 1 on it
+record Ends (R : Record) (G : DifferenceGraph) (Vδ : Pair → ℕ) : Type 0 where
+  graph : IsGraph R G Vδ
+  found : Found G
+  condition : IsCondition R G (found .Q)
+
+searched : {R : Record} {G : DifferenceGraph} {Vδ : Pair → ℕ} → IsGraph R G Vδ → NodeNumbered (G .n₀) → Found G
+searched {R} {G} g a = search-ends R G (g .edges) a (λ x e. g .kept x .0 e .0)
+
+module _ (old new : Chart) (F : FaultlessChart old) (H : FaultlessChart new) (words : Words (new .table)) where
+  -- nothing waits
+  ended : Ended old new (moved old) (last old new F H words)
+  ended n =
+      ⊎-elim
+      (λ e. let B = ran old new F H words .reads .sets .waits-numbered n e in
+      let l = number-below n B in
+      sym (ap (last old new F H words .waitlist) (pair-is n B)) ∙ ran old new F H words .reads .sets .waits (number n) l ∙ marked-no (explored old new .waiting) (number n) (nothing-waits old new F H (number n) l))
+      (λ e. e) (in-or-not (last old new F H words .waitlist n))
+
+  -- line 19
+  line19-is : line19 old new (moved old) (last old new F H words) ≡ alone (headOf old) (headOf new) (explored old new .marks)
+  unfolding line19 alone
+  line19-is = rw (ran old new F H words .reads .sets .Δ (record { 0 = 0 }) (omega arith)) (go (marked (explored old new .marks) (firstKept new)) (eqb 0 (new .alarm)) (eqb 0 (old .alarm)))
+    where
+      go : (k a b : Bool) → k || (a && not b) ≡ k || not (not a || b)
+      go true a b = refl
+      go false true true = refl
+      go false true false = refl
+      go false false b = refl
+
+  left : Bool → Graph
+  left b =
+      elim b [
+        | true ↦ builds.lone (headOf new)
+        | false ↦ graph (finalMarks (firstPair old new) (finalTargets (explored old new)) (explored old new .marks)) (finalTargets (explored old new)) (explored old new .sets) (explored old new .waiting)
+      ]
+
+  -- lines 20 and 21, or line 19; b tells whether the start is the lone kept node
+  ends : (b : Bool) → alone (headOf old) (headOf new) (explored old new .marks) ≡ b
+      → Ends
+      (recordOf (elim b [ true ↦ firstKept new | false ↦ firstPair old new ]) (left b .marks) (left b .targets) (left b .sets))
+      (elim b as (λ _. DifferenceGraph) [ true ↦ lone old new (moved old) | false ↦ whole old new (moved old) (last old new F H words) ])
+      (last old new F H words .Vδ)
+  unfolding left builds.lone
+  ends true e =
+      let g = lone-graph old new (moved old) (last old new F H words .Vδ) in
+      let f = searched g (omega arith) in
+      record { graph = g; found = f; condition = lone-condition old new (moved old) (f .search) }
+  ends false e =
+      let g = whole-graph old new F H words e in
+      let f = searched g (numbered 0 (omega arith)) in
+      record { graph = g; found = f; condition = whole-condition old new F H words e (f .search) (f .emptied) }
+
+  -- every build is one run of the source's algorithms
+  pub a-run-of-the-source : Returned old new (recorded old new)
+  unfolding recorded built finished startOf returned left
+  a-run-of-the-source =
+      let E =
+      subst
+      (λ (b : Bool). Ends (recorded old new) (elim b as (λ _. DifferenceGraph) [ true ↦ lone old new (moved old) | false ↦ whole old new (moved old) (last old new F H words) ])
+      (last old new F H words .Vδ))
+      (sym line19-is) (ends (alone (headOf old) (headOf new) (explored old new .marks)) refl) in
+      record {
+        state = last old new F H words;
+        ran = ran old new F H words .run;
+        ended = ended;
+        graph = E .graph;
+        Q = E .found .Q;
+        waitlist = E .found .W;
+        searched = E .found .search;
+        emptied = E .found .emptied;
+        condition = E .condition;
+      }
