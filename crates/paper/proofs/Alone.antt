@@ -15,13 +15,13 @@ use Rattle.checker.specs.Records.{Record, recordOf, mark, target, index}
 use Rattle.builder.specs.Graphs.{firstKept}
 use Rattle.builder.proofs.Ones.{one-there, one-other, one-only}
 use Rattle.paper.specs.Nodes.{Set, _∈_, _∉_, Pair, Node, aligned, indicator, Edge, onlyNode, number, nodeNumber, NodeNumbered}
-use Rattle.paper.specs.Algorithm2.{Step, lone}
+use Rattle.paper.specs.Algorithm2.{lone}
 use Rattle.paper.specs.Algorithm1.{Search, F, Transition}
 use Rattle.paper.specs.Returned.{Marked, Targeted, IsGraph, IsCondition}
 use Rattle.paper.proofs.Members.{in-first, not-in, in-or-not, only-node, the-node, number-below}
 use Rattle.paper.proofs.Searching.{within, first-found, node-below}
 
-module _ (old new : Chart) (lines : Step) where
+module _ (old new : Chart) where
   abbrev pub single : Record
   single = recordOf (firstKept new) (set (replicate 4160 0) (firstKept new) 2) (replicate 8192 65535) (replicate 4096 0)
 
@@ -45,7 +45,7 @@ module _ (old new : Chart) (lines : Step) where
   no-target : (e : Edge) → Targeted single e → ⊥
   no-target e t = omega (arith, t .is, same-at 8192 65535 (index (number (e .pred)) (e .row)) (omega (arith, t .two, number-below (e .pred) (t .pred))), node-below (e .succ) (t .succ))
 
-  pub lone-graph : (S : Pair → ℕ) → IsGraph single (lone old new lines) S
+  pub lone-graph : (S : Pair → ℕ) → IsGraph single (lone old new) S
   unfolding onlyNode
   lone-graph S =
       record {
@@ -57,21 +57,21 @@ module _ (old new : Chart) (lines : Step) where
         bare = λ n B e. zeros-at 4096 (number n);
       }
 
-  module _ {Q waits : Set Node} (search : Search (lone old new lines) Q waits) where
+  module _ {Q waits : Set Node} (search : Search (lone old new) Q waits) where
     Q-kept : (x : Node) → x ∈ Q → Marked single (λ m. (m ≡ 1) ⊎ (m ≡ 2)) x
     Q-kept =
-        within (lone old new lines) (Marked single (λ m. (m ≡ 1) ⊎ (m ≡ 2))) (first-so (λ m. (m ≡ 1) ⊎ (m ≡ 2)) (inr refl) first (the-node first)) (first-so (λ m. (m ≡ 1) ⊎ (m ≡ 2)) (inr refl))
+        within (lone old new) (Marked single (λ m. (m ≡ 1) ⊎ (m ≡ 2))) (first-so (λ m. (m ≡ 1) ⊎ (m ≡ 2)) (inr refl) first (the-node first)) (first-so (λ m. (m ≡ 1) ⊎ (m ≡ 2)) (inr refl))
         (λ p x o D. absurd (D .edge)) search .1
 
     kept-Q : (x : Node) → Marked single (λ m. (m ≡ 1) ⊎ (m ≡ 2)) x → x ∈ Q
-    kept-Q x M = first-found (lone old new lines) search x (in-first (onlyNode first x) (onlyNode first x) (is-first x (M .0) (λ e. ⊎-elim (λ a. omega arith) (λ a. omega arith) (M .1))))
+    kept-Q x M = first-found (lone old new) search x (in-first (onlyNode first x) (onlyNode first x) (is-first x (M .0) (λ e. ⊎-elim (λ a. omega arith) (λ a. omega arith) (M .1))))
 
     not-covered : (x : Node) → Marked single (λ m. m ≡ 3) x → ⊥
     not-covered x M =
         let z = first-so (λ m. m ≡ 2) refl x (is-first x (M .0) (λ e. omega (arith, M .1))) in
         omega (arith, M .1, z .1)
 
-    pub lone-condition : IsCondition single (lone old new lines) Q
+    pub lone-condition : IsCondition single (lone old new) Q
     lone-condition =
         record {
           open-or-kept = λ x. (Q-kept x, kept-Q x);

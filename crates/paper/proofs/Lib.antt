@@ -1,6 +1,7 @@
 -- That a build is a run of the source's algorithms.
 pub mod Successors
 pub mod Members
+pub mod Stepping
 pub mod Reading
 pub mod Edges
 pub mod Rounds

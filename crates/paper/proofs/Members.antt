@@ -20,6 +20,10 @@ pub in-first : (a b : Bool) → a ≡ true → a || b ≡ true
 in-first true b e = refl
 in-first false b e = absurd (T-true e)
 
+pub in-second : (a b : Bool) → b ≡ true → a || b ≡ true
+in-second true b e = refl
+in-second false b e = e
+
 pub in-neither : (a b : Bool) → a ≡ false → b ≡ false → a || b ≡ false
 in-neither true b d e = d
 in-neither false b d e = e

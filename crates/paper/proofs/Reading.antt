@@ -20,7 +20,7 @@ use Rattle.builder.specs.Graphs.{Graph, Sized, marked, keep, aim, due, join, un
 use Rattle.builder.specs.Turns.{rowsOf, leadsTo}
 use Rattle.builder.proofs.Graphs.{markAt, setAt, waitAt, targetAt, Shaped, marked-yes, marked-no, marked-same, keep-node, keep-nodes, keep-mark, keep-wait, keep-mark-other, keep-set-other, keep-wait-other, keep-target-other, aimed, by-aim, join-mark, join-set, join-due, join-not-due, join-mark-other, join-set-other, join-wait-other, join-target}
 use Rattle.paper.specs.Nodes.{Set, _∈_, _∉_, _∪_, Pair, pair, Node, aligned, indicator, Edge, edge, onlyPlace, onlyPair, onlyEdge, withPlace, number, pairOf, Numbered}
-use Rattle.paper.specs.Algorithm2.{State, Step, toPlace, line28, toPair, popped}
+use Rattle.paper.specs.Algorithm2.{State, toPlace, line29, toPair, popped}
 use Rattle.paper.proofs.Successors.{successor}
 use Rattle.paper.proofs.Members.{in-either, in-first, in-neither, not-in, only-pair, the-pair, only-place, only-edge, the-edge, other-edge, numbered, same-pair, other-pair}
 
@@ -35,7 +35,7 @@ pub record Sets (s : State) (g : Graph) : Type 0 where
   pub waits-numbered : (n : Pair) → n ∈ s .waitlist → Numbered n
   pub Vδ : (i : ℕ) → i < 4096 → newOf i ∉ s .Δ → s .Vδ (pairOf i) ≡ setAt g i
 
-module _ (old new : Chart) (lines : Step) where
+module _ (old new : Chart) where
   -- ---- a new place becomes kept
   module _ (s : State) (g : Graph) (pred : Pair) (r : ℕ) (q : NewPlace) (S : Sized g) (l : q .0 < 64) (R : Sets s g) where
     leaves : (m m′ : List ℕ) (i : ℕ) (b : Bool) → (i % 64 ≡ q .0 → getD m′ i 0 ≡ 0) → ((i % 64 ≡ q .0 → ⊥) → getD m′ i 0 ≡ getD m i 0)
@@ -53,7 +53,7 @@ module _ (old new : Chart) (lines : Step) where
         (λ z. rw (ne-eqb (q .0) (p .0) z)
         (or-none (s .Δ p) ∙ R .Δ p b ∙ sym (marked-same (keep g q .marks) (g .marks) (keptNumber p) (keep-nodes g q S l (keptNumber p) (omega arith) (omega arith) (λ h. z (omega arith))))))
 
-    pub keep-sets : Sets (toPlace old new lines s pred r q) (keep g q)
+    pub keep-sets : Sets (toPlace s pred r q) (keep g q)
     unfolding toPlace withPlace onlyPlace
     keep-sets =
         record {
@@ -69,23 +69,23 @@ module _ (old new : Chart) (lines : Step) where
         }
 
   -- ---- the place of the successor is kept already
-  pub kept-sets : (s : State) (g : Graph) (pred : Pair) (r : ℕ) (succ : Pair) (v : ℕ) → succ .new ∈ s .Δ → Sets s g → Sets (toPair old new lines s pred r succ v) g
-  unfolding toPair line28
+  pub kept-sets : (s : State) (g : Graph) (pred : Pair) (r : ℕ) (succ : Pair) (v : ℕ) → succ .new ∈ s .Δ → Sets s g → Sets (toPair old new s pred r succ v) g
+  unfolding toPair line29
   kept-sets s g pred r succ v k R =
       record {
         N = λ i b. rw k (R .N i b);
         N-numbered = λ n. rw k (R .N-numbered n);
         Δ = R .Δ;
         Δ-numbered = R .Δ-numbered;
-        waits = λ i b. rw (k, toPair, line28) (R .waits i b);
-        waits-numbered = λ n. rw (k, toPair, line28) (R .waits-numbered n);
+        waits = λ i b. rw (k, toPair, line29) (R .waits i b);
+        waits-numbered = λ n. rw (k, toPair, line29) (R .waits-numbered n);
         Vδ = λ i b e. rw (k, toPair) (R .Vδ i b e);
       }
 
   -- ---- pair t joins
   module _ (s : State) (g : Graph) (pred : Pair) (r t v : ℕ) (S : Sized g) (l : t < 4096) (free : newOf t ∉ s .Δ) (R : Sets s g) where
-    due-same : line28 old new lines s (pairOf t) v ≡ due (old .alarm) (g .marks) (g .sets) t v
-    unfolding line28 due
+    due-same : line29 old new s (pairOf t) v ≡ due (old .alarm) (g .marks) (g .sets) t v
+    unfolding line29 due
     due-same = rw (free, R .N t l, R .Vδ t l free)
 
     joins : (m m′ : List ℕ) (i : ℕ) (b : Bool) → 0 < getD m′ t 0 → ((i ≡ t → ⊥) → getD m′ i 0 ≡ getD m i 0) → b ≡ marked m i → b || onlyPair (pairOf t) (pairOf i) ≡ marked m′ i
@@ -120,7 +120,7 @@ module _ (old new : Chart) (lines : Step) where
         (λ z. rw (same-pair t i z) (rw z (ap (λ (x : ℕ). joined x v) (R .Vδ t l free) ∙ sym (join-set (old .alarm) g t v S l))))
         (λ z. rw (other-pair t i z) (R .Vδ i b e ∙ sym (join-set-other (old .alarm) g t v S l i z)))
 
-    pub join-sets : Sets (toPair old new lines s pred r (pairOf t) v) after
+    pub join-sets : Sets (toPair old new s pred r (pairOf t) v) after
     unfolding toPair
     join-sets =
         record {
@@ -134,7 +134,7 @@ module _ (old new : Chart) (lines : Step) where
         }
 
   -- ---- a pair is popped
-  pub pop-sets : (s : State) (g : Graph) (n : ℕ) → Sized g → n < 4096 → Sets s g → Sets (popped old new lines s (pairOf n)) (unwait g n)
+  pub pop-sets : (s : State) (g : Graph) (n : ℕ) → Sized g → n < 4096 → Sets s g → Sets (popped s (pairOf n)) (unwait g n)
   unfolding popped unwait
   pop-sets s g n S l R =
       record {

@@ -56,9 +56,9 @@ redirection m t = go (ltb t 4096) refl (marked m (keptNumber (newOf t))) refl
     go true d false e = inr (record { is = rw (d, e, redirected); free = λ l. not-marked m (keptNumber (newOf t)) e })
     go false d b e = inr (record { is = rw (d, redirected); free = λ l. absurd (let z = ltb-false t 4096 d in omega arith) })
 
-module _ (old new : Chart) (F : FaultlessChart old) (H : FaultlessChart new) (words : Words (new .table)) where
+module _ (old new : Chart) (F : FaultlessChart old) (H : FaultlessChart new) (wo : Words (old .table)) (wn : Words (new .table)) where
   abbrev pub ran : Ran old new F H (explored old new)
-  ran = explored-ran old new F H words
+  ran = explored-ran old new F H wo wn
 
   abbrev pub last : State
   last = ran .state
@@ -144,7 +144,7 @@ module _ (old new : Chart) (F : FaultlessChart old) (H : FaultlessChart new) (wo
 
     -- ---- line 20, from an edge of E_l to a target
     abbrev Kind : Pair → ℕ → Node → Type 0
-    Kind n r x = (edge n r x ∈ last .Eₗ) ⊎ Replaced old new (moved old) last n r x
+    Kind n r x = (edge n r x ∈ last .Eₗ) ⊎ Replaced last n r x
 
     -- the edge to y shows that the target of this row is used
     module _ (i r : ℕ) (l : i < 4096) (p : 0 < markAt (explored old new) i) (y : Node) (h : edge (pairOf i) r y ∈ last .Eₗ) where
@@ -152,7 +152,7 @@ module _ (old new : Chart) (F : FaultlessChart old) (H : FaultlessChart new) (wo
       sound = ran .reads .edges .sound (edge (pairOf i) r y) h
 
       two : r < 2
-      two = omega (arith, sound .row, two-at-most new H (words .small) (i % 64))
+      two = omega (arith, sound .row, two-at-most new H (wn .small) (i % 64))
 
       used : targetAt (explored old new) i r ≡ 65535 → ⊥
       used e = not-in h (ran .reads .edges .unused i r l two (free i l p) e y)
@@ -188,7 +188,7 @@ module _ (old new : Chart) (F : FaultlessChart old) (H : FaultlessChart new) (wo
       succ : NodeNumbered x
       is : target (left old new F H joint) i r ≡ nodeNumber x
 
-    to-target : (i r : ℕ) → i < 4096 → 0 < markAt (explored old new) i → (x : Node) → x ∈ nodes old new (moved old) last → Kind (pairOf i) r x → Leads i r x
+    to-target : (i r : ℕ) → i < 4096 → 0 < markAt (explored old new) i → (x : Node) → x ∈ nodes last → Kind (pairOf i) r x → Leads i r x
     unfolding nodes
     to-target i r l p (aligned m) v (inl h) = record { row = two i r l p (aligned m) h; succ = N-in m v .0; is = pair-target i r l p m v h }
     to-target i r l p (aligned m) v (inr b) = absurd b
@@ -198,7 +198,7 @@ module _ (old new : Chart) (F : FaultlessChart old) (H : FaultlessChart new) (wo
         let y = aligned (pair (b .1 .0) q) in
         record { row = two i r l p y (b .1 .1); succ = Δ-in q v .0; is = kept-target i r l p y (b .1 .1) q (sound i r l p y (b .1 .1) .onto .0) v }
 
-    line20-targets : (e : Edge) → Line20 old new (moved old) last e → Targeted built-graph e
+    line20-targets : (e : Edge) → Line20 last e → Targeted built-graph e
     line20-targets e L =
         let N = N-in (e .pred) (L .from) in
         let t =
@@ -230,7 +230,7 @@ module _ (old new : Chart) (F : FaultlessChart old) (H : FaultlessChart new) (wo
         aims : reading.Aims old new (last .Eₗ) i r (targetAt (explored old new) i r)
         aims = ran .reads .edges .aims i r l c (free i l there) u
 
-        to-edge : (x : Node) → NodeNumbered x → target (left old new F H joint) i r ≡ nodeNumber x → (x ∈ nodes old new (moved old) last) × Kind (pairOf i) r x
+        to-edge : (x : Node) → NodeNumbered x → target (left old new F H joint) i r ≡ nodeNumber x → (x ∈ nodes last) × Kind (pairOf i) r x
         unfolding nodes
         to-edge (aligned n) B e =
             ⊎-elim (λ K. absurd (omega (arith, K .is, number-below n B)))
@@ -246,7 +246,7 @@ module _ (old new : Chart) (F : FaultlessChart old) (H : FaultlessChart new) (wo
             (k, ⊎-elim (λ T. to-place (T .succ) (T .edge) q z k) (λ T. to-place (aligned (pairOf (targetAt (explored old new) i r))) (T .edge) q z k) aims))
             (λ P. absurd (omega (arith, P .is, P .below))) (goes i r l there c a-row u)
 
-    targets-line20 : (e : Edge) → Targeted built-graph e → Line20 old new (moved old) last e
+    targets-line20 : (e : Edge) → Targeted built-graph e → Line20 last e
     targets-line20 e T =
         let i = number (e .pred) in
         let l = number-below (e .pred) (T .pred) in
@@ -272,29 +272,29 @@ module _ (old new : Chart) (F : FaultlessChart old) (H : FaultlessChart new) (wo
     not-two : (k : ℕ) → k < 4096 → mark (left old new F H joint) k ≡ 2 → ⊥
     not-two k l e = ⊎-elim (λ a. omega arith) (λ a. ⊎-elim (λ b. omega arith) (λ b. omega arith) a) (pair-marks k l (left-mark k (λ z. omega arith) .1))
 
-    in-nodes : (x : Node) → x ∈ nodes old new (moved old) last → Marked built-graph (λ m. m ≢ 0) x
+    in-nodes : (x : Node) → x ∈ nodes last → Marked built-graph (λ m. m ≢ 0) x
     unfolding nodes
     in-nodes (aligned n) e =
         let N = N-in n e in
         (N .0, λ z. ⊎-elim (λ a. omega arith) (λ a. ⊎-elim (λ b. omega arith) (λ b. omega arith) a) (pair-marks (number n) (number-below n (N .0)) (N .1)))
     in-nodes (indicator q) e = let D = Δ-in q e in (D .0, λ z. omega (arith, node-mark q (D .0) (D .1)))
 
-    nodes-in : (x : Node) → Marked built-graph (λ m. m ≢ 0) x → x ∈ nodes old new (moved old) last
+    nodes-in : (x : Node) → Marked built-graph (λ m. m ≢ 0) x → x ∈ nodes last
     unfolding nodes
     nodes-in (aligned n) M = subst (λ (m : Pair). m ∈ last .Nₗ) (pair-is n (M .0)) (in-N (number n) (number-below n (M .0)) (left-mark (number n) (M .1) .1))
     nodes-in (indicator q) M = in-Δ q (M .0) (left-mark (keptNumber q) (M .1) .1)
 
-    in-kept : (x : Node) → x ∈ indicators old new (moved old) last → Marked built-graph (λ m. m ≡ 2) x
+    in-kept : (x : Node) → x ∈ indicators last → Marked built-graph (λ m. m ≡ 2) x
     unfolding indicators
     in-kept (aligned n) e = absurd (T-true e)
     in-kept (indicator q) e = let D = Δ-in q e in (D .0, node-mark q (D .0) (D .1))
 
-    kept-in : (x : Node) → Marked built-graph (λ m. m ≡ 2) x → x ∈ indicators old new (moved old) last
+    kept-in : (x : Node) → Marked built-graph (λ m. m ≡ 2) x → x ∈ indicators last
     unfolding indicators
     kept-in (aligned n) M = absurd (not-two (number n) (number-below n (M .0)) (M .1))
     kept-in (indicator q) M = in-Δ q (M .0) (left-mark (keptNumber q) (λ z. omega (arith, M .1)) .1)
 
-    pub whole-graph : IsGraph built-graph (whole old new (moved old) last) (last .Vδ)
+    pub whole-graph : IsGraph built-graph (whole old new last) (last .Vδ)
     unfolding nodes
     whole-graph =
         record {

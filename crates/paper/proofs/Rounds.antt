@@ -19,10 +19,11 @@ use Rattle.chart.specs.declared.operations.Operation.{Operation}
 use Rattle.chart.specs.declared.places.NewPlace.{NewPlace}
 use Rattle.chart.specs.Places.{pairNumber, keptNumber, oldOf, newOf}
 use Rattle.chart.specs.Charts.{Chart, size, operation, leaving}
+use Rattle.chart.specs.Assumptions.{Operands}
 use Rattle.chart.specs.Faultless.{FaultlessChart}
 use Rattle.align.specs.declared.spots.Spot.{Spot}
 use Rattle.align.specs.Steps.{moved, fair, arrived, step}
-use Rattle.align.proofs.Parts.{two-at-most}
+use Rattle.align.proofs.Parts.{row-of, row-same, operands, two-at-most}
 use Rattle.checker.specs.Records.{index}
 use Rattle.checker.specs.Promise.{Words}
 use Rattle.builder.specs.Graphs.{Graph, firstPair, marked, keep, aim, join, unwait}
@@ -35,10 +36,12 @@ use Rattle.builder.proofs.Turns.{set-now, set-had, set-now-small, leads-below, 
 use Rattle.builder.proofs.Measure.{row-lighter}
 use Rattle.builder.proofs.Invariant.{Inv, Every, turn-inv, begun-inv}
 use Rattle.paper.specs.Nodes.{_∈_, _∉_, _∪_, Pair, pair, aligned, indicator, edge, onlyPlace, onlyPair, onlyEdge, pairOf, Numbered}
-use Rattle.paper.specs.Algorithm2.{State, Step, toPlace, line27, toPair, process, called, treated, forEach, popped, round, Run, line1, again}
+use Rattle.paper.specs.Lines5to18.{Lines5to18}
+use Rattle.paper.specs.Algorithm2.{State, toPlace, line27, toPair, process, called, popped, ForEach, none-yet, one-more, Run, line1, lines3to18}
 use Rattle.paper.specs.Algorithm2 as algorithm2
 use Rattle.paper.proofs.Successors.{successor, one-successor}
 use Rattle.paper.proofs.Members.{in-or-not, only-pair, the-pair, the-place, numbered, pair-is, same-pair, other-pair}
+use Rattle.paper.proofs.Stepping.{step-lines}
 use Rattle.paper.proofs.Reading.{Sets, keep-sets, kept-sets, join-sets, pop-sets}
 use Rattle.paper.proofs.Edges.{Onto, Sound, ToKept, ToPair, Edges, keep-edges, aim-edges, added}
 
@@ -51,32 +54,32 @@ module _ (g : Graph) (n r t : ℕ) where
   aim-marks = by-aim g n r t (λ h. h .marks ≡ g .marks) (λ p. refl) (λ z. refl)
 
 -- ---- lines 5 to 18 and 27 are the aligned step
-module _ (old new : Chart) (lines : Step) (s : State) (n r : ℕ) where
+module _ (old new : Chart) (s : State) (n r : ℕ) where
   abbrev q₂ : NewPlace
   q₂ = leadsTo new n r
 
-  fails : (o : Option Spot) → arrived (old .alarm) (new .alarm) q₂ o ≡ none → called old new lines s (pairOf n) r o ≡ toPlace old new lines s (pairOf n) r q₂
+  fails : (o : Option Spot) → arrived (old .alarm) (new .alarm) q₂ o ≡ none → called old new s (pairOf n) r o ≡ toPlace s (pairOf n) r q₂
   unfolding arrived called process line27
   fails none e = refl
   fails (some h) e = go (eqb (q₂ .0) (new .alarm)) (eqb (h .place .0) (old .alarm)) e
     where
       go : (a b : Bool) → when (not a || b) h ≡ none
-          → (elim (not b && a) as (λ _. State) [ true ↦ toPlace old new lines s (pairOf n) r q₂ | false ↦ toPair old new lines s (pairOf n) r (pair (h .place) q₂) (h .set) ]) ≡ toPlace old new lines s (pairOf n) r q₂
+          → (elim (not b && a) as (λ _. State) [ true ↦ toPlace s (pairOf n) r q₂ | false ↦ toPair old new s (pairOf n) r (pair (h .place) q₂) (h .set) ]) ≡ toPlace s (pairOf n) r q₂
       go true true e = absurd (Option·none-ne-some h (sym e))
       go true false e = refl
       go false b e = absurd (Option·none-ne-some h (sym e))
 
   arrives : (o : Option Spot) (h : Spot) → arrived (old .alarm) (new .alarm) q₂ o ≡ some h
-      → (o ≡ some h) × (called old new lines s (pairOf n) r o ≡ toPair old new lines s (pairOf n) r (pair (h .place) q₂) (h .set))
+      → (o ≡ some h) × (called old new s (pairOf n) r o ≡ toPair old new s (pairOf n) r (pair (h .place) q₂) (h .set))
   unfolding arrived called process line27
   arrives none h e = absurd (Option·none-ne-some h e)
   arrives (some h′) h e = go (eqb (q₂ .0) (new .alarm)) (eqb (h′ .place .0) (old .alarm)) e
     where
-      same : h′ ≡ h → toPair old new lines s (pairOf n) r (pair (h′ .place) q₂) (h′ .set) ≡ toPair old new lines s (pairOf n) r (pair (h .place) q₂) (h .set)
-      same z = ap (λ (k : Spot). toPair old new lines s (pairOf n) r (pair (k .place) q₂) (k .set)) z
+      same : h′ ≡ h → toPair old new s (pairOf n) r (pair (h′ .place) q₂) (h′ .set) ≡ toPair old new s (pairOf n) r (pair (h .place) q₂) (h .set)
+      same z = ap (λ (k : Spot). toPair old new s (pairOf n) r (pair (k .place) q₂) (k .set)) z
 
       go : (a b : Bool) → when (not a || b) h′ ≡ some h
-          → (some h′ ≡ some h) × ((elim (not b && a) as (λ _. State) [ true ↦ toPlace old new lines s (pairOf n) r q₂ | false ↦ toPair old new lines s (pairOf n) r (pair (h′ .place) q₂) (h′ .set) ]) ≡ toPair old new lines s (pairOf n) r (pair (h .place) q₂) (h .set))
+          → (some h′ ≡ some h) × ((elim (not b && a) as (λ _. State) [ true ↦ toPlace s (pairOf n) r q₂ | false ↦ toPair old new s (pairOf n) r (pair (h′ .place) q₂) (h′ .set) ]) ≡ toPair old new s (pairOf n) r (pair (h .place) q₂) (h .set))
       go true true e = (e, same (Option·some-injective h′ h e))
       go true false e = absurd (Option·none-ne-some h e)
       go false true e = (e, same (Option·some-injective h′ h e))
@@ -104,9 +107,6 @@ unfolding unwait
 unwait-hand g n J = record { there = J .there; free = J .free }
 
 module _ (old new : Chart) (F : FaultlessChart old) (G : FaultlessChart new) where
-  abbrev lines : Step
-  lines = moved old
-
   module _ (s : State) (g : Graph) (n v r : ℕ) (l : n < 4096) (w : v < 2 ^ 64) (c : r < 2) (a : r < size (rowsOf new n)) (S : Shaped g) (R : Reads old new s g) (H : InHand g n) (own : s .Vδ (pairOf n) ≡ v) where
     q-below : leadsTo new n r .0 < 64
     q-below = omega (arith, leads-below old new F G n v r a, G .few-places)
@@ -132,11 +132,11 @@ module _ (old new : Chart) (F : FaultlessChart old) (G : FaultlessChart new) whe
     hand-aim : (f : Graph) (t : ℕ) → InHand f n → InHand (aim f n r t) n
     hand-aim f t J = by-aim f n r t (λ h. InHand h n) (λ p. record { there = J .there; free = J .free }) (λ z. J)
 
-    fails-row : Row old new n v (toPlace old new lines s (pairOf n) r (leadsTo new n r)) (aim (keep g (leadsTo new n r)) n r (keptNumber (leadsTo new n r)))
+    fails-row : Row old new n v (toPlace s (pairOf n) r (leadsTo new n r)) (aim (keep g (leadsTo new n r)) n r (keptNumber (leadsTo new n r)))
     unfolding toPlace
     fails-row =
         let q = leadsTo new n r in
-        let K = keep-sets old new lines s g (pairOf n) r q (S .sized) q-below (R .sets) in
+        let K = keep-sets old new s g (pairOf n) r q (S .sized) q-below (R .sets) in
         let there : newOf n ∉ (s .Δ ∪ onlyPlace q) → 0 < markAt (keep g q) n =
         λ e. hand-kept .there (not-marked (keep g q .marks) (keptNumber (newOf n)) (sym (K .Δ (newOf n) (omega arith)) ∙ e)) in
         let fits : Sound old new (s .Δ ∪ onlyPlace q) (edge (pairOf n) r (indicator q)) = record { row = a; onto = (refl, rw (the-place q) (or-true (s .Δ q))) } in
@@ -144,7 +144,7 @@ module _ (old new : Chart) (F : FaultlessChart old) (G : FaultlessChart new) whe
         record {
           reads =
               record {
-                sets = aim-sets (keep g q) n r (keptNumber q) (toPlace old new lines s (pairOf n) r q) K;
+                sets = aim-sets (keep g q) n r (keptNumber q) (toPlace s (pairOf n) r q) K;
                 edges =
                     aim-edges old new (s .Eₗ) (s .Δ ∪ onlyPlace q) (keep g q) n r (keptNumber q) (indicator q) Z l c there fits (λ e. omega (arith, q-below))
                     (keep-edges old new (s .Eₗ) (s .Δ) g q (S .sized) q-below (R .edges))
@@ -163,7 +163,7 @@ module _ (old new : Chart) (F : FaultlessChart old) (G : FaultlessChart new) whe
       place : h .place ≡ successor old (oldOf n) (operation (rowsOf new n) r)
       place = one-successor old (oldOf n) v (operation (rowsOf new n) r) .of h came
 
-      kept-row : leadsTo new n r ∈ s .Δ → Row old new n v (toPair old new lines s (pairOf n) r (pair (h .place) (leadsTo new n r)) (h .set)) (aim g n r (keptNumber (leadsTo new n r)))
+      kept-row : leadsTo new n r ∈ s .Δ → Row old new n v (toPair old new s (pairOf n) r (pair (h .place) (leadsTo new n r)) (h .set)) (aim g n r (keptNumber (leadsTo new n r)))
       unfolding toPair
       kept-row k =
           let q = leadsTo new n r in
@@ -173,7 +173,7 @@ module _ (old new : Chart) (F : FaultlessChart old) (G : FaultlessChart new) whe
           record {
             reads =
                 record {
-                  sets = aim-sets g n r (keptNumber q) (toPair old new lines s (pairOf n) r (pair (h .place) q) (h .set)) (kept-sets old new lines s g (pairOf n) r (pair (h .place) q) (h .set) k (R .sets));
+                  sets = aim-sets g n r (keptNumber q) (toPair old new s (pairOf n) r (pair (h .place) q) (h .set)) (kept-sets old new s g (pairOf n) r (pair (h .place) q) (h .set) k (R .sets));
                   edges =
                       aim-edges old new (s .Eₗ) (s .Δ) g n r (keptNumber q) x (S .sized) l c there fits (λ e. omega (arith, q-below)) (R .edges)
                       (inl
@@ -213,7 +213,7 @@ module _ (old new : Chart) (F : FaultlessChart old) (G : FaultlessChart new) whe
             others : markAt j (keptNumber (newOf n)) ≡ markAt g (keptNumber (newOf n))
             others = join-mark-other (old .alarm) g t (h .set) (S .sized) below (keptNumber (newOf n)) (λ e. omega (arith, below))
 
-        joins-row : Row old new n v (toPair old new lines s (pairOf n) r (pairOf t) (h .set)) (aim j n r t)
+        joins-row : Row old new n v (toPair old new s (pairOf n) r (pairOf t) (h .set)) (aim j n r t)
         unfolding toPair
         joins-row =
             let x = aligned (pairOf t) in
@@ -225,7 +225,7 @@ module _ (old new : Chart) (F : FaultlessChart old) (G : FaultlessChart new) whe
             record {
               reads =
                   record {
-                    sets = aim-sets j n r t (toPair old new lines s (pairOf n) r (pairOf t) (h .set)) (join-sets old new lines s g (pairOf n) r t (h .set) (S .sized) below free (R .sets));
+                    sets = aim-sets j n r t (toPair old new s (pairOf n) r (pairOf t) (h .set)) (join-sets old new s g (pairOf n) r t (h .set) (S .sized) below free (R .sets));
                     edges =
                         aim-edges old new (s .Eₗ) (s .Δ) j n r t x Z l c there fits (λ e. omega (arith, below)) E
                         (inr (record { below = below; edge = added old new (s .Eₗ) (s .Δ) j n r t x Z l c there fits (λ e. omega (arith, below)) }));
@@ -242,7 +242,7 @@ module _ (old new : Chart) (F : FaultlessChart old) (G : FaultlessChart new) whe
     came-to = moved old (record { place = oldOf n; set = v }) (operation (rowsOf new n) r)
 
     some-row : (h : Spot) → came-to ≡ some h → Fits 64 h → (k : Bool) → marked (g .marks) (keptNumber (leadsTo new n r)) ≡ k
-        → Row old new n v (toPair old new lines s (pairOf n) r (pair (h .place) (leadsTo new n r)) (h .set))
+        → Row old new n v (toPair old new s (pairOf n) r (pair (h .place) (leadsTo new n r)) (h .set))
         (elim k as (λ _. Graph) [
           | true ↦ aim g n r (keptNumber (leadsTo new n r))
           | false ↦ aim (join (old .alarm) g (pairNumber (h .place) (leadsTo new n r)) (h .set)) n r (pairNumber (h .place) (leadsTo new n r))
@@ -251,7 +251,7 @@ module _ (old new : Chart) (F : FaultlessChart old) (G : FaultlessChart new) whe
     some-row h e T true k = kept-row h e (R .sets .Δ (leadsTo new n r) q-below ∙ k)
     some-row h e T false k =
         let t = pairNumber (h .place) (leadsTo new n r) in
-        subst (λ (m : Pair). Row old new n v (toPair old new lines s (pairOf n) r m (h .set)) (aim (join (old .alarm) g t (h .set)) n r t))
+        subst (λ (m : Pair). Row old new n v (toPair old new s (pairOf n) r m (h .set)) (aim (join (old .alarm) g t (h .set)) n r t))
         (pair-is (pair (h .place) (leadsTo new n r)) (record { old = T .place; new = q-below }))
         (joins-row h e t refl T (R .sets .Δ (leadsTo new n r) q-below ∙ k))
 
@@ -259,36 +259,41 @@ module _ (old new : Chart) (F : FaultlessChart old) (G : FaultlessChart new) whe
     unfolding rowDone
     row-done = rw (lt-ltb r (size (rowsOf new n)) a, rowDone)
 
-    edge-done : (o : Option Spot) → stepOf old new n v r ≡ o → Row old new n v (called old new lines s (pairOf n) r came-to) (processed (old .alarm) g n r (leadsTo new n r) o)
+    edge-done : (o : Option Spot) → stepOf old new n v r ≡ o → Row old new n v (called old new s (pairOf n) r came-to) (processed (old .alarm) g n r (leadsTo new n r) o)
     unfolding stepOf step processed turns.arrived came-to
     edge-done none e =
-        subst (λ (f : State). Row old new n v f (aim (keep g (leadsTo new n r)) n r (keptNumber (leadsTo new n r)))) (sym (fails old new lines s n r came-to e)) fails-row
+        subst (λ (f : State). Row old new n v f (aim (keep g (leadsTo new n r)) n r (keptNumber (leadsTo new n r)))) (sym (fails old new s n r came-to e)) fails-row
     edge-done (some h) e =
-        let z = arrives old new lines s n r came-to h e in
+        let z = arrives old new s n r came-to h e in
         let T = step-of-fits old new F G n v r a 64 (F .few-places) (omega arith) w h e in
         subst (λ (f : State). Row old new n v f (turns.arrived (old .alarm) g n r (leadsTo new n r) h)) (sym (z .1))
         (some-row h (z .0) T (marked (g .marks) (keptNumber (leadsTo new n r))) refl)
 
-    row-read : Row old new n v (treated old new lines s (pairOf n) r) (rowDone old new g n v r)
-    unfolding treated came-to
-    row-read =
-        let y = ap (λ (x : ℕ). called old new lines s (pairOf n) r (moved old (record { place = oldOf n; set = x }) (operation (rowsOf new n) r))) own in
-        subst (λ (f : State). Row old new n v f (rowDone old new g n v r)) (sym y)
-        (subst (λ (f : Graph). Row old new n v (called old new lines s (pairOf n) r came-to) f) (sym row-done) (edge-done (stepOf old new n v r) refl))
+    row-read : Row old new n v (called old new s (pairOf n) r came-to) (rowDone old new g n v r)
+    row-read = subst (λ (f : Graph). Row old new n v (called old new s (pairOf n) r came-to) f) (sym row-done) (edge-done (stepOf old new n v r) refl)
+
+    -- lines 5 to 18
+    stepped : Words (old .table) → Words (new .table) → Lines5to18 old (oldOf n) (s .Vδ (pairOf n)) (operation (rowsOf new n) r) came-to
+    unfolding came-to
+    stepped wo wn =
+        let (i, k) = row-of (new .table) (n % 64) r a in
+        let fits = subst Operands (sym (row-same (new .table) (n % 64) k .operation-same)) (operands new G (wn .small) i (k .inside)) in
+        subst (λ (u : ℕ). Lines5to18 old (oldOf n) u (operation (rowsOf new n) r) (moved old (record { place = oldOf n; set = v }) (operation (rowsOf new n) r))) (sym own)
+        (step-lines old F wo (oldOf n) v (operation (rowsOf new n) r) (omega arith) w fits)
 
   -- ---- a round
-  module _ (words : Words (new .table)) (s : State) (g : Graph) (n : ℕ) (l : n < 4096) (S : Shaped g) (R : Reads old new s g) (H : InHand (unwait g n) n) (free : newOf n ∉ s .Δ) where
+  module _ (wo : Words (old .table)) (wn : Words (new .table)) (s : State) (g : Graph) (n : ℕ) (l : n < 4096) (S : Shaped g) (R : Reads old new s g) (H : InHand (unwait g n) n) (free : newOf n ∉ s .Δ) where
     v : ℕ
     v = setAt g n
 
     s₀ : State
-    s₀ = popped old new lines s (pairOf n)
+    s₀ = popped s (pairOf n)
 
     start : Row old new n v s₀ (unwait g n)
     unfolding s₀ v popped unwait
     start =
         record {
-          reads = record { sets = pop-sets old new lines s g n (S .sized) l (R .sets); edges = R .edges };
+          reads = record { sets = pop-sets old new s g n (S .sized) l (R .sets); edges = R .edges };
           hand = H;
           held = λ z. R .sets .Vδ n l free;
         }
@@ -311,49 +316,88 @@ module _ (old new : Chart) (F : FaultlessChart old) (G : FaultlessChart new) whe
     unfolding s₀ popped v
     first-own = R .sets .Vδ n l free
 
-    row-one : 0 < size (rowsOf new n) → Row old new n v (treated old new lines s₀ (pairOf n) 0) first
-    unfolding first v
-    row-one a = row-read s₀ (unwait g n) n v 0 l (S .small n) (omega arith) a (unwait-shaped g n S) (start .reads) H first-own
+    -- the state after the first edge
+    s₁ : State
+    s₁ = called old new s₀ (pairOf n) 0 (moved old (record { place = oldOf n; set = v }) (operation (rowsOf new n) 0))
+
+    v₁ : ℕ
+    v₁ = setNow (first .marks) (first .sets) n v
 
     first-shaped : Shaped first
     unfolding first v
     first-shaped = row-lighter old new F G (unwait g n) n v 0 l (S .small n) (unwait-shaped g n S) .shaped
 
+    module _ (a : 0 < size (rowsOf new n)) where
+      row-one : Row old new n v s₁ first
+      unfolding first v s₁ came-to
+      row-one = row-read s₀ (unwait g n) n v 0 l (S .small n) (omega arith) a (unwait-shaped g n S) (start .reads) H first-own
+
+      loop-one : ForEach old new (Lines5to18 old) s₀ (pairOf n) 1 s₁
+      unfolding v s₁ came-to
+      loop-one = one-more (moved old (record { place = oldOf n; set = v }) (operation (rowsOf new n) 0)) none-yet
+          (stepped s₀ (unwait g n) n v 0 l (S .small n) (omega arith) a (unwait-shaped g n S) (start .reads) H first-own wo wn)
+
     -- lines 4 to 18, for as many edges as there are
-    rounds : (k : ℕ) → size (rowsOf new n) ≡ k → Reads old new (forEach old new lines s₀ (pairOf n) k) (rowDone old new first n (setNow (first .marks) (first .sets) n v) 1)
-    unfolding forEach first v
+    record Rounded (k : ℕ) : Type 0 where
+      state : State
+      loop : ForEach old new (Lines5to18 old) s₀ (pairOf n) k state
+      reads : Reads old new state (rowDone old new first n v₁ 1)
+
+    rounds : (k : ℕ) → size (rowsOf new n) ≡ k → Rounded k
+    unfolding first v v₁ came-to
     rounds zero e =
-        subst (λ (h : Graph). Reads old new s₀ h) (sym (no-row first (setNow (first .marks) (first .sets) n v) 1 (omega arith) ∙ no-row (unwait g n) v 0 (omega arith))) (start .reads)
+        record {
+          state = s₀;
+          loop = none-yet;
+          reads = subst (λ (h : Graph). Reads old new s₀ h) (sym (no-row first v₁ 1 (omega arith) ∙ no-row (unwait g n) v 0 (omega arith))) (start .reads);
+        }
     rounds (suc zero) e =
-        subst (λ (h : Graph). Reads old new (treated old new lines s₀ (pairOf n) 0) h) (sym (no-row first (setNow (first .marks) (first .sets) n v) 1 (omega arith))) (row-one (omega arith) .reads)
+        record {
+          state = s₁;
+          loop = loop-one (omega arith);
+          reads = subst (λ (h : Graph). Reads old new s₁ h) (sym (no-row first v₁ 1 (omega arith))) (row-one (omega arith) .reads);
+        }
     rounds (suc (suc zero)) e =
         let one = row-one (omega arith) in
-        row-read (treated old new lines s₀ (pairOf n) 0) first n (setNow (first .marks) (first .sets) n v) 1 l (set-now-small first n v (S .small n) first-shaped) (omega arith) (omega arith)
-        first-shaped (one .reads) (one .hand) (own (treated old new lines s₀ (pairOf n) 0) first one) .reads
-    rounds (suc (suc (suc k))) e = absurd (omega (arith, two-at-most new G (words .small) (n % 64)))
+        let small = set-now-small first n v (S .small n) first-shaped in
+        record {
+          state = called old new s₁ (pairOf n) 1 (moved old (record { place = oldOf n; set = v₁ }) (operation (rowsOf new n) 1));
+          loop = one-more (moved old (record { place = oldOf n; set = v₁ }) (operation (rowsOf new n) 1)) (loop-one (omega arith))
+              (stepped s₁ first n v₁ 1 l small (omega arith) (omega arith) first-shaped (one .reads) (one .hand) (own s₁ first one) wo wn);
+          reads = row-read s₁ first n v₁ 1 l small (omega arith) (omega arith) first-shaped (one .reads) (one .hand) (own s₁ first one) .reads;
+        }
+    rounds (suc (suc (suc k))) e = absurd (omega (arith, two-at-most new G (wn .small) (n % 64)))
 
-    round-read : Reads old new (round old new lines s (pairOf n)) (taken old new g n)
-    unfolding round taken secondDone s₀ first v
-    round-read = rounds (size (rowsOf new n)) refl
+    round : Rounded (size (rowsOf new n))
+    round = rounds (size (rowsOf new n)) refl
+
+    round-read : Reads old new (round .state) (taken old new g n)
+    unfolding taken secondDone first v v₁
+    round-read = round .reads
+
+    round-run : Run old new (Lines5to18 old) s → pairOf n ∈ s .waitlist → Run old new (Lines5to18 old) (round .state)
+    unfolding s₀
+    round-run r w = lines3to18 (pairOf n) r w (round .loop)
 
   -- ---- the run
   pub record Ran (g : Graph) : Type 0 where
     pub state : State
-    pub run : Run old new lines state
+    pub run : Run old new (Lines5to18 old) state
     pub reads : Reads old new state g
     pub inv : Inv old new Every g
 
-  turn-ran : Words (new .table) → (g : Graph) (n : ℕ) → Ran g → next g ≡ some n → Ran (taken old new g n)
-  turn-ran words g n A e =
+  turn-ran : Words (old .table) → Words (new .table) → (g : Graph) (n : ℕ) → Ran g → next g ≡ some n → Ran (taken old new g n)
+  turn-ran wo wn g n A e =
       let L = next-lowest g n e in
       let I = A .inv in
       let l : n < 4096 = omega (arith, L .below, I .shaped .sized .waiting) in
       let p = I .waiters n l (L .waits) in
       let z = I .apart n l p in
+      let f = A .reads .sets .Δ (newOf n) (omega arith) ∙ marked-no (g .marks) (keptNumber (newOf n)) z in
       record {
-        state = round old new lines (A .state) (pairOf n);
-        run = again (pairOf n) (A .run) (A .reads .sets .waits n l ∙ marked-yes (g .waiting) n (L .waits));
-        reads = round-read words (A .state) g n l (I .shaped) (A .reads) (in-hand g n p z) (A .reads .sets .Δ (newOf n) (omega arith) ∙ marked-no (g .marks) (keptNumber (newOf n)) z);
+        state = round wo wn (A .state) g n l (I .shaped) (A .reads) (in-hand g n p z) f .state;
+        run = round-run wo wn (A .state) g n l (I .shaped) (A .reads) (in-hand g n p z) f (A .run) (A .reads .sets .waits n l ∙ marked-yes (g .waiting) n (L .waits));
+        reads = round-read wo wn (A .state) g n l (I .shaped) (A .reads) (in-hand g n p z) f;
         inv = turn-inv old new F G g n I e;
       }
     where
@@ -364,7 +408,7 @@ module _ (old new : Chart) (F : FaultlessChart old) (G : FaultlessChart new) whe
   unfolding begun algorithm2.begun
   begun-ran =
       record {
-        state = algorithm2.begun old new lines;
+        state = algorithm2.begun old new;
         run = line1;
         reads =
             record {
@@ -394,6 +438,6 @@ module _ (old new : Chart) (F : FaultlessChart old) (G : FaultlessChart new) whe
           (λ z. other-pair 0 i z ∙ sym (marked-no (set (replicate m 0) 0 1) i (one-other m 0 1 i z)))
 
   -- where nothing waits any more, the build stands at the end of a run
-  pub explored-ran : Words (new .table) → Ran (explored old new)
+  pub explored-ran : Words (old .table) → Words (new .table) → Ran (explored old new)
   unfolding explored
-  explored-ran words = repeated-keeps next (taken old new) Ran (turn-ran words) (2 ^ 80) (begun old new) begun-ran
+  explored-ran wo wn = repeated-keeps next (taken old new) Ran (turn-ran wo wn) (2 ^ 80) (begun old new) begun-ran

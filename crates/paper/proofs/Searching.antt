@@ -22,11 +22,7 @@ use Rattle.paper.specs.Nodes.{Set, _∈_, _∉_, _∪_, _∖_, Pair, Nod
 use Rattle.paper.specs.Algorithm2.{DifferenceGraph}
 use Rattle.paper.specs.Algorithm1.{Precedes, Turn, Search, line1, lines3to5}
 use Rattle.paper.specs.Returned.{Targeted}
-use Rattle.paper.proofs.Members.{in-either, in-first, in-neither, not-in, in-or-not, only-node, the-node, pair-is, number-below}
-
-pub in-second : (a b : Bool) → b ≡ true → a || b ≡ true
-in-second true b e = refl
-in-second false b e = e
+use Rattle.paper.proofs.Members.{in-either, in-first, in-second, in-neither, not-in, in-or-not, only-node, the-node, pair-is, number-below}
 
 -- ---- what any search finds
 module _ (G : DifferenceGraph) where

@@ -42,20 +42,20 @@ record Ends (R : Record) (G : DifferenceGraph) (Vδ : Pair → ℕ) : Type 0 whe
 searched : {R : Record} {G : DifferenceGraph} {Vδ : Pair → ℕ} → IsGraph R G Vδ → NodeNumbered (G .n₀) → Found G
 searched {R} {G} g a = search-ends R G (g .edges) a (λ x e. g .kept x .0 e .0)
 
-module _ (old new : Chart) (F : FaultlessChart old) (H : FaultlessChart new) (words : Words (new .table)) where
+module _ (old new : Chart) (F : FaultlessChart old) (H : FaultlessChart new) (wo : Words (old .table)) (wn : Words (new .table)) where
   -- nothing waits
-  ended : Ended old new (moved old) (last old new F H words)
+  ended : Ended (last old new F H wo wn)
   ended n =
       ⊎-elim
-      (λ e. let B = ran old new F H words .reads .sets .waits-numbered n e in
+      (λ e. let B = ran old new F H wo wn .reads .sets .waits-numbered n e in
       let l = number-below n B in
-      sym (ap (last old new F H words .waitlist) (pair-is n B)) ∙ ran old new F H words .reads .sets .waits (number n) l ∙ marked-no (explored old new .waiting) (number n) (nothing-waits old new F H (number n) l))
-      (λ e. e) (in-or-not (last old new F H words .waitlist n))
+      sym (ap (last old new F H wo wn .waitlist) (pair-is n B)) ∙ ran old new F H wo wn .reads .sets .waits (number n) l ∙ marked-no (explored old new .waiting) (number n) (nothing-waits old new F H (number n) l))
+      (λ e. e) (in-or-not (last old new F H wo wn .waitlist n))
 
   -- line 19
-  line19-is : line19 old new (moved old) (last old new F H words) ≡ alone (headOf old) (headOf new) (explored old new .marks)
+  line19-is : line19 old new (last old new F H wo wn) ≡ alone (headOf old) (headOf new) (explored old new .marks)
   unfolding line19 alone
-  line19-is = rw (ran old new F H words .reads .sets .Δ (record { 0 = 0 }) (omega arith)) (go (marked (explored old new .marks) (firstKept new)) (eqb 0 (new .alarm)) (eqb 0 (old .alarm)))
+  line19-is = rw (ran old new F H wo wn .reads .sets .Δ (record { 0 = 0 }) (omega arith)) (go (marked (explored old new .marks) (firstKept new)) (eqb 0 (new .alarm)) (eqb 0 (old .alarm)))
     where
       go : (k a b : Bool) → k || (a && not b) ≡ k || not (not a || b)
       go true a b = refl
@@ -74,17 +74,17 @@ module _ (old new : Chart) (F : FaultlessChart old) (H : FaultlessChart new) (wo
   ends : (b : Bool) → alone (headOf old) (headOf new) (explored old new .marks) ≡ b
       → Ends
       (recordOf (elim b [ true ↦ firstKept new | false ↦ firstPair old new ]) (left b .marks) (left b .targets) (left b .sets))
-      (elim b as (λ _. DifferenceGraph) [ true ↦ lone old new (moved old) | false ↦ whole old new (moved old) (last old new F H words) ])
-      (last old new F H words .Vδ)
+      (elim b as (λ _. DifferenceGraph) [ true ↦ lone old new | false ↦ whole old new (last old new F H wo wn) ])
+      (last old new F H wo wn .Vδ)
   unfolding left builds.lone
   ends true e =
-      let g = lone-graph old new (moved old) (last old new F H words .Vδ) in
+      let g = lone-graph old new (last old new F H wo wn .Vδ) in
       let f = searched g (omega arith) in
-      record { graph = g; found = f; condition = lone-condition old new (moved old) (f .search) }
+      record { graph = g; found = f; condition = lone-condition old new (f .search) }
   ends false e =
-      let g = whole-graph old new F H words e in
+      let g = whole-graph old new F H wo wn e in
       let f = searched g (numbered 0 (omega arith)) in
-      record { graph = g; found = f; condition = whole-condition old new F H words e (f .search) (f .emptied) }
+      record { graph = g; found = f; condition = whole-condition old new F H wo wn e (f .search) (f .emptied) }
 
   -- every build is one run of the source's algorithms
   pub a-run-of-the-source : Returned old new (recorded old new)
@@ -92,12 +92,12 @@ module _ (old new : Chart) (F : FaultlessChart old) (H : FaultlessChart new) (wo
   a-run-of-the-source =
       let E =
       subst
-      (λ (b : Bool). Ends (recorded old new) (elim b as (λ _. DifferenceGraph) [ true ↦ lone old new (moved old) | false ↦ whole old new (moved old) (last old new F H words) ])
-      (last old new F H words .Vδ))
+      (λ (b : Bool). Ends (recorded old new) (elim b as (λ _. DifferenceGraph) [ true ↦ lone old new | false ↦ whole old new (last old new F H wo wn) ])
+      (last old new F H wo wn .Vδ))
       (sym line19-is) (ends (alone (headOf old) (headOf new) (explored old new .marks)) refl) in
       record {
-        state = last old new F H words;
-        ran = ran old new F H words .run;
+        state = last old new F H wo wn;
+        ran = ran old new F H wo wn .run;
         ended = ended;
         graph = E .graph;
         Q = E .found .Q;

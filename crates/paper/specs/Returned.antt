@@ -4,9 +4,9 @@ use mathlib.Core.Path.{_≡_}
 use mathlib.Core.Logic.{_⊎_, _≢_, _↔_}
 use Prim.Native.Nat.{ℕ, _<_}
 use Rattle.chart.specs.Charts.{Chart}
-use Rattle.align.specs.Steps.{moved}
 use Rattle.checker.specs.Records.{Record, mark, setAt, target}
 use Rattle.paper.specs.Nodes.{Set, _∈_, _∉_, Pair, Node, aligned, Edge, edge, number, nodeNumber, pairOf, Numbered, NodeNumbered}
+use Rattle.paper.specs.Lines5to18.{Lines5to18}
 use Rattle.paper.specs.Algorithm2.{State, DifferenceGraph, Run, Ended, returned}
 use Rattle.paper.specs.Algorithm1.{Search, F, Transition}
 
@@ -42,14 +42,14 @@ module _ (R : Record) where
     pub each : (i r : ℕ) → i < 4096 → r < 2 → mark (R .graph) i ≡ 1 → target (R .graph) i r ≢ 65535
         → (x : Node) × (nodeNumber x ≡ target (R .graph) i r) × Transition G Q (edge (pairOf i) r x)
 
--- one run of Algorithm 2 with document 01's step, to its end; then one run of Algorithm 1 on the graph that it returns, to its end
+-- one run of Algorithm 2 to its end; then one run of Algorithm 1 on the graph that it returns, to its end
 pub record Returned (old new : Chart) (R : Record) : Type 0 where
   pub state : State
-  pub ran : Run old new (moved old) state
-  pub ended : Ended old new (moved old) state
-  pub graph : IsGraph R (returned old new (moved old) state) (state .Vδ)
+  pub ran : Run old new (Lines5to18 old) state
+  pub ended : Ended state
+  pub graph : IsGraph R (returned old new state) (state .Vδ)
   pub Q : Set Node
   pub waitlist : Set Node
-  pub searched : Search (returned old new (moved old) state) Q waitlist
+  pub searched : Search (returned old new state) Q waitlist
   pub emptied : (n : Node) → n ∉ waitlist
-  pub condition : IsCondition R (returned old new (moved old) state) Q
+  pub condition : IsCondition R (returned old new state) Q

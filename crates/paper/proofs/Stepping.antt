@@ -1,0 +1,312 @@
+-- The aligned step is lines 5 to 18 of Algorithm 2, with document 01's cut of line 13. Assumes nothing.
+use mathlib.Core.Path.{_≡_, refl, sym, ap, subst, _∙_}
+use mathlib.Core.Bool.{Bool, true, false, _&&_, _||_, not, or-true}
+use mathlib.Core.Logic.{_⊎_, inl, inr, ⊎-elim, dite, _≢_}
+use mathlib.Core.List.{List}
+use mathlib.Core.Option.{Option, none, some, Option·none-ne-some, Option·some-injective}
+use Prim.Native.Nat.{ℕ, zero, suc, _-_, _^_, _≤_, _<_}
+use native.Mathlib.Omega.{arith}
+use native.Mathlib.Decide.{ℕ-discrete}
+use borrow.Author.Tests.{eq-eqb, eqb-true, eqb-false}
+use lib.Dec.{T, eqb}
+use lib.Bits.{or-lt, or-zero-l}
+use lib.Pow.{pow-lt}
+use Rattle.base.specs.Options.{when, orElse}
+use Rattle.base.proofs.Maybe.{All}
+use Rattle.base.proofs.Options.{none-of, not-due, both-missing}
+use Rattle.base.proofs.Sums.{sum, sum-lt, sum-most}
+use Rattle.base.proofs.Tests.{T-true, and-true, or-false}
+use Rattle.chart.specs.declared.operations.Operation.{Operation}
+use Rattle.chart.specs.declared.operations.Kind.{Kind}
+use Rattle.chart.specs.declared.operations.Kind.the-variants.{Assignment, ConstantComparison, VariableComparison, Unknown}
+use Rattle.chart.specs.declared.assumptions.Implication.{Implication}
+use Rattle.chart.specs.declared.assumptions.Implication.the-variants.{Never, Implied, NotImplied}
+use Rattle.chart.specs.declared.places.OldPlace.{OldPlace}
+use Rattle.chart.specs.Assumptions.{NeverHolds, Implies, Means, Operands}
+use Rattle.chart.specs.Charts.{Chart, size, from, to, operation, leaving}
+use Rattle.chart.specs.Faultless.{FaultlessChart}
+use Rattle.chart.specs.Operations.{kind, byKind, isKnown, isAssignment, isAssumption, same}
+use Rattle.chart.specs.Trials.{implication}
+use Rattle.chart.proofs.Exact.{implication-means}
+use Rattle.align.specs.declared.spots.Spot.{Spot}
+use Rattle.align.specs.Sets.{bit, alone, joined, with, without, meets, readSet}
+use Rattle.align.specs.Steps.{find, oldTo, isImplied, along, matching, matched, rewritten, rowsAt, atAlarm, assigned, onward, follow, followed, counterpart, assumed, moved}
+use Rattle.align.proofs.Sets.{In, bit-none, alone-here, alone-only, with-here, with-old, with-only, without-in, without-kept, meet-some, meet-none}
+use Rattle.align.proofs.Onto.{same→eq, Among, found}
+use Rattle.align.proofs.Moves.{onward-below}
+use Rattle.align.proofs.Parts.{before, stands, same-row, row-of, row-same, operands}
+use Rattle.checker.specs.Promise.{Words}
+use Rattle.builder.proofs.Steps.{row-a}
+use Rattle.paper.specs.Nodes.{Set, _∈_, ∅, _∪_}
+use Rattle.paper.specs.Lines5to18.{Has, Meet, IsWith, IsWithout, onlyOld, InG, Line13, Loop, line12, line14, Ended, Line15, Lines5to18, lines6·7·9, lines6·8·9, line10, line16, line17, line18, cut}
+use Rattle.paper.proofs.Members.{in-first, in-second}
+
+-- ---- sets
+is-with : (s v : ℕ) → IsWith s v (with s v)
+is-with s v i l = (λ h. ⊎-elim (λ e. inr e) (λ p. inl p) (with-only i s v h), λ h. ⊎-elim (λ p. with-old i s v p) (λ e. rw e (with-here 0 s v)) h)
+
+is-without : (s v : ℕ) → v < 64 → IsWithout s v (without s v)
+is-without s v k i l = (λ h. let z = without-in i s v l k h in (z .1, z .0), λ h. without-kept i s v l k (h .1) (h .0))
+
+meeting : (s t : ℕ) → s < 2 ^ 64 → meets s t ≡ true → Meet s t
+meeting s t b e = let r = meet-some s t b e in record { variable = r .0; below = r .1; first = r .2; second = r .3 }
+
+not-meeting : (s t : ℕ) → meets s t ≡ false → Meet s t → ⊥
+not-meeting s t e m = meet-none s t (m .variable) e (m .first) (m .second)
+
+same-self : (o : Operation) → same o o ≡ true
+unfolding same
+same-self o = rw (eq-eqb (o .code) (o .code) refl, eq-eqb (o .a) (o .a) refl, eq-eqb (o .b) (o .b) refl, eq-eqb (o .c) (o .c) refl)
+
+with-small : (s v : ℕ) → s < 2 ^ 64 → v < 64 → with s v < 2 ^ 64
+unfolding with joined alone
+with-small s v b l = or-lt 64 s (2 ^ v) b (pow-lt l)
+
+alone-small : (v : ℕ) → v < 64 → alone v < 2 ^ 64
+unfolding alone
+alone-small v l = pow-lt l
+
+onlyOld-is : (p : OldPlace) (i : ℕ) → i ≡ p .0 → record { 0 = i } ∈ onlyOld p
+unfolding onlyOld
+onlyOld-is p i e = eq-eqb (p .0) i (sym e)
+
+-- how many of 64 places are not in the set
+unmet : ℕ → ℕ
+unmet met = sum 64 (λ i. 1 - bit met i)
+
+unmet-most : (met : ℕ) → unmet met ≤ 64
+unfolding unmet
+unmet-most met = omega (arith, sum-most 64 1 (λ i. 1 - bit met i) (λ i. omega arith))
+
+unmet-less : (met v : ℕ) → v < 64 → (In v met → ⊥) → unmet (with met v) < unmet met
+unfolding unmet
+unmet-less met v l n =
+    sum-lt 64 v (λ i. 1 - bit (with met v) i) (λ i. 1 - bit met i) l (omega (arith, with-here 0 met v))
+    (λ i k. dite (ℕ-discrete (bit met i) 1) (λ e. omega (arith, with-old i met v e)) (λ e. omega arith))
+
+-- ---- rows of a place are edges of G
+not-found : (rows : List ℕ) (f : Operation → Bool) → find rows f ≡ none → (k : ℕ) → k < size rows → f (operation rows k) ≡ false
+unfolding find
+not-found rows f e k l = not-due (f (operation rows k)) k (none-of (λ j. when (f (operation rows j)) j) (size rows) k e l)
+
+module _ (old : Chart) where
+  row-edge : (p : OldPlace) (k : ℕ) → k < size (rowsAt old p) → InG old p (operation (rowsAt old p) k) (oldTo (rowsAt old p) k)
+  row-edge p k l =
+      let (i, r) = row-of (old .table) (p .0) k l in
+      let z = row-same (old .table) (p .0) r in
+      record { row = i; there = r .inside; from = r .from-here; operation = sym (z .operation-same); to = sym (z .to-same) }
+
+  -- an edge is a row of the place
+  edge-row : (p : OldPlace) (o : Operation) (q : OldPlace) → InG old p o q → (k : ℕ) × (k < size (rowsAt old p)) × (operation (rowsAt old p) k ≡ o)
+  edge-row p o q E =
+      (before (old .table) (p .0) (E .row), stands (old .table) (p .0) (E .row) (E .there) (E .from), same-row (old .table) (p .0) (E .row) (E .there) (E .from) .operation-same ∙ E .operation)
+
+  -- no edge passes where no row was found
+  no-edge : (p : OldPlace) (f : Operation → Bool) → find (rowsAt old p) f ≡ none → (o : Operation) (q : OldPlace) → InG old p o q → f o ≡ false
+  no-edge p f e o q E =
+      let r = edge-row p o q E in
+      ap f (sym (r .2)) ∙ not-found (rowsAt old p) f e (r .0) (r .1)
+
+  an-edge : (p : OldPlace) (f : Operation → Bool) (k : ℕ) → find (rowsAt old p) f ≡ some k → (k < size (rowsAt old p)) × (f (operation (rowsAt old p) k) ≡ true)
+  an-edge p f k e = let r = found (rowsAt old p) f {P = λ o. f o ≡ true} (λ o h. h) .of k e in (r .inside, r .fits)
+
+  -- ---- lines 5 to 10
+  module _ (p : OldPlace) (s : ℕ) (o : Operation) (b : s < 2 ^ 64) (a : o .a < 64) (t : isAssignment o ≡ true) where
+    lines5to10 : (x : Option ℕ) → find (rowsAt old p) (λ o′. same o′ o) ≡ x → Lines5to18 old p s o (some (assigned old (record { place = p; set = s }) o x))
+    unfolding assigned rewritten
+    lines5to10 none e = line10 t (λ q E. T-true (sym (no-edge p (λ o′. same o′ o) e o q E) ∙ same-self o)) (is-with s (o .a))
+    lines5to10 (some k) e = go (meets s (readSet o)) refl
+      where
+        edge : InG old p o (oldTo (rowsAt old p) k)
+        edge =
+            let r = an-edge p (λ o′. same o′ o) k e in
+            subst (λ (o′ : Operation). InG old p o′ (oldTo (rowsAt old p) k)) (same→eq (operation (rowsAt old p) k) o (r .1)) (row-edge p k (r .0))
+
+        go : (m : Bool) → meets s (readSet o) ≡ m
+            → Lines5to18 old p s o (some (record { place = oldTo (rowsAt old p) k; set = elim m as (λ _. ℕ) [ true ↦ with s (o .a) | false ↦ without s (o .a) ] }))
+        go true m = lines6·7·9 t edge (meeting s (readSet o) b m) (is-with s (o .a))
+        go false m = lines6·8·9 t edge (not-meeting s (readSet o) m) (is-without s (o .a) a)
+
+  -- ---- lines 12 to 14
+  -- nothing is followed: the test of line 13 fails
+  onward-ends : (h : Spot) → onward old h ≡ none → (o : Operation) (q : OldPlace) → Line13 old (h .place) o q → ⊥
+  unfolding onward along
+  onward-ends h e o q M = go (atAlarm old (h .place)) refl (find (rowsAt old (h .place)) isAssignment) refl e
+    where
+      go : (b : Bool) → atAlarm old (h .place) ≡ b → (x : Option ℕ) → find (rowsAt old (h .place)) isAssignment ≡ x
+          → _≡_ {A = Option Spot} (elim b as (λ _. Option Spot) [ true ↦ none | false ↦ along (h .set) (rowsAt old (h .place)) x ]) none → ⊥
+      go true d x f e = M .not-err (eqb-true (h .place .0) (old .alarm) d)
+      go false d none f e = T-true (sym (no-edge (h .place) isAssignment f o q (M .edge)) ∙ M .assignment)
+      go false d (some k) f e = Option·none-ne-some _ (sym e)
+
+module _ (old : Chart) (F : FaultlessChart old) where
+  -- one row is followed
+  record Goes (h h′ : Spot) : Type 0 where
+    op : Operation
+    line : Line13 old (h .place) op (h′ .place)
+    sets : IsWith (h .set) (op .a) (h′ .set)
+    small : h′ .set < 2 ^ 64
+
+  onward-goes : (h h′ : Spot) → h .set < 2 ^ 64 → onward old h ≡ some h′ → Goes h h′
+  unfolding onward along
+  onward-goes h h′ b e = go (atAlarm old (h .place)) refl (find (rowsAt old (h .place)) isAssignment) refl e
+    where
+      rows : List ℕ
+      rows = rowsAt old (h .place)
+
+      by : (k : ℕ) → atAlarm old (h .place) ≡ false → find rows isAssignment ≡ some k → Goes h (record { place = oldTo rows k; set = with (h .set) (operation rows k .a) })
+      by k d f =
+          let r = an-edge old (h .place) isAssignment k f in
+          record {
+            op = operation rows k;
+            line = record { not-err = eqb-false (h .place .0) (old .alarm) d; edge = row-edge old (h .place) k (r .0); assignment = r .1 };
+            sets = is-with (h .set) (operation rows k .a);
+            small = with-small (h .set) (operation rows k .a) b (row-a old F (h .place .0) k (r .0));
+          }
+
+      go : (b : Bool) → atAlarm old (h .place) ≡ b → (x : Option ℕ) → find rows isAssignment ≡ x
+          → (elim b as (λ _. Option Spot) [ true ↦ none | false ↦ along (h .set) rows x ]) ≡ some h′ → Goes h h′
+      go true d x f e = absurd (Option·none-ne-some h′ e)
+      go false d none f e = absurd (Option·none-ne-some h′ e)
+      go false d (some k) f e = subst (Goes h) (Option·some-injective _ h′ e) (by k d f)
+
+  module _ (ℓ₁ : OldPlace) (start : ℕ) where
+    -- the loop has ended, or has come to a place twice
+    data Walked : Option Spot → Type 0 where
+      came : {h : Spot} → Ended old ℓ₁ start (h .place) (h .set) → h .set < 2 ^ 64 → Walked (some h)
+      twice : {been : Set OldPlace} {p : OldPlace} {s : ℕ} → Loop old ℓ₁ start been p s → p ∈ been → Walked none
+
+    walk : (n met : ℕ) (h : Spot) (been : Set OldPlace) → Loop old ℓ₁ start been (h .place) (h .set) → h .set < 2 ^ 64 → met < 2 ^ 64
+        → ((i : ℕ) → In i met → record { 0 = i } ∈ (been ∪ onlyOld (h .place))) → unmet met < n → Walked (follow old n met h)
+    unfolding follow
+    walk zero met h been L b c m u = absurd (omega arith)
+    walk (suc n) met h been L b c m u = go (λ met′ h′ been′ L′ b′ c′ m′ u′. walk n met′ h′ been′ L′ b′ c′ m′ u′) (onward old h) refl
+      where
+        go : ((met′ : ℕ) (h′ : Spot) (been′ : Set OldPlace) → Loop old ℓ₁ start been′ (h′ .place) (h′ .set) → h′ .set < 2 ^ 64 → met′ < 2 ^ 64
+            → ((i : ℕ) → In i met′ → record { 0 = i } ∈ (been′ ∪ onlyOld (h′ .place))) → unmet met′ < n → Walked (follow old n met′ h′))
+            → (o : Option Spot) → onward old h ≡ o
+            → Walked (elim o as (λ _. Option Spot) [ none ↦ some h | some h′ ↦ elim (meets met (alone (h′ .place .0))) as (λ _. Option Spot) [ true ↦ none | false ↦ follow old n (with met (h′ .place .0)) h′ ] ])
+        go ih none e = came (record { been = been; loop = L; ends = onward-ends old h e }) b
+        go ih (some h′) e = pick (meets met (alone (h′ .place .0))) refl
+          where
+            G : Goes h h′
+            G = onward-goes h h′ b e
+
+            more : Set OldPlace
+            more = been ∪ onlyOld (h .place)
+
+            L′ : Loop old ℓ₁ start more (h′ .place) (h′ .set)
+            L′ = line14 L (G .line) (G .sets)
+
+            pick : (k : Bool) → meets met (alone (h′ .place .0)) ≡ k → Walked (elim k as (λ _. Option Spot) [ true ↦ none | false ↦ follow old n (with met (h′ .place .0)) h′ ])
+            pick true t = twice L′ (let r = meet-some met (alone (h′ .place .0)) c t in m (h′ .place .0) (subst (λ (i : ℕ). In i met) (alone-only (r .0) (h′ .place .0) (r .3)) (r .2)))
+            pick false t =
+                ih (with met (h′ .place .0)) h′ more L′ (G .small) (with-small met (h′ .place .0) c below)
+                (λ i k. ⊎-elim (λ z. in-second (more (record { 0 = i })) _ (onlyOld-is (h′ .place) i z)) (λ z. in-first (more (record { 0 = i })) _ (m i z)) (with-only i met (h′ .place .0) k))
+                (omega (arith, unmet-less met (h′ .place .0) below (λ z. meet-none met (alone (h′ .place .0)) (h′ .place .0) t z (alone-here (h′ .place .0)))))
+              where
+                below : h′ .place .0 < 64
+                below = onward-below old F h .of h′ e
+
+  -- ---- lines 15 to 18
+  module _ (words : Words (old .table)) (ℓ₁ : OldPlace) (start : ℕ) (o : Operation) (fits : Operands o) (t : isAssignment o ≡ false) (h : Spot) (E : Ended old ℓ₁ start (h .place) (h .set)) (b : h .set < 2 ^ 64) where
+    rows : List ℕ
+    rows = rowsAt old (h .place)
+
+    edge-operands : (p : OldPlace) (op : Operation) (q : OldPlace) → InG old p op q → Operands op
+    edge-operands p op q e = subst Operands (e .operation) (operands old F (words .small) (e .row) (e .there))
+
+    -- an edge that leaves ℓ_p has an assumption: else the loop would not have ended
+    edge-assumes : (op : Operation) (q : OldPlace) → h .place .0 ≢ old .alarm → InG old (h .place) op q → isAssumption op ≡ true
+    edge-assumes op q n e = known (kind (op .code)) (subst (λ (f : Operation). isKnown f ≡ true) (e .operation) (F .rows (e .row) (e .there) .known)) (λ a. E .ends op q (record { not-err = n; edge = e; assignment = a }))
+      where
+        known : (k : Kind) → byKind k true true true false ≡ true → (byKind k true false false false ≡ true → ⊥) → byKind k false true true false ≡ true
+        known Assignment a f = absurd (f refl)
+        known ConstantComparison a f = refl
+        known VariableComparison a f = refl
+        known Unknown a f = absurd (T-true a)
+
+    -- op' implies op and can hold
+    implied-so : (op : Operation) → Operands op → isImplied (implication o op) ≡ true → Implies o op × (NeverHolds o → ⊥)
+    implied-so op G e = go (implication o op) (implication-means o op fits G) e
+      where
+        go : (r : Implication) → Means r o op → isImplied r ≡ true → Implies o op × (NeverHolds o → ⊥)
+        go Never m e = absurd (T-true e)
+        go Implied m e = (m .1, m .0)
+        go NotImplied m e = absurd (T-true e)
+
+    so-implied : (op : Operation) → Operands op → Implies o op → (NeverHolds o → ⊥) → isImplied (implication o op) ≡ true
+    so-implied op G i n = go (implication o op) (implication-means o op fits G)
+      where
+        go : (r : Implication) → Means r o op → isImplied r ≡ true
+        go Never m = absurd (n m)
+        go Implied m = refl
+        go NotImplied m = absurd (m .1 i)
+
+    passes : Operation → Bool
+    passes op = isAssumption op && isImplied (implication o op)
+
+    no-match : (x : Option ℕ) → matching rows o ≡ none → h .place .0 ≢ old .alarm → (op : Operation) (q : OldPlace) → Line15 old (h .place) o op q → ⊥
+    unfolding matching rows passes
+    no-match x e n op q M =
+        let z = both-missing (find rows (λ o′. same o′ o)) (find rows passes) e in
+        ⊎-elim (λ i. T-true (sym (no-edge old (h .place) (λ o′. same o′ o) (z .0) op q (M .edge)) ∙ rw i (same-self o)))
+        (λ i. T-true (sym (no-edge old (h .place) passes (z .1) op q (M .edge)) ∙ rw (edge-assumes op q n (M .edge), so-implied op (edge-operands (h .place) op q (M .edge)) (i .0) (i .1)))) (M .matches)
+
+    a-match : (k : ℕ) → matching rows o ≡ some k → h .place .0 ≢ old .alarm → Line15 old (h .place) o (operation rows k) (oldTo rows k)
+    unfolding matching rows passes
+    a-match k e n = go (find rows (λ o′. same o′ o)) refl e
+      where
+        go : (x : Option ℕ) → find rows (λ o′. same o′ o) ≡ x → orElse x (find rows passes) ≡ some k → Line15 old (h .place) o (operation rows k) (oldTo rows k)
+        go none f e =
+            let r = an-edge old (h .place) passes k e in
+            let g = row-edge old (h .place) k (r .0) in
+            record { not-err = n; edge = g; matches = inr (implied-so (operation rows k) (edge-operands (h .place) (operation rows k) (oldTo rows k) g) (and-true (isAssumption (operation rows k)) _ (r .1) .1)) }
+        go (some j) f e =
+            let r = an-edge old (h .place) (λ o′. same o′ o) k (f ∙ e) in
+            record { not-err = n; edge = row-edge old (h .place) k (r .0); matches = inl (same→eq (operation rows k) o (r .1)) }
+
+    lines15to18 : (x : Option ℕ) → counterpart old (h .place) o ≡ x → Lines5to18 old ℓ₁ start o (assumed old h o x)
+    unfolding counterpart assumed matched rows
+    lines15to18 x e = go (atAlarm old (h .place)) refl x e
+      where
+        meets-either : (k : ℕ) → (m m′ : Bool) → meets (h .set) (readSet o) ≡ m → meets (h .set) (readSet (operation rows k)) ≡ m′ → Line15 old (h .place) o (operation rows k) (oldTo rows k)
+            → Lines5to18 old ℓ₁ start o (when (not (m || m′)) (record { place = oldTo rows k; set = h .set }))
+        meets-either k true m′ d f M = line16 t E M (inr (meeting (h .set) (readSet o) b d))
+        meets-either k false true d f M = line16 t E M (inl (meeting (h .set) (readSet (operation rows k)) b f))
+        meets-either k false false d f M =
+            line17 t E M (λ z. ⊎-elim (λ y. not-meeting (h .set) (readSet (operation rows k)) f y) (λ y. not-meeting (h .set) (readSet o) d y) z)
+
+        go : (a : Bool) → atAlarm old (h .place) ≡ a → (x : Option ℕ) → _≡_ {A = Option ℕ} (elim a as (λ _. Option ℕ) [ true ↦ none | false ↦ matching rows o ]) x → Lines5to18 old ℓ₁ start o (assumed old h o x)
+        go true a none e = line18 t E (λ op q M. M .not-err (eqb-true (h .place .0) (old .alarm) a))
+        go true a (some k) e = absurd (Option·none-ne-some k e)
+        go false a none e = line18 t E (no-match none e (eqb-false (h .place .0) (old .alarm) a))
+        go false a (some k) e = meets-either k (meets (h .set) (readSet o)) (meets (h .set) (readSet (operation rows k))) refl refl (a-match k e (eqb-false (h .place .0) (old .alarm) a))
+
+  -- ---- all of them
+  pub step-lines : Words (old .table) → (p : OldPlace) (s : ℕ) (o : Operation) → p .0 < 64 → s < 2 ^ 64 → Operands o → Lines5to18 old p s o (moved old (record { place = p; set = s }) o)
+  unfolding moved followed with joined
+  step-lines words p s o l b fits = go (isAssignment o) refl
+    where
+      h : Spot
+      h = record { place = p; set = s }
+
+      few : unmet (alone (p .0)) < 64
+      few =
+          let u = unmet-less 0 (p .0) l (λ i. let z = bit-none (p .0) in omega arith) in
+          let e : with 0 (p .0) ≡ alone (p .0) = or-zero-l (alone (p .0)) in
+          let w : unmet (alone (p .0)) < unmet 0 = rw e at u in
+          omega (arith, unmet-most 0)
+
+      on : isAssignment o ≡ false → {x : Option Spot} → Walked p s x → Lines5to18 old p s o (elim x [ none ↦ none | some h′ ↦ assumed old h′ o (counterpart old (h′ .place) o) ])
+      on t (came {h = h′} E c) = lines15to18 words p s o fits t h′ E c (counterpart old (h′ .place) o) refl
+      on t (twice L i) = cut t L i
+
+      go : (a : Bool) → isAssignment o ≡ a
+          → Lines5to18 old p s o (elim a as (λ _. Option Spot) [
+            | true ↦ some (assigned old h o (find (rowsAt old p) (λ o′. same o′ o)))
+            | false ↦ elim (followed old h) as (λ _. Option Spot) [ none ↦ none | some h′ ↦ assumed old h′ o (counterpart old (h′ .place) o) ]
+          ])
+      go true t = lines5to10 old p s o b (fits .a) t (find (rowsAt old p) (λ o′. same o′ o)) refl
+      go false t =
+          on t (walk p s 64 (alone (p .0)) h ∅ line12 b (alone-small (p .0) l) (λ i k. onlyOld-is p i (alone-only i (p .0) k)) few)

@@ -1,0 +1,90 @@
+-- Lines 5 to 18 of the source's Algorithm 2, line by line: what PROCESS is called with for a pair (ℓ_1, ℓ'_1), V_δ of the pair, and an edge of
+-- the new chart with operation op', over the source's own words: edges of G, members of sets, and values that meet an assumption.
+use mathlib.Core.Path.{_≡_}
+use mathlib.Core.Bool.{true, false}
+use mathlib.Core.Logic.{_⊎_, _≢_, _↔_}
+use mathlib.Core.Option.{Option, none, some}
+use Prim.Native.Nat.{ℕ, _<_}
+use lib.Dec.{eqb}
+use Rattle.chart.specs.declared.operations.Operation.{Operation}
+use Rattle.chart.specs.declared.places.OldPlace.{OldPlace}
+use Rattle.chart.specs.Assumptions.{NeverHolds, Implies}
+use Rattle.chart.specs.Charts.{Chart, size, from, to, operation}
+use Rattle.chart.specs.Operations.{isAssignment}
+use Rattle.align.specs.declared.spots.Spot.{Spot}
+use Rattle.align.specs.Sets.{bit, readSet}
+use Rattle.paper.specs.Nodes.{Set, _∈_, ∅, _∪_}
+
+-- ---- sets of the variables v0 to v63: "bit i for vi"
+abbrev pub Has : ℕ → ℕ → Type 0
+Has s i = bit s i ≡ 1
+
+-- s ∩ t ≠ ∅
+pub record Meet (s t : ℕ) : Type 0 where
+  pub variable : ℕ
+  pub below : variable < 64
+  pub first : Has s variable
+  pub second : Has t variable
+
+-- t is s ∪ {v}, or s \ {v}; {a} is what an assignment writes (wrt), and `readSet` what an operation reads (rd)
+abbrev pub IsWith : ℕ → ℕ → ℕ → Type 0
+IsWith s v t = (i : ℕ) → i < 64 → Has t i ↔ (Has s i ⊎ (i ≡ v))
+
+abbrev pub IsWithout : ℕ → ℕ → ℕ → Type 0
+IsWithout s v t = (i : ℕ) → i < 64 → Has t i ↔ (Has s i × (i ≢ v))
+
+-- {ℓ}
+unfoldable pub onlyOld : OldPlace → Set OldPlace
+onlyOld p q = eqb (p .0) (q .0)
+
+module _ (old : Chart) where
+  -- (ℓ, op, ℓ_2) ∈ G: a row of the old chart
+  pub record InG (ℓ : OldPlace) (op : Operation) (ℓ₂ : OldPlace) : Type 0 where
+    pub row : ℕ
+    pub there : row < size (old .table)
+    pub from : from (old .table) row ≡ ℓ .0
+    pub operation : operation (old .table) row ≡ op
+    pub to : to (old .table) row ≡ ℓ₂ .0
+
+  -- the test of line 13: ℓ_p ≠ ℓ_err ∧ ∃ (ℓ_p, op_a, ℓ_s) ∈ G : op_a is assignment
+  pub record Line13 (ℓₚ : OldPlace) (opₐ : Operation) (ℓₛ : OldPlace) : Type 0 where
+    pub not-err : ℓₚ .0 ≢ old .alarm
+    pub edge : InG ℓₚ opₐ ℓₛ
+    pub assignment : isAssignment opₐ ≡ true
+
+  module _ (ℓ₁ : OldPlace) (Vδ : ℕ) where
+    -- lines 12 to 14: ℓ_p and V_diff after some turns of the loop, and the places where ℓ_p has been before
+    pub data Loop : Set OldPlace → OldPlace → ℕ → Type 0 where
+      line12 : Loop ∅ ℓ₁ Vδ
+      line14 : {been : Set OldPlace} {ℓₚ ℓₛ : OldPlace} {Vdiff Vdiff′ : ℕ} {opₐ : Operation} → Loop been ℓₚ Vdiff → Line13 ℓₚ opₐ ℓₛ → IsWith Vdiff (opₐ .a) Vdiff′
+          → Loop (been ∪ onlyOld ℓₚ) ℓₛ Vdiff′
+
+    -- the loop has ended
+    pub record Ended (ℓₚ : OldPlace) (Vdiff : ℕ) : Type 0 where
+      pub been : Set OldPlace
+      pub loop : Loop been ℓₚ Vdiff
+      pub ends : (opₐ : Operation) (ℓₛ : OldPlace) → Line13 ℓₚ opₐ ℓₛ → ⊥
+
+  -- the test of line 15. op' ≢ false: some values meet it
+  pub record Line15 (ℓₚ : OldPlace) (op′ op : Operation) (ℓ₂ : OldPlace) : Type 0 where
+    pub not-err : ℓₚ .0 ≢ old .alarm
+    pub edge : InG ℓₚ op ℓ₂
+    pub matches : (op ≡ op′) ⊎ (Implies op′ op × (NeverHolds op′ → ⊥))
+
+  -- What PROCESS is called with: nothing for ℓ'_2 (line 16), else ℓ of the pair (ℓ, ℓ'_2), and V_diff. Line 5 tells assignments, line 11 the others
+  pub data Lines5to18 (ℓ₁ : OldPlace) (Vδ : ℕ) (op′ : Operation) : Option Spot → Type 0 where
+    lines6·7·9 : {ℓ₂ : OldPlace} {Vdiff : ℕ} → isAssignment op′ ≡ true → InG ℓ₁ op′ ℓ₂ → Meet Vδ (readSet op′) → IsWith Vδ (op′ .a) Vdiff
+        → Lines5to18 ℓ₁ Vδ op′ (some (record { place = ℓ₂; set = Vdiff }))
+    lines6·8·9 : {ℓ₂ : OldPlace} {Vdiff : ℕ} → isAssignment op′ ≡ true → InG ℓ₁ op′ ℓ₂ → (Meet Vδ (readSet op′) → ⊥) → IsWithout Vδ (op′ .a) Vdiff
+        → Lines5to18 ℓ₁ Vδ op′ (some (record { place = ℓ₂; set = Vdiff }))
+    line10 : {Vdiff : ℕ} → isAssignment op′ ≡ true → ((ℓ₂ : OldPlace) → InG ℓ₁ op′ ℓ₂ → ⊥) → IsWith Vδ (op′ .a) Vdiff
+        → Lines5to18 ℓ₁ Vδ op′ (some (record { place = ℓ₁; set = Vdiff }))
+    line16 : {ℓₚ ℓ₂ : OldPlace} {Vdiff : ℕ} {op : Operation} → isAssignment op′ ≡ false → Ended ℓ₁ Vδ ℓₚ Vdiff → Line15 ℓₚ op′ op ℓ₂ → Meet Vdiff (readSet op) ⊎ Meet Vdiff (readSet op′)
+        → Lines5to18 ℓ₁ Vδ op′ none
+    line17 : {ℓₚ ℓ₂ : OldPlace} {Vdiff : ℕ} {op : Operation} → isAssignment op′ ≡ false → Ended ℓ₁ Vδ ℓₚ Vdiff → Line15 ℓₚ op′ op ℓ₂ → (Meet Vdiff (readSet op) ⊎ Meet Vdiff (readSet op′) → ⊥)
+        → Lines5to18 ℓ₁ Vδ op′ (some (record { place = ℓ₂; set = Vdiff }))
+    line18 : {ℓₚ : OldPlace} {Vdiff : ℕ} → isAssignment op′ ≡ false → Ended ℓ₁ Vδ ℓₚ Vdiff → ((op : Operation) (ℓ₂ : OldPlace) → Line15 ℓₚ op′ op ℓ₂ → ⊥)
+        → Lines5to18 ℓ₁ Vδ op′ (some (record { place = ℓₚ; set = Vdiff }))
+    -- document 01's cut of line 13, whose loop need not end: "Coming to a place twice here is a failed step."
+    cut : {been : Set OldPlace} {ℓₚ : OldPlace} {Vdiff : ℕ} → isAssignment op′ ≡ false → Loop ℓ₁ Vδ been ℓₚ Vdiff → ℓₚ ∈ been
+        → Lines5to18 ℓ₁ Vδ op′ none
