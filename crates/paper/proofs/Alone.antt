@@ -1,24 +1,21 @@
 -- The lone kept start is the difference graph that line 19 returns, with its condition. Assumes nothing.
-use mathlib.Core.Path.{_≡_, refl, sym, ap, subst, _∙_}
-use mathlib.Core.Bool.{Bool, true, false}
-use mathlib.Core.Logic.{_⊎_, inl, inr, ⊎-elim, _↔_, _≢_}
-use Prim.Native.Nat.{ℕ, _<_}
+use mathlib.Core.Path.{_≡_, refl, sym, ap, subst}
+use mathlib.Core.Logic.{_⊎_, inr, ⊎-elim, _≢_}
+use Prim.Native.Nat.{ℕ}
 use native.Mathlib.Omega.{arith}
-use native.Mathlib.Decide.{ℕ-discrete}
 use lib.ListN.{set, replicate}
 use Rattle.base.proofs.Tests.{T-true}
 use Rattle.base.proofs.Walks.{zeros-at, same-at}
-use Rattle.chart.specs.declared.places.NewPlace.{NewPlace}
 use Rattle.chart.specs.Places.{keptNumber}
 use Rattle.chart.specs.Charts.{Chart}
-use Rattle.checker.specs.Records.{Record, recordOf, mark, target, index}
+use Rattle.checker.specs.Records.{Record, recordOf, mark, index}
 use Rattle.builder.specs.Graphs.{firstKept}
-use Rattle.builder.proofs.Ones.{one-there, one-other, one-only}
-use Rattle.paper.specs.Nodes.{Set, _∈_, _∉_, Pair, Node, aligned, indicator, Edge, onlyNode, number, nodeNumber, NodeNumbered}
+use Rattle.builder.proofs.Ones.{one-there, one-only}
+use Rattle.paper.specs.Nodes.{Set, _∈_, Pair, Node, aligned, indicator, Edge, onlyNode, number, nodeNumber, NodeNumbered}
 use Rattle.paper.specs.Algorithm2.{lone}
-use Rattle.paper.specs.Algorithm1.{Search, F, Transition}
+use Rattle.paper.specs.Algorithm1.{Search}
 use Rattle.paper.specs.Returned.{Marked, Targeted, IsGraph, IsCondition}
-use Rattle.paper.proofs.Members.{in-first, not-in, in-or-not, only-node, the-node, number-below}
+use Rattle.paper.proofs.Members.{in-first, only-node, the-node, number-below}
 use Rattle.paper.proofs.Searching.{within, first-found, node-below}
 
 module _ (old new : Chart) where

@@ -1,17 +1,16 @@
 -- The marks of a build are the condition that lines 6 and 7 of Algorithm 1 make of the graph, whichever nodes line 3 popped. Assumes nothing.
 use mathlib.Core.Path.{_≡_, refl, sym, ap, subst, _∙_}
-use mathlib.Core.Bool.{Bool, true, false, _||_}
-use mathlib.Core.Logic.{_⊎_, inl, inr, ⊎-elim, dite, _↔_, _≢_}
-use Prim.Native.Nat.{ℕ, _%_, _≤_, _<_}
+use mathlib.Core.Bool.{true, false}
+use mathlib.Core.Logic.{_⊎_, inl, inr, ⊎-elim, dite, _≢_}
+use Prim.Native.Nat.{ℕ, _≤_, _<_}
 use native.Mathlib.Omega.{arith}
 use native.Mathlib.Decide.{decLt}
-use lib.ListN.{getD, List·getD-eq-default}
+use lib.ListN.{List·getD-eq-default}
 use Rattle.base.proofs.Tests.{T-true}
 use Rattle.chart.specs.Places.{keptNumber, newOf}
 use Rattle.chart.specs.Charts.{Chart}
 use Rattle.chart.specs.Faultless.{FaultlessChart}
-use Rattle.align.specs.Steps.{moved}
-use Rattle.checker.specs.Records.{mark, target, index}
+use Rattle.checker.specs.Records.{mark, target}
 use Rattle.checker.specs.Rules.{headOf}
 use Rattle.checker.specs.Promise.{Words}
 use Rattle.builder.specs.Graphs.{firstPair}
@@ -19,16 +18,16 @@ use Rattle.builder.specs.Turns.{explored}
 use Rattle.builder.specs.Builds.{finalTargets, alone}
 use Rattle.builder.proofs.Graphs.{markAt}
 use Rattle.builder.proofs.Invariant.{explored-inv}
-use Rattle.builder.proofs.Least.{Closed, Reached}
+use Rattle.builder.proofs.Least.{Closed}
 use Rattle.builder.proofs.Marks.{rank-pair}
 use Rattle.builder.proofs.Demand3.{marks, left, final}
 use Rattle.builder.proofs.Right.{open-closed, open-least, covered-only, covered-all}
 use Rattle.paper.specs.Nodes.{Set, _∈_, _∉_, Pair, Node, aligned, indicator, Edge, edge, onlyNode, number, nodeNumber, pairOf, Numbered, NodeNumbered}
 use Rattle.paper.specs.Algorithm2.{DifferenceGraph, nodes, indicators, whole}
-use Rattle.paper.specs.Algorithm1.{Precedes, Search, F, Transition}
+use Rattle.paper.specs.Algorithm1.{Search, F, Transition}
 use Rattle.paper.specs.Returned.{Marked, Targeted, IsGraph, IsCondition}
-use Rattle.paper.proofs.Members.{in-either, in-first, in-second, not-in, in-or-not, the-node, pair-is, number-is, number-below, numbered}
-use Rattle.paper.proofs.Searching.{within, first-found, closed, node-below}
+use Rattle.paper.proofs.Members.{in-first, in-second, not-in, in-or-not, the-node, pair-is, number-is, number-below, numbered}
+use Rattle.paper.proofs.Searching.{within, first-found, closed}
 use Rattle.paper.proofs.Returning.{last, built-graph, target-fits, left-mark, whole-graph}
 
 module _ (old new : Chart) (F′ : FaultlessChart old) (H : FaultlessChart new) (wo : Words (old .table)) (wn : Words (new .table)) (joint : alone (headOf old) (headOf new) (explored old new .marks) ≡ false) where

@@ -1,6 +1,6 @@
 -- The targets between turns, read as the source's E_l; and what each part of a turn does to both. E_l keeps every edge that it ever had, and
 -- the targets only the last one of a pair of the graph by each row. Assumes nothing.
-use mathlib.Core.Path.{_≡_, refl, sym, ap, subst, _∙_}
+use mathlib.Core.Path.{_≡_, sym, subst, _∙_}
 use mathlib.Core.Bool.{false, _||_, or-true}
 use mathlib.Core.Logic.{_⊎_, inl, inr, ⊎-elim, dite}
 use mathlib.Core.List.{List}
@@ -18,10 +18,10 @@ use Rattle.chart.specs.Charts.{Chart, size, to, operation, leaving}
 use Rattle.checker.specs.Records.{index}
 use Rattle.builder.specs.Graphs.{Graph, Sized, keep, aim}
 use Rattle.builder.specs.Turns.{leadsTo}
-use Rattle.builder.proofs.Graphs.{markAt, keep-target-other, aimed, by-aim}
+use Rattle.builder.proofs.Graphs.{markAt, keep-target-other, by-aim}
 use Rattle.paper.specs.Nodes.{Set, _∈_, _∉_, _∪_, Pair, Node, aligned, indicator, Edge, edge, onlyPlace, onlyEdge, pairOf}
 use Rattle.paper.proofs.Successors.{successor}
-use Rattle.paper.proofs.Members.{in-either, in-first, in-neither, not-in, only-edge, the-edge, other-edge, other-pair}
+use Rattle.paper.proofs.Members.{in-either, in-first, in-neither, only-edge, the-edge, other-edge, other-pair}
 
 module _ (old new : Chart) where
   -- an edge leads where its row does: to a place of Δ, or to the one successor that the pair has by it

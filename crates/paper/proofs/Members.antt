@@ -1,6 +1,6 @@
 -- Members of the source's sets, and the numbers of nodes. Assumes nothing.
 use mathlib.Core.Path.{_≡_, refl, sym, ap, ap₂, _∙_}
-use mathlib.Core.Bool.{Bool, true, false, _&&_, _||_}
+use mathlib.Core.Bool.{Bool, true, false, _||_}
 use mathlib.Core.Logic.{_⊎_, inl, inr, dite}
 use Prim.Native.Nat.{ℕ, _/_, _%_, _<_}
 use native.Mathlib.Omega.{arith}
@@ -9,7 +9,7 @@ use borrow.Author.Tests.{eq-eqb, ne-eqb, eqb-true}
 use lib.Dec.{eqb}
 use Rattle.base.proofs.Tests.{T-true, and-true, and-false}
 use Rattle.chart.specs.declared.places.NewPlace.{NewPlace}
-use Rattle.paper.specs.Nodes.{Set, _∈_, _∉_, _∪_, Pair, pair, Node, aligned, indicator, Edge, edge, onlyPlace, onlyPair, onlyNode, onlyEdge, number, pairOf, Numbered}
+use Rattle.paper.specs.Nodes.{_∈_, _∉_, Pair, pair, Node, aligned, indicator, Edge, edge, onlyPlace, onlyPair, onlyNode, onlyEdge, number, pairOf, Numbered}
 
 -- ---- unions
 pub in-either : (a b : Bool) → a || b ≡ true → (a ≡ true) ⊎ (b ≡ true)

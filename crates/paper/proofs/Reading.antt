@@ -1,9 +1,9 @@
 -- The four buffers between turns, read as the source's variables; and what each part of a turn does to both. Assumes nothing.
 use mathlib.Core.Path.{_≡_, refl, sym, ap, subst, _∙_}
 use mathlib.Core.Bool.{Bool, true, false, _&&_, _||_, not, and-true as and-yes, or-false as or-none, or-true}
-use mathlib.Core.Logic.{_⊎_, inl, inr, ⊎-elim, dite}
+use mathlib.Core.Logic.{_⊎_, ⊎-elim, dite}
 use mathlib.Core.List.{List}
-use Prim.Native.Nat.{ℕ, _/_, _%_, _^_, _<_}
+use Prim.Native.Nat.{ℕ, _%_, _<_}
 use native.Mathlib.Omega.{arith}
 use native.Mathlib.Decide.{ℕ-discrete}
 use borrow.Author.Tests.{eq-eqb, ne-eqb, eqb-true, eqb-false}
@@ -13,16 +13,13 @@ use lib.Seq.{getD-set-same, getD-set-other}
 use Rattle.base.proofs.Tests.{and-true, and-false, or-false}
 use Rattle.chart.specs.declared.places.NewPlace.{NewPlace}
 use Rattle.chart.specs.Places.{keptNumber, newOf}
-use Rattle.chart.specs.Charts.{Chart, size, operation}
+use Rattle.chart.specs.Charts.{Chart}
 use Rattle.align.specs.Sets.{joined}
-use Rattle.checker.specs.Records.{index}
-use Rattle.builder.specs.Graphs.{Graph, Sized, marked, keep, aim, due, join, unwait}
-use Rattle.builder.specs.Turns.{rowsOf, leadsTo}
-use Rattle.builder.proofs.Graphs.{markAt, setAt, waitAt, targetAt, Shaped, marked-yes, marked-no, marked-same, keep-node, keep-nodes, keep-mark, keep-wait, keep-mark-other, keep-set-other, keep-wait-other, keep-target-other, aimed, by-aim, join-mark, join-set, join-due, join-not-due, join-mark-other, join-set-other, join-wait-other, join-target}
-use Rattle.paper.specs.Nodes.{Set, _∈_, _∉_, _∪_, Pair, pair, Node, aligned, indicator, Edge, edge, onlyPlace, onlyPair, onlyEdge, withPlace, number, pairOf, Numbered}
+use Rattle.builder.specs.Graphs.{Graph, Sized, marked, keep, due, join, unwait}
+use Rattle.builder.proofs.Graphs.{setAt, marked-yes, marked-no, marked-same, keep-node, keep-nodes, keep-mark, keep-wait, keep-mark-other, keep-set-other, keep-wait-other, join-mark, join-set, join-due, join-not-due, join-mark-other, join-set-other, join-wait-other}
+use Rattle.paper.specs.Nodes.{Set, _∈_, _∉_, _∪_, Pair, onlyPlace, onlyPair, withPlace, pairOf, Numbered}
 use Rattle.paper.specs.Algorithm2.{State, toPlace, line29, toPair, popped}
-use Rattle.paper.proofs.Successors.{successor}
-use Rattle.paper.proofs.Members.{in-either, in-first, in-neither, not-in, only-pair, the-pair, only-place, only-edge, the-edge, other-edge, numbered, same-pair, other-pair}
+use Rattle.paper.proofs.Members.{in-either, only-pair, numbered, same-pair, other-pair}
 
 -- ---- waitlist, N_l, Δ and V_δ
 -- the buffers clear the sets of pairs that leave the graph, and V_δ does not: they are the same where the new place is not kept

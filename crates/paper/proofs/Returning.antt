@@ -1,22 +1,20 @@
 -- What a build leaves, unless the start is the lone kept node, is the difference graph that lines 20 and 21 return. Assumes nothing.
-use mathlib.Core.Path.{_≡_, refl, sym, ap, ap₂, subst, _∙_}
-use mathlib.Core.Bool.{Bool, true, false, not}
-use mathlib.Core.Logic.{_⊎_, inl, inr, ⊎-elim, dite, _↔_, _≢_}
+use mathlib.Core.Path.{_≡_, refl, sym, ap, subst, _∙_}
+use mathlib.Core.Bool.{Bool, true, false}
+use mathlib.Core.Logic.{_⊎_, inl, inr, ⊎-elim, dite, _≢_}
 use mathlib.Core.List.{List}
-use Prim.Native.Nat.{ℕ, _%_, _≤_, _<_}
+use Prim.Native.Nat.{ℕ, _%_, _<_}
 use native.Mathlib.Omega.{arith}
 use native.Mathlib.Decide.{ℕ-discrete, decLt}
 use borrow.Author.Tests.{ltb-true, ltb-false}
 use lib.Dec.{ltb}
 use lib.ListN.{getD, List·getD-map}
-use Rattle.base.specs.Says.{bool}
 use Rattle.base.proofs.Tests.{T-true, or-false}
 use Rattle.chart.specs.declared.places.NewPlace.{NewPlace}
 use Rattle.chart.specs.declared.places.OldPlace.{OldPlace}
-use Rattle.chart.specs.Places.{keptNumber, oldOf, newOf}
+use Rattle.chart.specs.Places.{keptNumber, newOf}
 use Rattle.chart.specs.Charts.{Chart, size}
 use Rattle.chart.specs.Faultless.{FaultlessChart}
-use Rattle.align.specs.Steps.{moved}
 use Rattle.align.proofs.Parts.{two-at-most}
 use Rattle.checker.specs.Records.{Record, recordOf, mark, target, index}
 use Rattle.checker.specs.Rules.{headOf}
@@ -24,15 +22,14 @@ use Rattle.checker.specs.Promise.{Words}
 use Rattle.builder.specs.Graphs.{firstPair, firstKept, marked}
 use Rattle.builder.specs.Turns.{rowsOf, leadsTo, explored}
 use Rattle.builder.specs.Builds.{redirected, finalTargets, alone}
-use Rattle.builder.proofs.Graphs.{markAt, setAt, targetAt, marked-yes, marked-no, is-marked, not-marked}
-use Rattle.builder.proofs.Turns.{leads-below}
-use Rattle.builder.proofs.Invariant.{Inv, Every, ToKept, ToPair, explored-inv}
+use Rattle.builder.proofs.Graphs.{markAt, targetAt, marked-yes, marked-no, is-marked, not-marked}
+use Rattle.builder.proofs.Invariant.{Inv, Every, ToKept, ToPair}
 use Rattle.builder.proofs.Marks.{rank-there}
 use Rattle.builder.proofs.Demand3.{marks, left, final}
 use Rattle.paper.specs.Nodes.{_∈_, _∉_, Pair, pair, Node, aligned, indicator, Edge, edge, number, nodeNumber, pairOf, Numbered, NodeNumbered}
 use Rattle.paper.specs.Algorithm2.{State, nodes, indicators, Replaced, Line20, whole}
 use Rattle.paper.specs.Returned.{Marked, Targeted, IsGraph}
-use Rattle.paper.proofs.Members.{not-in, in-or-not, pair-is, number-below, numbered}
+use Rattle.paper.proofs.Members.{not-in, pair-is, number-below}
 use Rattle.paper.proofs.Edges as reading
 use Rattle.paper.proofs.Rounds.{Ran, explored-ran}
 use Rattle.paper.proofs.Searching.{node-below}

@@ -1,49 +1,46 @@
 -- A turn of a build is one round of Algorithm 2's loop, lines 3 to 18, and all turns are one run of it. Assumes nothing.
 use mathlib.Core.Path.{_≡_, refl, sym, ap, subst, _∙_}
 use mathlib.Core.Bool.{Bool, true, false, _&&_, _||_, not, or-true}
-use mathlib.Core.Logic.{_⊎_, inl, inr, ⊎-elim, dite}
+use mathlib.Core.Logic.{inl, inr, dite}
 use mathlib.Core.Option.{Option, none, some, Option·none-ne-some, Option·some-injective}
 use Prim.Native.Nat.{ℕ, zero, suc, _%_, _^_, _≤_, _<_}
 use native.Mathlib.Omega.{arith}
 use native.Mathlib.Decide.{ℕ-discrete}
 use borrow.Author.Tests.{lt-ltb, le-ltb}
 use lib.Dec.{eqb}
-use lib.ListN.{getD, set, replicate}
+use lib.ListN.{set, replicate}
 use Rattle.base.proofs.Tests.{T-true}
 use Rattle.base.specs.Options.{when}
-use Rattle.base.specs.Says.{bool}
-use Rattle.base.proofs.Maybe.{All}
 use Rattle.base.proofs.Repeat.{repeated-keeps}
 use Rattle.base.proofs.Walks.{zeros-at, same-at}
-use Rattle.chart.specs.declared.operations.Operation.{Operation}
 use Rattle.chart.specs.declared.places.NewPlace.{NewPlace}
 use Rattle.chart.specs.Places.{pairNumber, keptNumber, oldOf, newOf}
-use Rattle.chart.specs.Charts.{Chart, size, operation, leaving}
+use Rattle.chart.specs.Charts.{Chart, size, operation}
 use Rattle.chart.specs.Assumptions.{Operands}
 use Rattle.chart.specs.Faultless.{FaultlessChart}
 use Rattle.align.specs.declared.spots.Spot.{Spot}
-use Rattle.align.specs.Steps.{moved, fair, arrived, step}
+use Rattle.align.specs.Steps.{moved, arrived, step}
 use Rattle.align.proofs.Parts.{row-of, row-same, operands, two-at-most}
 use Rattle.checker.specs.Records.{index}
 use Rattle.checker.specs.Promise.{Words}
-use Rattle.builder.specs.Graphs.{Graph, firstPair, marked, keep, aim, join, unwait}
+use Rattle.builder.specs.Graphs.{Graph, marked, keep, aim, join, unwait}
 use Rattle.builder.specs.Turns.{rowsOf, leadsTo, next, setNow, begun, stepOf, processed, rowDone, secondDone, taken, explored}
 use Rattle.builder.specs.Turns as turns
 use Rattle.builder.proofs.Ones.{one-there, one-other}
 use Rattle.builder.proofs.Steps.{Fits}
-use Rattle.builder.proofs.Graphs.{markAt, setAt, waitAt, Shaped, marked-yes, marked-no, is-marked, not-marked, keep-node, keep-nodes, keep-mark, keep-mark-other, keep-shaped, aimed, by-aim, join-mark, join-mark-other, join-target, join-shaped, unwait-shaped}
+use Rattle.builder.proofs.Graphs.{markAt, setAt, Shaped, marked-yes, marked-no, not-marked, keep-node, keep-nodes, keep-mark, keep-mark-other, keep-shaped, by-aim, join-mark, join-mark-other, join-target, join-shaped, unwait-shaped}
 use Rattle.builder.proofs.Turns.{set-now, set-had, set-now-small, leads-below, step-of-fits, next-lowest}
 use Rattle.builder.proofs.Measure.{row-lighter}
 use Rattle.builder.proofs.Invariant.{Inv, Every, turn-inv, begun-inv}
-use Rattle.paper.specs.Nodes.{_∈_, _∉_, _∪_, Pair, pair, aligned, indicator, edge, onlyPlace, onlyPair, onlyEdge, pairOf, Numbered}
+use Rattle.paper.specs.Nodes.{_∈_, _∉_, _∪_, Pair, pair, aligned, indicator, edge, onlyPlace, onlyPair, pairOf, Numbered}
 use Rattle.paper.specs.Lines5to18.{Lines5to18}
 use Rattle.paper.specs.Algorithm2.{State, toPlace, line27, toPair, process, called, popped, ForEach, none-yet, one-more, Run, line1, lines3to18}
 use Rattle.paper.specs.Algorithm2 as algorithm2
 use Rattle.paper.proofs.Successors.{successor, one-successor}
-use Rattle.paper.proofs.Members.{in-or-not, only-pair, the-pair, the-place, numbered, pair-is, same-pair, other-pair}
+use Rattle.paper.proofs.Members.{only-pair, the-place, numbered, pair-is, same-pair, other-pair}
 use Rattle.paper.proofs.Stepping.{step-lines}
 use Rattle.paper.proofs.Reading.{Sets, keep-sets, kept-sets, join-sets, pop-sets}
-use Rattle.paper.proofs.Edges.{Onto, Sound, ToKept, ToPair, Edges, keep-edges, aim-edges, added}
+use Rattle.paper.proofs.Edges.{Sound, Edges, keep-edges, aim-edges, added}
 
 -- a store of a target changes nothing else
 module _ (g : Graph) (n r t : ℕ) where

@@ -1,17 +1,16 @@
 -- Algorithm 1's search: it finds the least set that has n_0 and Δ and every node from which one of its nodes is reached by an edge; and on a
 -- graph whose edges are a record's targets it can be run to its end. Assumes nothing.
-use mathlib.Core.Path.{_≡_, refl, sym, ap, subst, _∙_}
+use mathlib.Core.Path.{_≡_, refl, sym, ap, subst}
 use mathlib.Core.Bool.{Bool, true, false, _&&_, _||_, not}
-use mathlib.Core.Logic.{_⊎_, inl, inr, ⊎-elim, dite, _↔_, _≢_}
-use mathlib.Core.Option.{Option, none, some}
-use Prim.Native.Nat.{ℕ, zero, suc, _+_, _%_, _≤_, _<_}
+use mathlib.Core.Logic.{_⊎_, inl, inr, ⊎-elim, _↔_, _≢_}
+use mathlib.Core.Option.{Option, some}
+use Prim.Native.Nat.{ℕ, zero, suc, _+_, _≤_, _<_}
 use native.Mathlib.Omega.{arith}
-use native.Mathlib.Decide.{decLt}
 use borrow.Author.Tests.{eq-eqb, eqb-true, lt-ltb, le-ltb, ltb-true, not-true}
-use lib.Dec.{T, eqb, ltb}
+use lib.Dec.{eqb, ltb}
 use Rattle.base.specs.Options.{when, firstOf}
 use Rattle.base.specs.Repeat.{repeated}
-use Rattle.base.proofs.Maybe.{All, All-when, All-firstOf}
+use Rattle.base.proofs.Maybe.{All-when, All-firstOf}
 use Rattle.base.proofs.Options.{none-of, not-due}
 use Rattle.base.proofs.Repeat.{Falls, rests, repeated-keeps}
 use Rattle.base.proofs.Sums.{sum, sum-lt, sum-most}
@@ -22,7 +21,7 @@ use Rattle.paper.specs.Nodes.{Set, _∈_, _∉_, _∪_, _∖_, Pair, Nod
 use Rattle.paper.specs.Algorithm2.{DifferenceGraph}
 use Rattle.paper.specs.Algorithm1.{Precedes, Turn, Search, line1, lines3to5}
 use Rattle.paper.specs.Returned.{Targeted}
-use Rattle.paper.proofs.Members.{in-either, in-first, in-second, in-neither, not-in, in-or-not, only-node, the-node, pair-is, number-below}
+use Rattle.paper.proofs.Members.{in-either, in-first, in-second, not-in, in-or-not, only-node, the-node, pair-is, number-below}
 
 -- ---- what any search finds
 module _ (G : DifferenceGraph) where
@@ -57,10 +56,10 @@ module _ (G : DifferenceGraph) where
           (in-or-not (onlyNode n x))
 
 -- ---- nodes by number
-nodeOf : ℕ → Node
+pub nodeOf : ℕ → Node
 nodeOf i = elim (ltb i 4096) [ true ↦ aligned (pairOf i) | false ↦ indicator (newOf i) ]
 
-node-is : (x : Node) → NodeNumbered x → nodeOf (nodeNumber x) ≡ x
+pub node-is : (x : Node) → NodeNumbered x → nodeOf (nodeNumber x) ≡ x
 unfolding nodeOf
 node-is (aligned n) B = rw (lt-ltb (number n) 4096 (number-below n B), nodeOf) (ap aligned (pair-is n B))
 node-is (indicator q) b = rw (le-ltb (4096 + q .0) 4096 (omega arith), nodeOf) (ap (λ (y : ℕ). indicator (record { 0 = y })) (omega arith))

@@ -1,6 +1,6 @@
 -- The aligned step is lines 5 to 18 of Algorithm 2, with document 01's cut of line 13. Assumes nothing.
 use mathlib.Core.Path.{_≡_, refl, sym, ap, subst, _∙_}
-use mathlib.Core.Bool.{Bool, true, false, _&&_, _||_, not, or-true}
+use mathlib.Core.Bool.{Bool, true, false, _&&_, _||_, not}
 use mathlib.Core.Logic.{_⊎_, inl, inr, ⊎-elim, dite, _≢_}
 use mathlib.Core.List.{List}
 use mathlib.Core.Option.{Option, none, some, Option·none-ne-some, Option·some-injective}
@@ -8,14 +8,12 @@ use Prim.Native.Nat.{ℕ, zero, suc, _-_, _^_, _≤_, _<_}
 use native.Mathlib.Omega.{arith}
 use native.Mathlib.Decide.{ℕ-discrete}
 use borrow.Author.Tests.{eq-eqb, eqb-true, eqb-false}
-use lib.Dec.{T, eqb}
 use lib.Bits.{or-lt, or-zero-l}
 use lib.Pow.{pow-lt}
 use Rattle.base.specs.Options.{when, orElse}
-use Rattle.base.proofs.Maybe.{All}
 use Rattle.base.proofs.Options.{none-of, not-due, both-missing}
 use Rattle.base.proofs.Sums.{sum, sum-lt, sum-most}
-use Rattle.base.proofs.Tests.{T-true, and-true, or-false}
+use Rattle.base.proofs.Tests.{T-true, and-true}
 use Rattle.chart.specs.declared.operations.Operation.{Operation}
 use Rattle.chart.specs.declared.operations.Kind.{Kind}
 use Rattle.chart.specs.declared.operations.Kind.the-variants.{Assignment, ConstantComparison, VariableComparison, Unknown}
@@ -23,7 +21,7 @@ use Rattle.chart.specs.declared.assumptions.Implication.{Implication}
 use Rattle.chart.specs.declared.assumptions.Implication.the-variants.{Never, Implied, NotImplied}
 use Rattle.chart.specs.declared.places.OldPlace.{OldPlace}
 use Rattle.chart.specs.Assumptions.{NeverHolds, Implies, Means, Operands}
-use Rattle.chart.specs.Charts.{Chart, size, from, to, operation, leaving}
+use Rattle.chart.specs.Charts.{Chart, size, from, to, operation}
 use Rattle.chart.specs.Faultless.{FaultlessChart}
 use Rattle.chart.specs.Operations.{kind, byKind, isKnown, isAssignment, isAssumption, same}
 use Rattle.chart.specs.Trials.{implication}
@@ -32,13 +30,13 @@ use Rattle.align.specs.declared.spots.Spot.{Spot}
 use Rattle.align.specs.Sets.{bit, alone, joined, with, without, meets, readSet}
 use Rattle.align.specs.Steps.{find, oldTo, isImplied, along, matching, matched, rewritten, rowsAt, atAlarm, assigned, onward, follow, followed, counterpart, assumed, moved}
 use Rattle.align.proofs.Sets.{In, bit-none, alone-here, alone-only, with-here, with-old, with-only, without-in, without-kept, meet-some, meet-none}
-use Rattle.align.proofs.Onto.{same→eq, Among, found}
+use Rattle.align.proofs.Onto.{same→eq, found}
 use Rattle.align.proofs.Moves.{onward-below}
 use Rattle.align.proofs.Parts.{before, stands, same-row, row-of, row-same, operands}
 use Rattle.checker.specs.Promise.{Words}
 use Rattle.builder.proofs.Steps.{row-a}
 use Rattle.paper.specs.Nodes.{Set, _∈_, ∅, _∪_}
-use Rattle.paper.specs.Lines5to18.{Has, Meet, IsWith, IsWithout, onlyOld, InG, Line13, Loop, line12, line14, Ended, Line15, Lines5to18, lines6·7·9, lines6·8·9, line10, line16, line17, line18, cut}
+use Rattle.paper.specs.Lines5to18.{Meet, IsWith, IsWithout, onlyOld, InG, Line13, Loop, line12, line14, Lines11to14, Line15, Lines5to18, line7, line8, line10, line16, line17, line18, line13-cut}
 use Rattle.paper.proofs.Members.{in-first, in-second}
 
 -- ---- sets
@@ -114,7 +112,7 @@ module _ (old : Chart) where
   module _ (p : OldPlace) (s : ℕ) (o : Operation) (b : s < 2 ^ 64) (a : o .a < 64) (t : isAssignment o ≡ true) where
     lines5to10 : (x : Option ℕ) → find (rowsAt old p) (λ o′. same o′ o) ≡ x → Lines5to18 old p s o (some (assigned old (record { place = p; set = s }) o x))
     unfolding assigned rewritten
-    lines5to10 none e = line10 t (λ q E. T-true (sym (no-edge p (λ o′. same o′ o) e o q E) ∙ same-self o)) (is-with s (o .a))
+    lines5to10 none e = line10 t (λ q E. T-true (sym (no-edge p (λ o′. same o′ o) e o q (E .edge)) ∙ same-self o)) (is-with s (o .a))
     lines5to10 (some k) e = go (meets s (readSet o)) refl
       where
         edge : InG old p o (oldTo (rowsAt old p) k)
@@ -124,8 +122,8 @@ module _ (old : Chart) where
 
         go : (m : Bool) → meets s (readSet o) ≡ m
             → Lines5to18 old p s o (some (record { place = oldTo (rowsAt old p) k; set = elim m as (λ _. ℕ) [ true ↦ with s (o .a) | false ↦ without s (o .a) ] }))
-        go true m = lines6·7·9 t edge (meeting s (readSet o) b m) (is-with s (o .a))
-        go false m = lines6·8·9 t edge (not-meeting s (readSet o) m) (is-without s (o .a) a)
+        go true m = line7 (record { assignment = t; edge = edge }) (meeting s (readSet o) b m) (is-with s (o .a))
+        go false m = line8 (record { assignment = t; edge = edge }) (not-meeting s (readSet o) m) (is-without s (o .a) a)
 
   -- ---- lines 12 to 14
   -- nothing is followed: the test of line 13 fails
@@ -173,7 +171,7 @@ module _ (old : Chart) (F : FaultlessChart old) where
   module _ (ℓ₁ : OldPlace) (start : ℕ) where
     -- the loop has ended, or has come to a place twice
     data Walked : Option Spot → Type 0 where
-      came : {h : Spot} → Ended old ℓ₁ start (h .place) (h .set) → h .set < 2 ^ 64 → Walked (some h)
+      came : {h : Spot} {been : Set OldPlace} → Loop old ℓ₁ start been (h .place) (h .set) → onward old h ≡ none → h .set < 2 ^ 64 → Walked (some h)
       twice : {been : Set OldPlace} {p : OldPlace} {s : ℕ} → Loop old ℓ₁ start been p s → p ∈ been → Walked none
 
     walk : (n met : ℕ) (h : Spot) (been : Set OldPlace) → Loop old ℓ₁ start been (h .place) (h .set) → h .set < 2 ^ 64 → met < 2 ^ 64
@@ -186,7 +184,7 @@ module _ (old : Chart) (F : FaultlessChart old) where
             → ((i : ℕ) → In i met′ → record { 0 = i } ∈ (been′ ∪ onlyOld (h′ .place))) → unmet met′ < n → Walked (follow old n met′ h′))
             → (o : Option Spot) → onward old h ≡ o
             → Walked (elim o as (λ _. Option Spot) [ none ↦ some h | some h′ ↦ elim (meets met (alone (h′ .place .0))) as (λ _. Option Spot) [ true ↦ none | false ↦ follow old n (with met (h′ .place .0)) h′ ] ])
-        go ih none e = came (record { been = been; loop = L; ends = onward-ends old h e }) b
+        go ih none e = came L e b
         go ih (some h′) e = pick (meets met (alone (h′ .place .0))) refl
           where
             G : Goes h h′
@@ -209,7 +207,7 @@ module _ (old : Chart) (F : FaultlessChart old) where
                 below = onward-below old F h .of h′ e
 
   -- ---- lines 15 to 18
-  module _ (words : Words (old .table)) (ℓ₁ : OldPlace) (start : ℕ) (o : Operation) (fits : Operands o) (t : isAssignment o ≡ false) (h : Spot) (E : Ended old ℓ₁ start (h .place) (h .set)) (b : h .set < 2 ^ 64) where
+  module _ (words : Words (old .table)) (ℓ₁ : OldPlace) (start : ℕ) (o : Operation) (fits : Operands o) (h : Spot) (E : Lines11to14 old ℓ₁ start o (h .place) (h .set)) (b : h .set < 2 ^ 64) where
     rows : List ℕ
     rows = rowsAt old (h .place)
 
@@ -246,18 +244,18 @@ module _ (old : Chart) (F : FaultlessChart old) where
     passes : Operation → Bool
     passes op = isAssumption op && isImplied (implication o op)
 
-    no-match : (x : Option ℕ) → matching rows o ≡ none → h .place .0 ≢ old .alarm → (op : Operation) (q : OldPlace) → Line15 old (h .place) o op q → ⊥
+    no-match : (x : Option ℕ) → matching rows o ≡ none → h .place .0 ≢ old .alarm → (op : Operation) (q : OldPlace) → Line15 old ℓ₁ start o (h .place) op q → ⊥
     unfolding matching rows passes
     no-match x e n op q M =
         let z = both-missing (find rows (λ o′. same o′ o)) (find rows passes) e in
         ⊎-elim (λ i. T-true (sym (no-edge old (h .place) (λ o′. same o′ o) (z .0) op q (M .edge)) ∙ rw i (same-self o)))
         (λ i. T-true (sym (no-edge old (h .place) passes (z .1) op q (M .edge)) ∙ rw (edge-assumes op q n (M .edge), so-implied op (edge-operands (h .place) op q (M .edge)) (i .0) (i .1)))) (M .matches)
 
-    a-match : (k : ℕ) → matching rows o ≡ some k → h .place .0 ≢ old .alarm → Line15 old (h .place) o (operation rows k) (oldTo rows k)
+    a-match : (k : ℕ) → matching rows o ≡ some k → h .place .0 ≢ old .alarm → Line15 old ℓ₁ start o (h .place) (operation rows k) (oldTo rows k)
     unfolding matching rows passes
     a-match k e n = go (find rows (λ o′. same o′ o)) refl e
       where
-        go : (x : Option ℕ) → find rows (λ o′. same o′ o) ≡ x → orElse x (find rows passes) ≡ some k → Line15 old (h .place) o (operation rows k) (oldTo rows k)
+        go : (x : Option ℕ) → find rows (λ o′. same o′ o) ≡ x → orElse x (find rows passes) ≡ some k → Line15 old ℓ₁ start o (h .place) (operation rows k) (oldTo rows k)
         go none f e =
             let r = an-edge old (h .place) passes k e in
             let g = row-edge old (h .place) k (r .0) in
@@ -270,17 +268,17 @@ module _ (old : Chart) (F : FaultlessChart old) where
     unfolding counterpart assumed matched rows
     lines15to18 x e = go (atAlarm old (h .place)) refl x e
       where
-        meets-either : (k : ℕ) → (m m′ : Bool) → meets (h .set) (readSet o) ≡ m → meets (h .set) (readSet (operation rows k)) ≡ m′ → Line15 old (h .place) o (operation rows k) (oldTo rows k)
+        meets-either : (k : ℕ) → (m m′ : Bool) → meets (h .set) (readSet o) ≡ m → meets (h .set) (readSet (operation rows k)) ≡ m′ → Line15 old ℓ₁ start o (h .place) (operation rows k) (oldTo rows k)
             → Lines5to18 old ℓ₁ start o (when (not (m || m′)) (record { place = oldTo rows k; set = h .set }))
-        meets-either k true m′ d f M = line16 t E M (inr (meeting (h .set) (readSet o) b d))
-        meets-either k false true d f M = line16 t E M (inl (meeting (h .set) (readSet (operation rows k)) b f))
+        meets-either k true m′ d f M = line16 E M (inr (meeting (h .set) (readSet o) b d))
+        meets-either k false true d f M = line16 E M (inl (meeting (h .set) (readSet (operation rows k)) b f))
         meets-either k false false d f M =
-            line17 t E M (λ z. ⊎-elim (λ y. not-meeting (h .set) (readSet (operation rows k)) f y) (λ y. not-meeting (h .set) (readSet o) d y) z)
+            line17 E M (λ z. ⊎-elim (λ y. not-meeting (h .set) (readSet (operation rows k)) f y) (λ y. not-meeting (h .set) (readSet o) d y) z)
 
         go : (a : Bool) → atAlarm old (h .place) ≡ a → (x : Option ℕ) → _≡_ {A = Option ℕ} (elim a as (λ _. Option ℕ) [ true ↦ none | false ↦ matching rows o ]) x → Lines5to18 old ℓ₁ start o (assumed old h o x)
-        go true a none e = line18 t E (λ op q M. M .not-err (eqb-true (h .place .0) (old .alarm) a))
+        go true a none e = line18 E (λ op q M. M .not-err (eqb-true (h .place .0) (old .alarm) a))
         go true a (some k) e = absurd (Option·none-ne-some k e)
-        go false a none e = line18 t E (no-match none e (eqb-false (h .place .0) (old .alarm) a))
+        go false a none e = line18 E (no-match none e (eqb-false (h .place .0) (old .alarm) a))
         go false a (some k) e = meets-either k (meets (h .set) (readSet o)) (meets (h .set) (readSet (operation rows k))) refl refl (a-match k e (eqb-false (h .place .0) (old .alarm) a))
 
   -- ---- all of them
@@ -299,8 +297,8 @@ module _ (old : Chart) (F : FaultlessChart old) where
           omega (arith, unmet-most 0)
 
       on : isAssignment o ≡ false → {x : Option Spot} → Walked p s x → Lines5to18 old p s o (elim x [ none ↦ none | some h′ ↦ assumed old h′ o (counterpart old (h′ .place) o) ])
-      on t (came {h = h′} E c) = lines15to18 words p s o fits t h′ E c (counterpart old (h′ .place) o) refl
-      on t (twice L i) = cut t L i
+      on t (came {h = h′} {been = been} L e c) = lines15to18 words p s o fits h′ (record { assumption = t; been = been; loop = L; ends = onward-ends old h′ e }) c (counterpart old (h′ .place) o) refl
+      on t (twice L i) = line13-cut t L i
 
       go : (a : Bool) → isAssignment o ≡ a
           → Lines5to18 old p s o (elim a as (λ _. Option Spot) [

@@ -2,7 +2,6 @@
 -- chart have one successor. Assumes nothing.
 use mathlib.Core.Path.{_≡_, refl, sym, _∙_}
 use mathlib.Core.Bool.{Bool, true, false, _||_, not}
-use mathlib.Core.List.{List}
 use mathlib.Core.Option.{Option, none, some}
 use Prim.Native.Nat.{ℕ, zero, suc}
 use Rattle.base.proofs.Maybe.{All, All-none, All-some, All-when}
@@ -84,3 +83,7 @@ module _ (old : Chart) where
           ])
       go true = All-some (set-free (find (rowsAt old p) (λ o′. same o′ o)))
       go false = on (follow-like 64 (alone (p .0)) p s 0)
+
+  -- two sets
+  pub set-free : (p : OldPlace) (s t : ℕ) (o : Operation) (h h′ : Spot) → moved old (at p s) o ≡ some h → moved old (at p t) o ≡ some h′ → h .place ≡ h′ .place
+  set-free p s t o h h′ d e = one-successor p s o .of h d ∙ sym (one-successor p t o .of h′ e)

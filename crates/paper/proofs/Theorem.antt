@@ -1,18 +1,15 @@
--- Demand 2 in the source's words: what a build leaves is what Algorithm 2 and Algorithm 1 return. For any two faultless charts, the old and
--- the new one, Algorithm 2 has a run, which pops the lowest waiting pair each time, that ends; and the record of the build is the graph that
--- its lines 19 to 21 return, with the condition that Algorithm 1 makes of it. What that means is `Returned`, in specs/Returned.antt. Assumes
--- nothing.
+-- Demand 2 in the source's words: what a build leaves is what Algorithms 2 and 1 return. For any two faultless charts Algorithm 2 has a run
+-- that ends (the one that pops the lowest waiting pair each time); the record of the build is the graph that its lines 19 to 21 return, and its
+-- marks are the condition that Algorithm 1 makes of that graph. What each of these words means is `Returned`, in specs/Returned.antt. That the
+-- code leaves this record is the contract of `builder::build`. Assumes nothing.
 use mathlib.Core.Path.{_≡_, refl, sym, ap, subst, _∙_}
 use mathlib.Core.Bool.{Bool, true, false, _&&_, _||_, not}
 use mathlib.Core.Logic.{_⊎_, ⊎-elim}
 use Prim.Native.Nat.{ℕ}
 use native.Mathlib.Omega.{arith}
 use lib.Dec.{eqb}
-use Rattle.base.specs.Says.{bool}
-use Rattle.chart.specs.Places.{keptNumber}
 use Rattle.chart.specs.Charts.{Chart}
 use Rattle.chart.specs.Faultless.{FaultlessChart}
-use Rattle.align.specs.Steps.{moved, fair}
 use Rattle.checker.specs.Records.{Record, recordOf}
 use Rattle.checker.specs.Rules.{headOf}
 use Rattle.checker.specs.Promise.{Words}
@@ -23,12 +20,12 @@ use Rattle.builder.specs.Builds.{finalTargets, alone, finished, built, startOf,
 use Rattle.builder.specs.Builds as builds
 use Rattle.builder.proofs.Graphs.{marked-no}
 use Rattle.builder.proofs.Measure.{nothing-waits}
-use Rattle.paper.specs.Nodes.{Set, _∈_, _∉_, Pair, Node, number, pairOf, NodeNumbered}
+use Rattle.paper.specs.Nodes.{Set, _∉_, Pair, Node, edge, number, NodeNumbered}
 use Rattle.paper.specs.Algorithm2.{DifferenceGraph, Ended, line19, lone, whole, returned}
 use Rattle.paper.specs.Algorithm1.{Search}
 use Rattle.paper.specs.Returned.{IsGraph, IsCondition, Returned}
-use Rattle.paper.proofs.Members.{not-in, in-or-not, pair-is, number-below, numbered}
-use Rattle.paper.proofs.Searching.{Found, search-ends}
+use Rattle.paper.proofs.Members.{in-or-not, pair-is, number-below, numbered}
+use Rattle.paper.proofs.Searching.{Found, search-ends, nodeOf, node-is}
 use Rattle.paper.proofs.Returning.{ran, last, whole-graph}
 use Rattle.paper.proofs.Conditions.{whole-condition}
 use Rattle.paper.proofs.Alone.{lone-graph, lone-condition}
@@ -37,7 +34,7 @@ use Rattle.paper.proofs.Alone.{lone-graph, lone-condition}
 record Ends (R : Record) (G : DifferenceGraph) (Vδ : Pair → ℕ) : Type 0 where
   graph : IsGraph R G Vδ
   found : Found G
-  condition : IsCondition R G (found .Q)
+  condition : {Q W : Set Node} → Search G Q W → ((n : Node) → n ∉ W) → IsCondition R G Q
 
 searched : {R : Record} {G : DifferenceGraph} {Vδ : Pair → ℕ} → IsGraph R G Vδ → NodeNumbered (G .n₀) → Found G
 searched {R} {G} g a = search-ends R G (g .edges) a (λ x e. g .kept x .0 e .0)
@@ -63,6 +60,7 @@ module _ (old new : Chart) (F : FaultlessChart old) (H : FaultlessChart new) (wo
       go false true false = refl
       go false false b = refl
 
+  -- what the build leaves
   left : Bool → Graph
   left b =
       elim b [
@@ -79,17 +77,15 @@ module _ (old new : Chart) (F : FaultlessChart old) (H : FaultlessChart new) (wo
   unfolding left builds.lone
   ends true e =
       let g = lone-graph old new (last old new F H wo wn .Vδ) in
-      let f = searched g (omega arith) in
-      record { graph = g; found = f; condition = lone-condition old new (f .search) }
+      record { graph = g; found = searched g (omega arith); condition = λ f e. lone-condition old new f }
   ends false e =
       let g = whole-graph old new F H wo wn e in
-      let f = searched g (numbered 0 (omega arith)) in
-      record { graph = g; found = f; condition = whole-condition old new F H wo wn e (f .search) (f .emptied) }
+      record { graph = g; found = searched g (numbered 0 (omega arith)); condition = λ f z. whole-condition old new F H wo wn e f z }
 
   -- every build is one run of the source's algorithms
-  pub a-run-of-the-source : Returned old new (recorded old new)
+  pub demand-2 : Returned old new (recorded old new)
   unfolding recorded built finished startOf returned left
-  a-run-of-the-source =
+  demand-2 =
       let E =
       subst
       (λ (b : Bool). Ends (recorded old new) (elim b as (λ _. DifferenceGraph) [ true ↦ lone old new | false ↦ whole old new (last old new F H wo wn) ])
@@ -106,3 +102,10 @@ module _ (old new : Chart) (F : FaultlessChart old) (H : FaultlessChart new) (wo
         emptied = E .found .emptied;
         condition = E .condition;
       }
+
+-- a pair and a row have one edge
+pub one-edge : {R : Record} {G : DifferenceGraph} {Vδ : Pair → ℕ} → IsGraph R G Vδ → (n : Pair) (r : ℕ) (x y : Node) → G .E (edge n r x) → G .E (edge n r y) → x ≡ y
+one-edge g n r x y d e =
+    let a = g .edges (edge n r x) .0 d in
+    let b = g .edges (edge n r y) .0 e in
+    sym (node-is x (a .succ)) ∙ ap nodeOf (sym (a .is) ∙ b .is) ∙ node-is y (b .succ)

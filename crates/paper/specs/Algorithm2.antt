@@ -1,12 +1,11 @@
 -- The source's Algorithm 2, the difference detector, line by line. P is the old chart, P' the new one; ℓ_err and ℓ'_err are their alarms.
 -- Left open, as there, is which waiting pair line 3 pops; and a parameter stands for lines 5 to 18, which are transcribed by themselves in
 -- Lines5to18.antt. Lines are counted as the listing counts them; the source's prose counts those of PROCESS one lower.
-use mathlib.Core.Path.{_≡_}
 use mathlib.Core.Bool.{Bool, true, false, _&&_, _||_, not}
 use mathlib.Core.Logic.{_⊎_}
 use mathlib.Core.List.{List}
 use mathlib.Core.Option.{Option, none, some}
-use Prim.Native.Nat.{ℕ, zero, suc}
+use Prim.Native.Nat.{ℕ, suc}
 use lib.Dec.{eqb}
 use Rattle.chart.specs.declared.operations.Operation.{Operation}
 use Rattle.chart.specs.declared.places.OldPlace.{OldPlace}

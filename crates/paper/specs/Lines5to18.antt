@@ -1,5 +1,7 @@
 -- Lines 5 to 18 of the source's Algorithm 2, line by line: what PROCESS is called with for a pair (ℓ_1, ℓ'_1), V_δ of the pair, and an edge of
--- the new chart with operation op', over the source's own words: edges of G, members of sets, and values that meet an assumption.
+-- the new chart with operation op', in the source's own words: edges of G, members of sets, values that meet an assumption. Where several old
+-- edges match in line 15 the source takes any; document 01 seeks "the old row at p whose operation is equal; failing that, [..] the old
+-- assumption at p that it implies". That the aligned step is one of these outcomes is proved, in proofs/Stepping.antt.
 use mathlib.Core.Path.{_≡_}
 use mathlib.Core.Bool.{true, false}
 use mathlib.Core.Logic.{_⊎_, _≢_, _↔_}
@@ -9,7 +11,8 @@ use lib.Dec.{eqb}
 use Rattle.chart.specs.declared.operations.Operation.{Operation}
 use Rattle.chart.specs.declared.places.OldPlace.{OldPlace}
 use Rattle.chart.specs.Assumptions.{NeverHolds, Implies}
-use Rattle.chart.specs.Charts.{Chart, size, from, to, operation}
+use Rattle.chart.specs.Charts.{Chart, size, from, operation}
+use Rattle.chart.specs.Charts as charts
 use Rattle.chart.specs.Operations.{isAssignment}
 use Rattle.align.specs.declared.spots.Spot.{Spot}
 use Rattle.align.specs.Sets.{bit, readSet}
@@ -44,7 +47,7 @@ module _ (old : Chart) where
     pub there : row < size (old .table)
     pub from : from (old .table) row ≡ ℓ .0
     pub operation : operation (old .table) row ≡ op
-    pub to : to (old .table) row ≡ ℓ₂ .0
+    pub to : charts.to (old .table) row ≡ ℓ₂ .0
 
   -- the test of line 13: ℓ_p ≠ ℓ_err ∧ ∃ (ℓ_p, op_a, ℓ_s) ∈ G : op_a is assignment
   pub record Line13 (ℓₚ : OldPlace) (opₐ : Operation) (ℓₛ : OldPlace) : Type 0 where
@@ -52,39 +55,50 @@ module _ (old : Chart) where
     pub edge : InG ℓₚ opₐ ℓₛ
     pub assignment : isAssignment opₐ ≡ true
 
-  module _ (ℓ₁ : OldPlace) (Vδ : ℕ) where
-    -- lines 12 to 14: ℓ_p and V_diff after some turns of the loop, and the places where ℓ_p has been before
-    pub data Loop : Set OldPlace → OldPlace → ℕ → Type 0 where
-      line12 : Loop ∅ ℓ₁ Vδ
-      line14 : {been : Set OldPlace} {ℓₚ ℓₛ : OldPlace} {Vdiff Vdiff′ : ℕ} {opₐ : Operation} → Loop been ℓₚ Vdiff → Line13 ℓₚ opₐ ℓₛ → IsWith Vdiff (opₐ .a) Vdiff′
-          → Loop (been ∪ onlyOld ℓₚ) ℓₛ Vdiff′
+  -- lines 12 to 14: ℓ_p and V_diff after some turns of the loop, and the places where ℓ_p has been before
+  pub data Loop (ℓ₁ : OldPlace) (Vδ : ℕ) : Set OldPlace → OldPlace → ℕ → Type 0 where
+    line12 : Loop ℓ₁ Vδ ∅ ℓ₁ Vδ
+    line14 : {been : Set OldPlace} {ℓₚ ℓₛ : OldPlace} {Vdiff Vdiff′ : ℕ} {opₐ : Operation}
+        → Loop ℓ₁ Vδ been ℓₚ Vdiff → Line13 ℓₚ opₐ ℓₛ → IsWith Vdiff (opₐ .a) Vdiff′ → Loop ℓ₁ Vδ (been ∪ onlyOld ℓₚ) ℓₛ Vdiff′
 
-    -- the loop has ended
-    pub record Ended (ℓₚ : OldPlace) (Vdiff : ℕ) : Type 0 where
+  module _ (ℓ₁ : OldPlace) (Vδ : ℕ) (op′ : Operation) where
+    -- lines 5 and 6: op' is assignment, and (ℓ_1, op', ℓ_2) ∈ G
+    pub record Lines5and6 (ℓ₂ : OldPlace) : Type 0 where
+      pub assignment : isAssignment op′ ≡ true
+      pub edge : InG ℓ₁ op′ ℓ₂
+
+    -- lines 11 to 14: op' is an assumption, and the loop has ended
+    pub record Lines11to14 (ℓₚ : OldPlace) (Vdiff : ℕ) : Type 0 where
+      pub assumption : isAssignment op′ ≡ false
       pub been : Set OldPlace
-      pub loop : Loop been ℓₚ Vdiff
+      pub loop : Loop ℓ₁ Vδ been ℓₚ Vdiff
       pub ends : (opₐ : Operation) (ℓₛ : OldPlace) → Line13 ℓₚ opₐ ℓₛ → ⊥
 
-  -- the test of line 15. op' ≢ false: some values meet it
-  pub record Line15 (ℓₚ : OldPlace) (op′ op : Operation) (ℓ₂ : OldPlace) : Type 0 where
-    pub not-err : ℓₚ .0 ≢ old .alarm
-    pub edge : InG ℓₚ op ℓ₂
-    pub matches : (op ≡ op′) ⊎ (Implies op′ op × (NeverHolds op′ → ⊥))
+    -- the test of line 15; that op' ≢ false is that some values meet it
+    pub record Line15 (ℓₚ : OldPlace) (op : Operation) (ℓ₂ : OldPlace) : Type 0 where
+      pub not-err : ℓₚ .0 ≢ old .alarm
+      pub edge : InG ℓₚ op ℓ₂
+      pub matches : (op ≡ op′) ⊎ (Implies op′ op × (NeverHolds op′ → ⊥))
 
-  -- What PROCESS is called with: nothing for ℓ'_2 (line 16), else ℓ of the pair (ℓ, ℓ'_2), and V_diff. Line 5 tells assignments, line 11 the others
-  pub data Lines5to18 (ℓ₁ : OldPlace) (Vδ : ℕ) (op′ : Operation) : Option Spot → Type 0 where
-    lines6·7·9 : {ℓ₂ : OldPlace} {Vdiff : ℕ} → isAssignment op′ ≡ true → InG ℓ₁ op′ ℓ₂ → Meet Vδ (readSet op′) → IsWith Vδ (op′ .a) Vdiff
-        → Lines5to18 ℓ₁ Vδ op′ (some (record { place = ℓ₂; set = Vdiff }))
-    lines6·8·9 : {ℓ₂ : OldPlace} {Vdiff : ℕ} → isAssignment op′ ≡ true → InG ℓ₁ op′ ℓ₂ → (Meet Vδ (readSet op′) → ⊥) → IsWithout Vδ (op′ .a) Vdiff
-        → Lines5to18 ℓ₁ Vδ op′ (some (record { place = ℓ₂; set = Vdiff }))
-    line10 : {Vdiff : ℕ} → isAssignment op′ ≡ true → ((ℓ₂ : OldPlace) → InG ℓ₁ op′ ℓ₂ → ⊥) → IsWith Vδ (op′ .a) Vdiff
-        → Lines5to18 ℓ₁ Vδ op′ (some (record { place = ℓ₁; set = Vdiff }))
-    line16 : {ℓₚ ℓ₂ : OldPlace} {Vdiff : ℕ} {op : Operation} → isAssignment op′ ≡ false → Ended ℓ₁ Vδ ℓₚ Vdiff → Line15 ℓₚ op′ op ℓ₂ → Meet Vdiff (readSet op) ⊎ Meet Vdiff (readSet op′)
-        → Lines5to18 ℓ₁ Vδ op′ none
-    line17 : {ℓₚ ℓ₂ : OldPlace} {Vdiff : ℕ} {op : Operation} → isAssignment op′ ≡ false → Ended ℓ₁ Vδ ℓₚ Vdiff → Line15 ℓₚ op′ op ℓ₂ → (Meet Vdiff (readSet op) ⊎ Meet Vdiff (readSet op′) → ⊥)
-        → Lines5to18 ℓ₁ Vδ op′ (some (record { place = ℓ₂; set = Vdiff }))
-    line18 : {ℓₚ : OldPlace} {Vdiff : ℕ} → isAssignment op′ ≡ false → Ended ℓ₁ Vδ ℓₚ Vdiff → ((op : Operation) (ℓ₂ : OldPlace) → Line15 ℓₚ op′ op ℓ₂ → ⊥)
-        → Lines5to18 ℓ₁ Vδ op′ (some (record { place = ℓₚ; set = Vdiff }))
-    -- document 01's cut of line 13, whose loop need not end: "Coming to a place twice here is a failed step."
-    cut : {been : Set OldPlace} {ℓₚ : OldPlace} {Vdiff : ℕ} → isAssignment op′ ≡ false → Loop ℓ₁ Vδ been ℓₚ Vdiff → ℓₚ ∈ been
-        → Lines5to18 ℓ₁ Vδ op′ none
+    -- the test of line 16: V_diff ∩ (rd(op) ∪ rd(op')) ≠ ∅
+    abbrev pub Line16 : ℕ → Operation → Type 0
+    Line16 Vdiff op = Meet Vdiff (readSet op) ⊎ Meet Vdiff (readSet op′)
+
+    -- what PROCESS is called with: `none` for ℓ'_2, `to ℓ V_diff` for the pair (ℓ, ℓ'_2) with V_diff
+    abbrev pub to : OldPlace → ℕ → Option Spot
+    to ℓ Vdiff = some (record { place = ℓ; set = Vdiff })
+
+    pub data Lines5to18 : Option Spot → Type 0 where
+      -- and line 9
+      line7 : {ℓ₂ : OldPlace} {Vdiff : ℕ} → Lines5and6 ℓ₂ → Meet Vδ (readSet op′) → IsWith Vδ (op′ .a) Vdiff → Lines5to18 (to ℓ₂ Vdiff)
+      line8 : {ℓ₂ : OldPlace} {Vdiff : ℕ} → Lines5and6 ℓ₂ → (Meet Vδ (readSet op′) → ⊥) → IsWithout Vδ (op′ .a) Vdiff → Lines5to18 (to ℓ₂ Vdiff)
+      line10 : {Vdiff : ℕ} → isAssignment op′ ≡ true → ((ℓ₂ : OldPlace) → Lines5and6 ℓ₂ → ⊥) → IsWith Vδ (op′ .a) Vdiff → Lines5to18 (to ℓ₁ Vdiff)
+      line16 : {ℓₚ ℓ₂ : OldPlace} {Vdiff : ℕ} {op : Operation}
+          → Lines11to14 ℓₚ Vdiff → Line15 ℓₚ op ℓ₂ → Line16 Vdiff op → Lines5to18 none
+      line17 : {ℓₚ ℓ₂ : OldPlace} {Vdiff : ℕ} {op : Operation}
+          → Lines11to14 ℓₚ Vdiff → Line15 ℓₚ op ℓ₂ → (Line16 Vdiff op → ⊥) → Lines5to18 (to ℓ₂ Vdiff)
+      line18 : {ℓₚ : OldPlace} {Vdiff : ℕ}
+          → Lines11to14 ℓₚ Vdiff → ((op : Operation) (ℓ₂ : OldPlace) → Line15 ℓₚ op ℓ₂ → ⊥) → Lines5to18 (to ℓₚ Vdiff)
+      -- document 01's cut of the loop, which need not end: "Coming to a place twice here is a failed step."
+      line13-cut : {been : Set OldPlace} {ℓₚ : OldPlace} {Vdiff : ℕ}
+          → isAssignment op′ ≡ false → Loop ℓ₁ Vδ been ℓₚ Vdiff → ℓₚ ∈ been → Lines5to18 none

@@ -42,7 +42,8 @@ module _ (R : Record) where
     pub each : (i r : ℕ) → i < 4096 → r < 2 → mark (R .graph) i ≡ 1 → target (R .graph) i r ≢ 65535
         → (x : Node) × (nodeNumber x ≡ target (R .graph) i r) × Transition G Q (edge (pairOf i) r x)
 
--- one run of Algorithm 2 to its end; then one run of Algorithm 1 on the graph that it returns, to its end
+-- one run of Algorithm 2 to its end, and the graph that it returns; and of Algorithm 1 on that graph some search that ends, while every one
+-- that ends finds the same condition
 pub record Returned (old new : Chart) (R : Record) : Type 0 where
   pub state : State
   pub ran : Run old new (Lines5to18 old) state
@@ -52,4 +53,4 @@ pub record Returned (old new : Chart) (R : Record) : Type 0 where
   pub waitlist : Set Node
   pub searched : Search (returned old new state) Q waitlist
   pub emptied : (n : Node) → n ∉ waitlist
-  pub condition : IsCondition R (returned old new state) Q
+  pub condition : {Q W : Set Node} → Search (returned old new state) Q W → ((n : Node) → n ∉ W) → IsCondition R (returned old new state) Q
