@@ -8,7 +8,7 @@ use Prim.Native.Nat.{ℕ, zero, suc, _-_, _^_, _≤_, _<_}
 use native.Mathlib.Omega.{arith}
 use native.Mathlib.Decide.{ℕ-discrete}
 use borrow.Author.Tests.{eq-eqb, eqb-true, eqb-false}
-use lib.Bits.{or-lt, or-zero-l}
+use lib.Bits.{or-zero-l}
 use lib.Pow.{pow-lt}
 use Rattle.base.specs.Options.{when, orElse}
 use Rattle.base.proofs.Options.{none-of, not-due, both-missing}
@@ -35,6 +35,7 @@ use Rattle.align.proofs.Moves.{onward-below}
 use Rattle.align.proofs.Parts.{before, stands, same-row, row-of, row-same, operands}
 use Rattle.checker.specs.Promise.{Words}
 use Rattle.builder.proofs.Steps.{row-a}
+use Rattle.builder.proofs.Graphs.{join-small}
 use Rattle.paper.specs.Nodes.{Set, _∈_, ∅, _∪_}
 use Rattle.paper.specs.Lines5to18.{Meet, IsWith, IsWithout, onlyOld, InG, Line13, Loop, line12, line14, Lines11to14, Line15, Lines5to18, line7, line8, line10, line16, line17, line18, line13-cut}
 use Rattle.paper.proofs.Members.{in-first, in-second}
@@ -56,13 +57,13 @@ same-self : (o : Operation) → same o o ≡ true
 unfolding same
 same-self o = rw (eq-eqb (o .code) (o .code) refl, eq-eqb (o .a) (o .a) refl, eq-eqb (o .b) (o .b) refl, eq-eqb (o .c) (o .c) refl)
 
-with-small : (s v : ℕ) → s < 2 ^ 64 → v < 64 → with s v < 2 ^ 64
-unfolding with joined alone
-with-small s v b l = or-lt 64 s (2 ^ v) b (pow-lt l)
-
 alone-small : (v : ℕ) → v < 64 → alone v < 2 ^ 64
 unfolding alone
 alone-small v l = pow-lt l
+
+with-small : (s v : ℕ) → s < 2 ^ 64 → v < 64 → with s v < 2 ^ 64
+unfolding with
+with-small s v b l = join-small s (alone v) b (alone-small v l)
 
 onlyOld-is : (p : OldPlace) (i : ℕ) → i ≡ p .0 → record { 0 = i } ∈ onlyOld p
 unfolding onlyOld
@@ -244,9 +245,9 @@ module _ (old : Chart) (F : FaultlessChart old) where
     passes : Operation → Bool
     passes op = isAssumption op && isImplied (implication o op)
 
-    no-match : (x : Option ℕ) → matching rows o ≡ none → h .place .0 ≢ old .alarm → (op : Operation) (q : OldPlace) → Line15 old ℓ₁ start o (h .place) op q → ⊥
+    no-match : matching rows o ≡ none → h .place .0 ≢ old .alarm → (op : Operation) (q : OldPlace) → Line15 old ℓ₁ start o (h .place) op q → ⊥
     unfolding matching rows passes
-    no-match x e n op q M =
+    no-match e n op q M =
         let z = both-missing (find rows (λ o′. same o′ o)) (find rows passes) e in
         ⊎-elim (λ i. T-true (sym (no-edge old (h .place) (λ o′. same o′ o) (z .0) op q (M .edge)) ∙ rw i (same-self o)))
         (λ i. T-true (sym (no-edge old (h .place) passes (z .1) op q (M .edge)) ∙ rw (edge-assumes op q n (M .edge), so-implied op (edge-operands (h .place) op q (M .edge)) (i .0) (i .1)))) (M .matches)
@@ -278,7 +279,7 @@ module _ (old : Chart) (F : FaultlessChart old) where
         go : (a : Bool) → atAlarm old (h .place) ≡ a → (x : Option ℕ) → _≡_ {A = Option ℕ} (elim a as (λ _. Option ℕ) [ true ↦ none | false ↦ matching rows o ]) x → Lines5to18 old ℓ₁ start o (assumed old h o x)
         go true a none e = line18 E (λ op q M. M .not-err (eqb-true (h .place .0) (old .alarm) a))
         go true a (some k) e = absurd (Option·none-ne-some k e)
-        go false a none e = line18 E (no-match none e (eqb-false (h .place .0) (old .alarm) a))
+        go false a none e = line18 E (no-match e (eqb-false (h .place .0) (old .alarm) a))
         go false a (some k) e = meets-either k (meets (h .set) (readSet o)) (meets (h .set) (readSet (operation rows k))) refl refl (a-match k e (eqb-false (h .place .0) (old .alarm) a))
 
   -- ---- all of them
