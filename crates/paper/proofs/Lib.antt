@@ -1,10 +1,11 @@
 -- That a build is a run of the source's algorithms: the theorem is in Theorem. Lines 5 to 18 are in Successors and Stepping, lines 1 to 4 and 22
--- to 33 in Reading, Edges and Rounds, lines 19 to 21 in Returning and Alone, Algorithm 1 in Searching, Conditions and Alone.
+-- to 33 in Reading, Edges, Rows and Rounds, lines 19 to 21 in Returning and Alone, Algorithm 1 in Searching, Conditions and Alone.
 pub mod Successors
 pub mod Members
 pub mod Stepping
 pub mod Reading
 pub mod Edges
+pub mod Rows
 pub mod Rounds
 pub mod Searching
 pub mod Returning

@@ -23,8 +23,8 @@ pub record State : Type 0 where
   pub Δ : Set NewPlace
   pub Vδ : Pair → ℕ
 
--- lines 5 to 18, a parameter: from ℓ_1, V_δ of the pair and the operation op' of the edge to what PROCESS is called with, which is nothing for
--- ℓ'_2 alone, else ℓ of the pair (ℓ, ℓ'_2), with V_diff
+-- lines 5 to 18, a parameter: from ℓ_1, V_δ of the pair and the operation op' of the edge to what PROCESS is called with, `none` for ℓ'_2 or
+-- ℓ of the pair (ℓ, ℓ'_2) with V_diff
 abbrev pub Step : Type 1
 Step = OldPlace → ℕ → Operation → Option Spot → Type 0
 

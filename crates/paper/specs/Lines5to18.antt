@@ -1,6 +1,6 @@
--- Lines 5 to 18 of the source's Algorithm 2, line by line: what PROCESS is called with for a pair (ℓ_1, ℓ'_1), V_δ of the pair, and an edge of
--- the new chart with operation op', in the source's own words: edges of G, members of sets, values that meet an assumption. Where several old
--- edges match in line 15 the source takes any; document 01 seeks "the old row at p whose operation is equal; failing that, [..] the old
+-- Lines 5 to 18 of the source's Algorithm 2, line by line: what PROCESS is called with for a pair (ℓ_1, ℓ'_1), V_δ of the pair and an edge
+-- of the new chart with operation op', in the source's own words: edges of G, members of sets, values that meet an assumption. Where several
+-- old edges match in line 15 the source takes any; document 01 seeks "the old row at p whose operation is equal; failing that, [..] the old
 -- assumption at p that it implies". That the aligned step is one of these outcomes is proved, in proofs/Stepping.antt.
 use mathlib.Core.Path.{_≡_}
 use mathlib.Core.Bool.{true, false}
@@ -90,9 +90,12 @@ module _ (old : Chart) where
 
     pub data Lines5to18 : Option Spot → Type 0 where
       -- and line 9
-      line7 : {ℓ₂ : OldPlace} {Vdiff : ℕ} → Lines5and6 ℓ₂ → Meet Vδ (readSet op′) → IsWith Vδ (op′ .a) Vdiff → Lines5to18 (to ℓ₂ Vdiff)
-      line8 : {ℓ₂ : OldPlace} {Vdiff : ℕ} → Lines5and6 ℓ₂ → (Meet Vδ (readSet op′) → ⊥) → IsWithout Vδ (op′ .a) Vdiff → Lines5to18 (to ℓ₂ Vdiff)
-      line10 : {Vdiff : ℕ} → isAssignment op′ ≡ true → ((ℓ₂ : OldPlace) → Lines5and6 ℓ₂ → ⊥) → IsWith Vδ (op′ .a) Vdiff → Lines5to18 (to ℓ₁ Vdiff)
+      line7 : {ℓ₂ : OldPlace} {Vdiff : ℕ}
+          → Lines5and6 ℓ₂ → Meet Vδ (readSet op′) → IsWith Vδ (op′ .a) Vdiff → Lines5to18 (to ℓ₂ Vdiff)
+      line8 : {ℓ₂ : OldPlace} {Vdiff : ℕ}
+          → Lines5and6 ℓ₂ → (Meet Vδ (readSet op′) → ⊥) → IsWithout Vδ (op′ .a) Vdiff → Lines5to18 (to ℓ₂ Vdiff)
+      line10 : {Vdiff : ℕ}
+          → isAssignment op′ ≡ true → ((ℓ₂ : OldPlace) → Lines5and6 ℓ₂ → ⊥) → IsWith Vδ (op′ .a) Vdiff → Lines5to18 (to ℓ₁ Vdiff)
       line16 : {ℓₚ ℓ₂ : OldPlace} {Vdiff : ℕ} {op : Operation}
           → Lines11to14 ℓₚ Vdiff → Line15 ℓₚ op ℓ₂ → Line16 Vdiff op → Lines5to18 none
       line17 : {ℓₚ ℓ₂ : OldPlace} {Vdiff : ℕ} {op : Operation}

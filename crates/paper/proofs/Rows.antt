@@ -1,0 +1,270 @@
+-- One edge of the pair in hand: what a row of a turn does to the buffers, lines 5 to 18 and PROCESS do to the source's variables. Assumes nothing.
+use mathlib.Core.Path.{_≡_, refl, sym, ap, subst, _∙_}
+use mathlib.Core.Bool.{Bool, true, false, _&&_, _||_, not, or-true}
+use mathlib.Core.Logic.{inl, inr, dite}
+use mathlib.Core.Option.{Option, none, some, Option·none-ne-some, Option·some-injective}
+use Prim.Native.Nat.{ℕ, _%_, _^_, _<_}
+use native.Mathlib.Omega.{arith}
+use native.Mathlib.Decide.{ℕ-discrete}
+use borrow.Author.Tests.{lt-ltb}
+use lib.Dec.{eqb}
+use lib.ListN.{set}
+use Rattle.base.specs.Options.{when}
+use Rattle.chart.specs.declared.places.NewPlace.{NewPlace}
+use Rattle.chart.specs.Places.{pairNumber, keptNumber, oldOf, newOf}
+use Rattle.chart.specs.Charts.{Chart, size, operation}
+use Rattle.chart.specs.Assumptions.{Operands}
+use Rattle.chart.specs.Faultless.{FaultlessChart}
+use Rattle.align.specs.declared.spots.Spot.{Spot}
+use Rattle.align.specs.Steps.{moved, arrived, step}
+use Rattle.align.proofs.Parts.{row-of, row-same, operands}
+use Rattle.checker.specs.Promise.{Words}
+use Rattle.builder.specs.Graphs.{Graph, marked, keep, aim, join, unwait}
+use Rattle.builder.specs.Turns.{rowsOf, leadsTo, stepOf, processed, rowDone}
+use Rattle.builder.specs.Turns as turns
+use Rattle.builder.proofs.Steps.{Fits}
+use Rattle.builder.proofs.Graphs.{markAt, Shaped, not-marked, keep-node, keep-nodes, keep-mark, keep-mark-other, keep-shaped, by-aim, join-mark, join-mark-other, join-target, join-shaped}
+use Rattle.builder.proofs.Turns.{leads-below, step-of-fits}
+use Rattle.paper.specs.Nodes.{_∈_, _∉_, _∪_, Pair, pair, aligned, indicator, edge, onlyPlace, pairOf}
+use Rattle.paper.specs.Lines5to18.{Lines5to18}
+use Rattle.paper.specs.Algorithm2.{State, toPlace, line27, toPair, process, called}
+use Rattle.paper.proofs.Successors.{successor, one-successor}
+use Rattle.paper.proofs.Members.{the-place, pair-is, other-pair}
+use Rattle.paper.proofs.Stepping.{step-lines}
+use Rattle.paper.proofs.Reading.{Sets, keep-sets, kept-sets, join-sets}
+use Rattle.paper.proofs.Edges.{Sound, Edges, keep-edges, aim-edges, added}
+
+-- a store of a target changes nothing else
+module _ (g : Graph) (n r t : ℕ) where
+  aim-sets : (s : State) → Sets s g → Sets s (aim g n r t)
+  aim-sets s R = by-aim g n r t (Sets s) (λ p. record { N = R .N; N-numbered = R .N-numbered; Δ = R .Δ; Δ-numbered = R .Δ-numbered; waits = R .waits; waits-numbered = R .waits-numbered; Vδ = R .Vδ }) (λ z. R)
+
+  aim-marks : aim g n r t .marks ≡ g .marks
+  aim-marks = by-aim g n r t (λ h. h .marks ≡ g .marks) (λ p. refl) (λ z. refl)
+
+-- lines 5 to 18, for pair n, the set v and row r
+abbrev pub cameTo : Chart → Chart → ℕ → ℕ → ℕ → Option Spot
+cameTo old new n v r = moved old (record { place = oldOf n; set = v }) (operation (rowsOf new n) r)
+
+-- ---- lines 5 to 18 and 27 are the aligned step
+module _ (old new : Chart) (s : State) (n r : ℕ) where
+  abbrev q₂ : NewPlace
+  q₂ = leadsTo new n r
+
+  fails : (o : Option Spot) → arrived (old .alarm) (new .alarm) q₂ o ≡ none → called old new s (pairOf n) r o ≡ toPlace s (pairOf n) r q₂
+  unfolding arrived called process line27
+  fails none e = refl
+  fails (some h) e = go (eqb (q₂ .0) (new .alarm)) (eqb (h .place .0) (old .alarm)) e
+    where
+      go : (a b : Bool) → when (not a || b) h ≡ none
+          → (elim (not b && a) as (λ _. State) [ true ↦ toPlace s (pairOf n) r q₂ | false ↦ toPair old new s (pairOf n) r (pair (h .place) q₂) (h .set) ]) ≡ toPlace s (pairOf n) r q₂
+      go true true e = absurd (Option·none-ne-some h (sym e))
+      go true false e = refl
+      go false b e = absurd (Option·none-ne-some h (sym e))
+
+  arrives : (o : Option Spot) (h : Spot) → arrived (old .alarm) (new .alarm) q₂ o ≡ some h
+      → (o ≡ some h) × (called old new s (pairOf n) r o ≡ toPair old new s (pairOf n) r (pair (h .place) q₂) (h .set))
+  unfolding arrived called process line27
+  arrives none h e = absurd (Option·none-ne-some h e)
+  arrives (some h′) h e = go (eqb (q₂ .0) (new .alarm)) (eqb (h′ .place .0) (old .alarm)) e
+    where
+      same : h′ ≡ h → toPair old new s (pairOf n) r (pair (h′ .place) q₂) (h′ .set) ≡ toPair old new s (pairOf n) r (pair (h .place) q₂) (h .set)
+      same z = ap (λ (k : Spot). toPair old new s (pairOf n) r (pair (k .place) q₂) (k .set)) z
+
+      go : (a b : Bool) → when (not a || b) h′ ≡ some h
+          → (some h′ ≡ some h) × ((elim (not b && a) as (λ _. State) [ true ↦ toPlace s (pairOf n) r q₂ | false ↦ toPair old new s (pairOf n) r (pair (h′ .place) q₂) (h′ .set) ]) ≡ toPair old new s (pairOf n) r (pair (h .place) q₂) (h .set))
+      go true true e = (e, same (Option·some-injective h′ h e))
+      go true false e = absurd (Option·none-ne-some h e)
+      go false true e = (e, same (Option·some-injective h′ h e))
+      go false false e = (e, same (Option·some-injective h′ h e))
+
+-- ---- one edge
+module _ (old new : Chart) where
+  pub record Reads (s : State) (g : Graph) : Type 0 where
+    pub sets : Sets s g
+    pub edges : Edges old new (s .Eₗ) (s .Δ) (g .targets)
+
+-- the pair in hand is in the graph unless its place is kept
+pub record InHand (g : Graph) (n : ℕ) : Type 0 where
+  pub there : markAt g (keptNumber (newOf n)) ≡ 0 → 0 < markAt g n
+  pub free : 0 < markAt g n → markAt g (keptNumber (newOf n)) ≡ 0
+
+-- what holds after an edge of the pair n, taken under the set v: "under the set it had, even if it left the graph"
+pub record Row (old new : Chart) (n v : ℕ) (s : State) (g : Graph) : Type 0 where
+  pub reads : Reads old new s g
+  pub hand : InHand g n
+  pub held : markAt g n ≡ 0 → s .Vδ (pairOf n) ≡ v
+
+pub unwait-hand : (g : Graph) (n : ℕ) → InHand g n → InHand (unwait g n) n
+unfolding unwait
+unwait-hand g n J = record { there = J .there; free = J .free }
+
+module _ (old new : Chart) (F : FaultlessChart old) (G : FaultlessChart new) where
+  module _ (s : State) (g : Graph) (n v r : ℕ) (l : n < 4096) (w : v < 2 ^ 64) (c : r < 2) (a : r < size (rowsOf new n)) (S : Shaped g) (R : Reads old new s g) (H : InHand g n) (own : s .Vδ (pairOf n) ≡ v) where
+    q-below : leadsTo new n r .0 < 64
+    q-below = omega (arith, leads-below old new F G n v r a, G .few-places)
+
+    not-kept : newOf n ∉ s .Δ → markAt g (keptNumber (newOf n)) ≡ 0
+    not-kept e = not-marked (g .marks) (keptNumber (newOf n)) (sym (R .sets .Δ (newOf n) (omega arith)) ∙ e)
+
+    -- lines 23 to 25
+    hand-kept : InHand (keep g (leadsTo new n r)) n
+    hand-kept =
+        record {
+          there = λ e. (let z = away e in let y = H .there (sym (others z) ∙ e) in omega (arith, keep-mark-other g (leadsTo new n r) (S .sized) q-below n l z));
+          free = λ p. (let z : n % 64 ≡ leadsTo new n r .0 → ⊥ = λ h. omega (arith, keep-mark g (leadsTo new n r) (S .sized) q-below n l h) in
+              others z ∙ H .free (omega (arith, keep-mark-other g (leadsTo new n r) (S .sized) q-below n l z)));
+        }
+      where
+        away : markAt (keep g (leadsTo new n r)) (keptNumber (newOf n)) ≡ 0 → n % 64 ≡ leadsTo new n r .0 → ⊥
+        away e h = let y : keptNumber (newOf n) ≡ keptNumber (leadsTo new n r) = omega arith in omega (arith, rw y at e, keep-node g (leadsTo new n r) (S .sized) q-below)
+
+        others : (n % 64 ≡ leadsTo new n r .0 → ⊥) → markAt (keep g (leadsTo new n r)) (keptNumber (newOf n)) ≡ markAt g (keptNumber (newOf n))
+        others z = keep-nodes g (leadsTo new n r) (S .sized) q-below (keptNumber (newOf n)) (omega arith) (omega arith) (λ h. z (omega arith))
+
+    hand-aim : (f : Graph) (t : ℕ) → InHand f n → InHand (aim f n r t) n
+    hand-aim f t J = by-aim f n r t (λ h. InHand h n) (λ p. record { there = J .there; free = J .free }) (λ z. J)
+
+    fails-row : Row old new n v (toPlace s (pairOf n) r (leadsTo new n r)) (aim (keep g (leadsTo new n r)) n r (keptNumber (leadsTo new n r)))
+    unfolding toPlace
+    fails-row =
+        let q = leadsTo new n r in
+        let K = keep-sets old new s g (pairOf n) r q (S .sized) q-below (R .sets) in
+        let there : newOf n ∉ (s .Δ ∪ onlyPlace q) → 0 < markAt (keep g q) n =
+        λ e. hand-kept .there (not-marked (keep g q .marks) (keptNumber (newOf n)) (sym (K .Δ (newOf n) (omega arith)) ∙ e)) in
+        let fits : Sound old new (s .Δ ∪ onlyPlace q) (edge (pairOf n) r (indicator q)) = record { row = a; onto = (refl, rw (the-place q) (or-true (s .Δ q))) } in
+        let Z = keep-shaped g q S .sized in
+        record {
+          reads =
+              record {
+                sets = aim-sets (keep g q) n r (keptNumber q) (toPlace s (pairOf n) r q) K;
+                edges =
+                    aim-edges old new (s .Eₗ) (s .Δ ∪ onlyPlace q) (keep g q) n r (keptNumber q) (indicator q) Z l c there fits (λ e. omega (arith, q-below))
+                    (keep-edges old new (s .Eₗ) (s .Δ) g q (S .sized) q-below (R .edges))
+                    (inl
+                    (record {
+                      is = refl;
+                      succ = indicator q;
+                      edge = added old new (s .Eₗ) (s .Δ ∪ onlyPlace q) (keep g q) n r (keptNumber q) (indicator q) Z l c there fits (λ e. omega (arith, q-below));
+                    }));
+              };
+          hand = hand-aim (keep g q) (keptNumber q) hand-kept;
+          held = λ z. own;
+        }
+
+    module _ (h : Spot) (came : cameTo old new n v r ≡ some h) where
+      place : h .place ≡ successor old (oldOf n) (operation (rowsOf new n) r)
+      place = one-successor old (oldOf n) v (operation (rowsOf new n) r) .of h came
+
+      kept-row : leadsTo new n r ∈ s .Δ → Row old new n v (toPair old new s (pairOf n) r (pair (h .place) (leadsTo new n r)) (h .set)) (aim g n r (keptNumber (leadsTo new n r)))
+      unfolding toPair
+      kept-row k =
+          let q = leadsTo new n r in
+          let x = aligned (pair (h .place) q) in
+          let there : newOf n ∉ s .Δ → 0 < markAt g n = λ e. H .there (not-kept e) in
+          let fits : Sound old new (s .Δ) (edge (pairOf n) r x) = record { row = a; onto = (refl, place) } in
+          record {
+            reads =
+                record {
+                  sets = aim-sets g n r (keptNumber q) (toPair old new s (pairOf n) r (pair (h .place) q) (h .set)) (kept-sets old new s g (pairOf n) r (pair (h .place) q) (h .set) k (R .sets));
+                  edges =
+                      aim-edges old new (s .Eₗ) (s .Δ) g n r (keptNumber q) x (S .sized) l c there fits (λ e. omega (arith, q-below)) (R .edges)
+                      (inl
+                      (record {
+                        is = refl;
+                        succ = x;
+                        edge = added old new (s .Eₗ) (s .Δ) g n r (keptNumber q) x (S .sized) l c there fits (λ e. omega (arith, q-below));
+                      }));
+                };
+            hand = hand-aim g (keptNumber q) H;
+            held = λ z. rw (k, toPair) own;
+          }
+
+      module _ (t : ℕ) (is : t ≡ pairNumber (h .place) (leadsTo new n r)) (T : Fits 64 h) (f : leadsTo new n r ∉ s .Δ) where
+        below : t < 4096
+        below = omega (arith, T .place, q-below)
+
+        new-place : newOf t ≡ leadsTo new n r
+        new-place = ap (λ (y : ℕ). record { 0 = y }) (omega (arith, q-below))
+
+        free : newOf t ∉ s .Δ
+        free = ap (s .Δ) new-place ∙ f
+
+        abbrev j : Graph
+        j = join (old .alarm) g t (h .set)
+
+        hand-joined : InHand j n
+        hand-joined =
+            record {
+              there = λ e. dite (ℕ-discrete n t) (λ z. rw z (omega (arith, join-mark (old .alarm) g t (h .set) (S .sized) below)))
+                  (λ z. omega (arith, join-mark-other (old .alarm) g t (h .set) (S .sized) below n z, H .there (sym others ∙ e)));
+              free = λ p. others
+                  ∙ dite (ℕ-discrete n t) (λ z. rw z (not-marked (g .marks) (keptNumber (newOf t)) (sym (R .sets .Δ (newOf t) (omega arith)) ∙ free)))
+                  (λ z. H .free (omega (arith, join-mark-other (old .alarm) g t (h .set) (S .sized) below n z)));
+            }
+          where
+            others : markAt j (keptNumber (newOf n)) ≡ markAt g (keptNumber (newOf n))
+            others = join-mark-other (old .alarm) g t (h .set) (S .sized) below (keptNumber (newOf n)) (λ e. omega (arith, below))
+
+        joins-row : Row old new n v (toPair old new s (pairOf n) r (pairOf t) (h .set)) (aim j n r t)
+        unfolding toPair
+        joins-row =
+            let x = aligned (pairOf t) in
+            let there : newOf n ∉ s .Δ → 0 < markAt j n = λ e. hand-joined .there (join-mark-other (old .alarm) g t (h .set) (S .sized) below (keptNumber (newOf n)) (λ z. omega (arith, below)) ∙ not-kept e) in
+            let fits : Sound old new (s .Δ) (edge (pairOf n) r x) =
+            record { row = a; onto = (omega (arith, q-below), ap (λ (y : ℕ). record { 0 = y }) (omega (arith, q-below)) ∙ place) } in
+            let Z = join-shaped (old .alarm) g t (h .set) (T .set) S .sized in
+            let E : Edges old new (s .Eₗ) (s .Δ) (j .targets) = rw (join-target (old .alarm) g t (h .set)) (R .edges) in
+            record {
+              reads =
+                  record {
+                    sets = aim-sets j n r t (toPair old new s (pairOf n) r (pairOf t) (h .set)) (join-sets old new s g (pairOf n) r t (h .set) (S .sized) below free (R .sets));
+                    edges =
+                        aim-edges old new (s .Eₗ) (s .Δ) j n r t x Z l c there fits (λ e. omega (arith, below)) E
+                        (inr (record { below = below; edge = added old new (s .Eₗ) (s .Δ) j n r t x Z l c there fits (λ e. omega (arith, below)) }));
+                  };
+              hand = hand-aim j t hand-joined;
+              held = λ z. (let y : n ≡ t → ⊥ = λ e. omega (arith, rw (aim-marks j n r t) at z, join-mark-same e) in
+                  rw (free, other-pair t n y, toPair) own);
+            }
+          where
+            join-mark-same : n ≡ t → markAt j n ≡ 1
+            join-mark-same e = rw e (join-mark (old .alarm) g t (h .set) (S .sized) below)
+
+    some-row : (h : Spot) → (cameTo old new n v r) ≡ some h → Fits 64 h → (k : Bool) → marked (g .marks) (keptNumber (leadsTo new n r)) ≡ k
+        → Row old new n v (toPair old new s (pairOf n) r (pair (h .place) (leadsTo new n r)) (h .set))
+        (elim k as (λ _. Graph) [
+          | true ↦ aim g n r (keptNumber (leadsTo new n r))
+          | false ↦ aim (join (old .alarm) g (pairNumber (h .place) (leadsTo new n r)) (h .set)) n r (pairNumber (h .place) (leadsTo new n r))
+        ])
+    some-row h e T true k = kept-row h e (R .sets .Δ (leadsTo new n r) q-below ∙ k)
+    some-row h e T false k =
+        let t = pairNumber (h .place) (leadsTo new n r) in
+        subst (λ (m : Pair). Row old new n v (toPair old new s (pairOf n) r m (h .set)) (aim (join (old .alarm) g t (h .set)) n r t))
+        (pair-is (pair (h .place) (leadsTo new n r)) (record { old = T .place; new = q-below }))
+        (joins-row h e t refl T (R .sets .Δ (leadsTo new n r) q-below ∙ k))
+
+    row-done : rowDone old new g n v r ≡ processed (old .alarm) g n r (leadsTo new n r) (stepOf old new n v r)
+    unfolding rowDone
+    row-done = rw (lt-ltb r (size (rowsOf new n)) a, rowDone)
+
+    edge-done : (o : Option Spot) → stepOf old new n v r ≡ o → Row old new n v (called old new s (pairOf n) r (cameTo old new n v r)) (processed (old .alarm) g n r (leadsTo new n r) o)
+    unfolding stepOf step processed turns.arrived
+    edge-done none e =
+        subst (λ (f : State). Row old new n v f (aim (keep g (leadsTo new n r)) n r (keptNumber (leadsTo new n r)))) (sym (fails old new s n r (cameTo old new n v r) e)) fails-row
+    edge-done (some h) e =
+        let z = arrives old new s n r (cameTo old new n v r) h e in
+        let T = step-of-fits old new F G n v r a 64 (F .few-places) (omega arith) w h e in
+        subst (λ (f : State). Row old new n v f (turns.arrived (old .alarm) g n r (leadsTo new n r) h)) (sym (z .1))
+        (some-row h (z .0) T (marked (g .marks) (keptNumber (leadsTo new n r))) refl)
+
+    pub row-read : Row old new n v (called old new s (pairOf n) r (cameTo old new n v r)) (rowDone old new g n v r)
+    row-read = subst (λ (f : Graph). Row old new n v (called old new s (pairOf n) r (cameTo old new n v r)) f) (sym row-done) (edge-done (stepOf old new n v r) refl)
+
+    -- lines 5 to 18
+    pub stepped : Words (old .table) → Words (new .table) → Lines5to18 old (oldOf n) (s .Vδ (pairOf n)) (operation (rowsOf new n) r) (cameTo old new n v r)
+    stepped wo wn =
+        let (i, k) = row-of (new .table) (n % 64) r a in
+        let fits = subst Operands (sym (row-same (new .table) (n % 64) k .operation-same)) (operands new G (wn .small) i (k .inside)) in
+        subst (λ (u : ℕ). Lines5to18 old (oldOf n) u (operation (rowsOf new n) r) (moved old (record { place = oldOf n; set = v }) (operation (rowsOf new n) r))) (sym own)
+        (step-lines old F wo (oldOf n) v (operation (rowsOf new n) r) (omega arith) w fits)
