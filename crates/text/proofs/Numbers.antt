@@ -2,18 +2,18 @@
 -- Assumes nothing.
 use mathlib.Core.Path.{_≡_, refl, sym, ap, _∙_}
 use mathlib.Core.List.{List, [], _∷_}
-use mathlib.Core.Bool.{Bool, true, false, _&&_}
-use Prim.Native.Nat.{ℕ, zero, suc, _+_, _*_, _-_, _%_, _≤_, _<_}
+use mathlib.Core.Bool.{Bool, true, false, _&&_, not}
+use Prim.Native.Nat.{ℕ, zero, suc, _+_, _*_, _-_, _%_, _^_, _≤_, _<_}
 use native.Mathlib.Numerals.{add-one}
 use native.Mathlib.Omega.{arith}
-use borrow.Author.Tests.{eq-eqb, ne-eqb, le-leb, lt-leb}
+use borrow.Author.Tests.{eq-eqb, ne-eqb, le-leb, lt-leb, leb-true, leb-false, not-true, not-false}
 use lib.Dec.{eqb, leb}
 use lib.ListN.{length, getD, drop, List·getD-eq-default, drop-of-length-le}
 use lib.Seq.{drop-cons}
 use Rattle.text.specs.declared.fields.Kind.{Kind}
 use Rattle.text.specs.declared.fields.Field.{Field}
 use Rattle.text.specs.declared.fields.Field.the-variants.{Number, Unfit}
-use Rattle.text.specs.Fields.{byteAt, digitOf, digits, value, kind, judged, bounded, ended, numberOf, numberAt, followed, fieldAt, lineEnd, closed, missing, itemAt, reached}
+use Rattle.text.specs.Fields.{byteAt, digitOf, TellsDigit, digits, value, kind, judged, bounded, ended, numberOf, numberAt, followed, fieldAt, lineEnd, closed, missing, itemAt, reached}
 use Rattle.text.specs.declared.fields.Kind.the-variants.{Plain, Count, Spare}
 use native.Mathlib.Decide.{decLt}
 use mathlib.Core.Logic.{dite}
@@ -37,6 +37,10 @@ and-false : (a : Bool) → a && false ≡ false
 and-false true = refl
 and-false false = refl
 
+and-true-right : (a : Bool) → a && true ≡ a
+and-true-right true = refl
+and-true-right false = refl
+
 pub digit-low : (b : ℕ) → b < 48 → digitOf b ≡ 10
 unfolding digitOf
 digit-low b h = rw (lt-leb 48 b h, digitOf)
@@ -49,26 +53,36 @@ pub digit-is : (b : ℕ) → 48 ≤ b → b ≤ 57 → digitOf b ≡ b - 48
 unfolding digitOf
 digit-is b h g = rw (le-leb 48 b h, le-leb b 57 g, digitOf)
 
+-- a byte less 48, wrapped, tells the digit that it is
+pub digit-less : (b r : ℕ) → r < 2 ^ 32 → (r + 48) % 2 ^ 32 ≡ b → TellsDigit r b
+digit-less b r h e = record { is = is; none = none }
+  where
+    is : r ≤ 9 → r ≡ digitOf b
+    is l = let w : r ≡ b - 48 = omega arith in w ∙ sym (digit-is b (omega arith) (omega arith))
+
+    none : 9 < r → 9 < digitOf b
+    none l =
+        dite (decLt b 48)
+        (λ u. let w = digit-low b u in omega arith)
+        (λ n. let w = digit-high b (omega arith) in omega arith)
+
 module _ (text : List ℕ) (at : ℕ) where
-  pub digit-past : length text ≤ at → 10 ≡ digitOf (byteAt text at)
-  digit-past h = rw (byte-past text at h) (sym (digit-high 256 (omega arith)))
+  pub past-digits : length text ≤ at → 10 ≡ digitOf (byteAt text at)
+  past-digits h = rw (byte-past text at h) (sym (digit-high 256 (omega arith)))
 
-  pub digit-below : at < length text → getD text at 0 < 48 → 10 ≡ digitOf (byteAt text at)
-  digit-below l h = rw (byte-here text at l) (sym (digit-low _ h))
+  pub digit-past : length text ≤ at → TellsDigit 10 (byteAt text at)
+  digit-past h = let e = past-digits h in record { is = λ l. absurd (omega arith); none = λ l. omega arith }
 
-  pub digit-above : at < length text → 57 < getD text at 0 → 10 ≡ digitOf (byteAt text at)
-  digit-above l h = rw (byte-here text at l) (sym (digit-high _ h))
-
-  pub digit-at : at < length text → 48 ≤ getD text at 0 → getD text at 0 ≤ 57 → getD text at 0 - 48 ≡ digitOf (byteAt text at)
-  digit-at l h g = rw (byte-here text at l) (sym (digit-is _ h g))
+  pub digit-here : (r : ℕ) → at < length text → r < 2 ^ 32 → (r + 48) % 2 ^ 32 ≡ getD text at 0 → TellsDigit r (byteAt text at)
+  digit-here r l h e = rw (byte-here text at l) (digit-less (getD text at 0) r h e)
 
   -- ---- the digits at an offset
 
   pub digit-inside : digitOf (byteAt text at) ≤ 9 → at < length text
-  digit-inside h = dite (decLt at (length text)) (λ l. l) (λ n. let g = digit-past (omega arith) in absurd (omega arith))
+  digit-inside h = dite (decLt at (length text)) (λ l. l) (λ n. let g = past-digits (omega arith) in absurd (omega arith))
 
-  pub inside-by : (d : ℕ) → d ≡ digitOf (byteAt text at) → d ≤ 9 → at < length text
-  inside-by d e h = digit-inside (omega arith)
+  pub inside-by : (d : ℕ) → TellsDigit d (byteAt text at) → d ≤ 9 → at < length text
+  inside-by d t h = let e = t .is h in digit-inside (omega arith)
 
   pub digits-none : 9 < digitOf (byteAt text at) → digits (drop at text) ≡ []
   unfolding digits
@@ -108,6 +122,24 @@ ended-none : (sort : Kind) (first at x : ℕ) → x ≤ 4294967295 → judged so
 unfolding ended bounded value
 ended-none sort first at x h = let z : at + 0 ≡ at = omega arith in rw (and-false (eqb x 0), ended, le-leb x 4294967295 h, bounded, z)
 
+-- room for one digit more
+pub room-by : (x d : ℕ) (r : Bool) → r ≡ leb (x * 10 + d) 4294967295 → not r ≡ false → x * 10 + d ≤ 4294967295
+room-by x d r e f = leb-true (x * 10 + d) 4294967295 (sym e ∙ not-false r f)
+
+-- below a tenth of the largest u32 there is room, at it for the digits up to 5, above it for none
+module _ (x d : ℕ) where
+  pub room-below : d ≤ 9 → x < 429496729 → true ≡ leb (x * 10 + d) 4294967295
+  room-below h l = sym (le-leb (x * 10 + d) 4294967295 (omega arith))
+
+  pub room-last : x ≡ 429496729 → leb d 5 ≡ leb (x * 10 + d) 4294967295
+  room-last e =
+      dite (decLt 5 d)
+      (λ l. lt-leb d 5 l ∙ sym (lt-leb (x * 10 + d) 4294967295 (omega arith)))
+      (λ n. le-leb d 5 (omega arith) ∙ sym (le-leb (x * 10 + d) 4294967295 (omega arith)))
+
+  pub room-above : 429496729 ≤ x → (x ≡ 429496729 → ⊥) → false ≡ leb (x * 10 + d) 4294967295
+  room-above l n = sym (lt-leb (x * 10 + d) 4294967295 (omega arith))
+
 -- the number has x up to an offset
 pub record Counting (sort : Kind) (text : List ℕ) (first x at : ℕ) : Type 0 where
   pub is : numberAt sort text first ≡ ended sort first at x (digits (drop at text))
@@ -115,58 +147,70 @@ pub record Counting (sort : Kind) (text : List ℕ) (first x at : ℕ) : Type 0 
   pub inside : at ≤ length text
 
 module _ (sort : Kind) (text : List ℕ) (first x : ℕ) where
-  pub number-none : x ≡ digitOf (byteAt text first) → 9 < x → Unfit 12 first ≡ numberAt sort text first
+  pub number-none : TellsDigit x (byteAt text first) → 9 < x → Unfit 12 first ≡ numberAt sort text first
   unfolding numberAt numberOf
-  number-none e h = rw (digits-none text first (omega arith))
+  number-none t h = rw (digits-none text first (t .none h))
 
-  pub number-start : x ≡ digitOf (byteAt text first) → x ≤ 9 → Counting sort text first x (first + 1)
+  pub number-start : TellsDigit x (byteAt text first) → x ≤ 9 → Counting sort text first x (first + 1)
   unfolding numberAt numberOf
-  number-start e h =
+  number-start t h =
+      let e = t .is h in
       let l : first < length text = digit-inside text first (omega arith) in
       record { is = rw (digits-more text first (omega arith), e); small = omega arith; inside = omega arith }
 
-  pub number-stop : (at d : ℕ) (r : Field) → Counting sort text first x at → d ≡ digitOf (byteAt text at) → 9 < d → r ≡ judged sort first at x → r ≡ numberAt sort text first
-  number-stop at d r c e h j = j ∙ ended-none sort first at x (c .small) ∙ sym (rw (digits-none text at (omega arith)) at (c .is))
+  module _ (at d : ℕ) (c : Counting sort text first x at) (t : TellsDigit d (byteAt text at)) where
+    pub number-stop : (r : Field) → 9 < d → r ≡ judged sort first at x → r ≡ numberAt sort text first
+    number-stop r h j = j ∙ ended-none sort first at x (c .small) ∙ sym (rw (digits-none text at (t .none h)) at (c .is))
 
-  pub number-zero : (at d : ℕ) → Counting sort text first x at → d ≡ digitOf (byteAt text at) → d ≤ 9 → x ≡ 0 → Unfit 13 first ≡ numberAt sort text first
-  number-zero at d c e h z =
-      rw (c .is, digits-more text at (omega arith), z) (ended-zero sort first at (digitOf (byteAt text at)) (digits (drop (at + 1) text)))
+    pub number-nought : (r : Field) → 9 < d → x ≡ 0 → r ≡ judged sort first at 0 → r ≡ numberAt sort text first
+    number-nought r h z j = number-stop r h (j ∙ ap (judged sort first at) (sym z))
 
-  pub number-above : (at d : ℕ) → Counting sort text first x at → d ≡ digitOf (byteAt text at) → d ≤ 9 → (x ≡ 0 → ⊥) → 4294967295 < x * 10 + d → Unfit 13 first ≡ numberAt sort text first
-  number-above at d c e h n g =
-      rw (c .is, digits-more text at (omega arith)) (ended-above sort first at x (digitOf (byteAt text at)) (digits (drop (at + 1) text)) n (omega arith))
+    module _ (h : d ≤ 9) where
+      here : digitOf (byteAt text at) ≤ 9
+      here = let e = t .is h in omega arith
 
-  pub number-more : (at d : ℕ) → Counting sort text first x at → d ≡ digitOf (byteAt text at) → d ≤ 9 → (x ≡ 0 → ⊥) → x * 10 + d ≤ 4294967295 → Counting sort text first (x * 10 + d) (at + 1)
-  number-more at d c e h n g =
-      let l : at < length text = digit-inside text at (omega arith) in
-      record {
-        is = rw (c .is, digits-more text at (omega arith), e) (ended-more sort first at x (digitOf (byteAt text at)) (digits (drop (at + 1) text)) n);
-        small = g;
-        inside = omega arith;
-      }
+      pub number-zero : x ≡ 0 → Unfit 13 first ≡ numberAt sort text first
+      number-zero z =
+          rw (c .is, digits-more text at here, z) (ended-zero sort first at (digitOf (byteAt text at)) (digits (drop (at + 1) text)))
+
+      module _ (n : x ≡ 0 → ⊥) (r : Bool) (e : r ≡ leb (x * 10 + d) 4294967295) where
+        pub number-above : not r ≡ true → Unfit 13 first ≡ numberAt sort text first
+        number-above f =
+            let i = t .is h in
+            let g = leb-false (x * 10 + d) 4294967295 (sym e ∙ not-true r f) in
+            rw (c .is, digits-more text at here) (ended-above sort first at x (digitOf (byteAt text at)) (digits (drop (at + 1) text)) n (omega arith))
+
+        pub number-more : not r ≡ false → Counting sort text first (x * 10 + d) (at + 1)
+        number-more f =
+            let l : at < length text = digit-inside text at here in
+            record {
+              is = rw (c .is, digits-more text at here, t .is h) (ended-more sort first at x (digitOf (byteAt text at)) (digits (drop (at + 1) text)) n);
+              small = room-by x d r e f;
+              inside = omega arith;
+            }
 
 -- ---- what a field may hold
 
-module _ (sort : Kind) (first next x : ℕ) where
-  pub judge-plain : sort ≡ Plain → Number x next ≡ judged sort first next x
+module _ (sort s : Kind) (first next x : ℕ) (i : s ≡ sort) where
+  pub judge-plain : s ≡ Plain → Number x next ≡ judged sort first next x
   unfolding judged
-  judge-plain e = rw e
+  judge-plain e = rw (← i, e)
 
-  pub judge-count : sort ≡ Count → x ≤ 128 → Number x next ≡ judged sort first next x
+  pub judge-count : s ≡ Count → x ≤ 128 → Number x next ≡ judged sort first next x
   unfolding judged
-  judge-count e h = rw (e, le-leb x 128 h, judged)
+  judge-count e h = rw (← i, e, le-leb x 128 h, judged)
 
-  pub judge-many : sort ≡ Count → 128 < x → Unfit 2 first ≡ judged sort first next x
+  pub judge-many : s ≡ Count → 128 < x → Unfit 2 first ≡ judged sort first next x
   unfolding judged
-  judge-many e h = rw (e, lt-leb x 128 h, judged)
+  judge-many e h = rw (← i, e, lt-leb x 128 h, judged)
 
-  pub judge-spare : sort ≡ Spare → x ≡ 0 → Number x next ≡ judged sort first next x
+  pub judge-spare : s ≡ Spare → x ≡ 0 → Number x next ≡ judged sort first next x
   unfolding judged
-  judge-spare e h = rw (e, eq-eqb x 0 h, judged)
+  judge-spare e h = rw (← i, e, eq-eqb x 0 h, judged)
 
-  pub judge-used : sort ≡ Spare → (x ≡ 0 → ⊥) → Unfit 13 first ≡ judged sort first next x
+  pub judge-used : s ≡ Spare → (x ≡ 0 → ⊥) → Unfit 13 first ≡ judged sort first next x
   unfolding judged
-  judge-used e h = rw (e, ne-eqb x 0 h, judged)
+  judge-used e h = rw (← i, e, ne-eqb x 0 h, judged)
 
 -- ---- what follows a number
 
@@ -202,11 +246,11 @@ module _ (text : List ℕ) (f : Field) where
 
 -- ---- a field
 
-module _ (sort : Kind) (text : List ℕ) (at : ℕ) (r : Field) where
-  pub field-past : length text ≤ at → r ≡ numberAt sort text at → r ≡ fieldAt sort text at
-  unfolding fieldAt
-  field-past h e = rw (byte-past text at h, fieldAt) e
+pub field-past : (sort : Kind) (text : List ℕ) (at : ℕ) → length text ≤ at → Unfit 12 at ≡ fieldAt sort text at
+unfolding fieldAt
+field-past sort text at h = rw (byte-past text at h, fieldAt) (number-none sort text at 10 (digit-past text at h) (omega arith))
 
+module _ (sort : Kind) (text : List ℕ) (at : ℕ) (r : Field) where
   pub field-bare : at < length text → (getD text at 0 ≡ 34 → ⊥) → r ≡ numberAt sort text at → r ≡ fieldAt sort text at
   unfolding fieldAt
   field-bare l h e = rw (byte-here text at l, ne-eqb _ _ h, fieldAt) e
@@ -247,23 +291,28 @@ kind-high (suc (suc (suc (suc zero)))) h = absurd (omega arith)
 kind-high (suc (suc (suc (suc (suc zero))))) h = absurd (omega arith)
 kind-high (suc (suc (suc (suc (suc (suc k)))))) h = refl
 
-module _ (k : ℕ) (text : List ℕ) (f r : Field) where
-  pub close-line : k % 6 ≡ 5 → r ≡ lineEnd text f → r ≡ closed k text f
-  unfolding closed
-  close-line h e = rw (eq-eqb _ _ h, closed) e
+module _ (k : ℕ) (text : List ℕ) (f : Field) where
+  pub close-unfit : (n p : ℕ) → f ≡ Unfit n p → Unfit n p ≡ closed k text f
+  unfolding closed followed lineEnd
+  close-unfit n p e = rw e (go (eqb (k % 6) 5))
+    where
+      go : (b : Bool) → Unfit n p ≡ elim b [ true ↦ lineEnd text (Unfit n p) | false ↦ followed 44 text (Unfit n p) ]
+      go true = refl
+      go false = refl
 
-  pub close-comma : (k % 6 ≡ 5 → ⊥) → r ≡ followed 44 text f → r ≡ closed k text f
-  unfolding closed
-  close-comma h e = rw (ne-eqb _ _ h, closed) e
+  module _ (x p : ℕ) (r : Field) (e : f ≡ Number x p) where
+    pub close-line : k % 6 ≡ 5 → r ≡ lineEnd text (Number x p) → r ≡ closed k text f
+    unfolding closed
+    close-line h i = rw (eq-eqb _ _ h, closed) (i ∙ ap (lineEnd text) (sym e))
+
+    pub close-comma : (k % 6 ≡ 5 → ⊥) → r ≡ followed 44 text (Number x p) → r ≡ closed k text f
+    unfolding closed
+    close-comma h i = rw (ne-eqb _ _ h, closed) (i ∙ ap (followed 44 text) (sym e))
 
 module _ (k : ℕ) (text : List ℕ) (at : ℕ) where
-  pub missing-here : k % 6 ≡ 0 → leb (length text) at ≡ missing k text at
+  pub missing-past : length text ≤ at → eqb (k % 6) 0 ≡ missing k text at
   unfolding missing
-  missing-here h = rw (eq-eqb _ _ h, missing)
-
-  pub missing-not : (k % 6 ≡ 0 → ⊥) → false ≡ missing k text at
-  unfolding missing
-  missing-not h = rw (ne-eqb _ _ h, missing)
+  missing-past h = rw (le-leb _ _ h, missing, and-true-right (eqb (k % 6) 0))
 
   pub missing-inside : at < length text → false ≡ missing k text at
   unfolding missing
@@ -273,9 +322,9 @@ module _ (k : ℕ) (text : List ℕ) (at : ℕ) where
   unfolding itemAt
   item-missing m e h = rw (sym e ∙ h, itemAt)
 
-  pub item-there : (m : Bool) (sort : Kind) (f r : Field) → m ≡ missing k text at → m ≡ false → sort ≡ kind k → f ≡ fieldAt sort text at → r ≡ closed k text f → r ≡ itemAt k text at
+  pub item-there : (m : Bool) (f r : Field) → m ≡ missing k text at → m ≡ false → f ≡ fieldAt (kind k) text at → r ≡ closed k text f → r ≡ itemAt k text at
   unfolding itemAt
-  item-there m sort f r e h s g i = rw (sym e ∙ h, itemAt, ← s, ← g) i
+  item-there m f r e h g i = rw (sym e ∙ h, itemAt, ← g) i
 
 -- ---- the offset reached
 

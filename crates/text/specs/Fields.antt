@@ -1,8 +1,9 @@
 -- Numbers and fields of a text ("Chart text", "The sender of a text"). An offset counts the text's bytes from 0, a field is named by its number,
 -- counted from 0 through the whole text: field k stands in record k / 6, as its field k % 6.
+use mathlib.Core.Path.{_≡_}
 use mathlib.Core.List.{List, [], _∷_}
 use mathlib.Core.Bool.{Bool, true, false, _&&_}
-use Prim.Native.Nat.{ℕ, _+_, _*_, _-_, _%_}
+use Prim.Native.Nat.{ℕ, _+_, _*_, _-_, _%_, _≤_, _<_}
 use lib.ListN.{length, getD, drop}
 use lib.Dec.{eqb, leb}
 use Rattle.text.specs.declared.fields.Kind.{Kind}
@@ -18,6 +19,11 @@ byteAt text at = getD text at 256
 -- the digit that a byte is, 10 where it is none
 unfoldable pub digitOf : ℕ → ℕ
 digitOf b = elim (leb 48 b && leb b 57) [ true ↦ b - 48 | false ↦ 10 ]
+
+-- r tells the digit that a byte is: above 9 where it is none
+pub record TellsDigit (r b : ℕ) : Type 0 where
+  pub is : r ≤ 9 → r ≡ digitOf b
+  pub none : 9 < r → 9 < digitOf b
 
 -- the digits that a text begins with
 unfoldable pub digits : List ℕ → List ℕ

@@ -1,6 +1,8 @@
 // The fields of a text: a number, perhaps within double quotes, and the comma or the end of the record after it.
 ghost use mathlib.Core.Path.{_≡_};
-ghost use Rattle.text.specs.Fields.{byteAt, digitOf, kind, judged, numberAt, followed, fieldAt, lineEnd, closed, missing, itemAt};
+ghost use Prim.Native.Nat.{_+_, _*_, _≤_};
+ghost use lib.Dec.{leb};
+ghost use Rattle.text.specs.Fields.{byteAt, TellsDigit, kind, judged, numberAt, followed, fieldAt, lineEnd, closed, missing, itemAt};
 
 // What a field may hold: any number, the row count, or a spare of the first record.
 pub enum Kind {
@@ -15,10 +17,13 @@ pub enum Field {
     Unfit(u32, usize),
 }
 
-// What a field may hold, by its number in the text.
+// What a field may hold, by its number in the text: first those of the rows, which are nearly all.
 fn kind_of(field: usize) -> Kind
     ensures { λ r. ⌜ r ≡ kind field ⌝ }
 {
+    if 5 < field {
+        return Kind::Plain;
+    }
     match field {
         2 => Kind::Count,
         3..=5 => Kind::Spare,
@@ -26,28 +31,36 @@ fn kind_of(field: usize) -> Kind
     }
 }
 
-// The digit at an offset, 10 where none stands there.
-fn digit(text: &[u8], at: usize) -> u64
-    ensures { λ r. ⌜ r ≡ digitOf (byteAt (now (text .entry)) at) ⌝ }
+// The digit at an offset, above 9 where none stands there.
+fn digit(text: &[u8], at: usize) -> u32
+    ensures { λ r. ⌜ TellsDigit r (byteAt (now (text .entry)) at) ⌝ }
 {
     if text.len() <= at {
         return 10;
     }
     let b = text[at];
-    if b < 48 {
-        return 10;
+    std::num::wrapping_sub_u32(b as u32, 48)
+}
+
+// Whether a number is a u32 with one digit more.
+fn has_room(value: u32, d: u32) -> bool
+    requires { ⌜ d ≤ 9 ⌝ }
+    ensures { λ r. ⌜ r ≡ leb (value * 10 + d) 4294967295 ⌝ }
+{
+    if value < 429496729 {
+        return true;
     }
-    if 57 < b {
-        return 10;
+    if value == 429496729 {
+        return d <= 5;
     }
-    (b - 48) as u64
+    false
 }
 
 // A number whose digits have ended, judged by what its field may hold.
-fn judge(sort: Kind, first: usize, next: usize, x: u32) -> Field
-    ensures { λ r. ⌜ r ≡ judged sort first next x ⌝ }
+fn judge(field: usize, first: usize, next: usize, x: u32) -> Field
+    ensures { λ r. ⌜ r ≡ judged (kind field) first next x ⌝ }
 {
-    match sort {
+    match kind_of(field) {
         Kind::Plain => Field::Number(x, next),
         Kind::Count => {
             if x <= 128 {
@@ -64,27 +77,30 @@ fn judge(sort: Kind, first: usize, next: usize, x: u32) -> Field
     }
 }
 
-// The number whose first digit stands at an offset.
-fn number_at(text: &[u8], first: usize, sort: Kind) -> Field
-    ensures { λ r. ⌜ r ≡ numberAt sort (now (text .entry)) first ⌝ }
+// The number whose first digit stands at an offset. A leading zero is told before the loop, so that each further digit costs less.
+fn number_at(text: &[u8], first: usize, field: usize) -> Field
+    ensures { λ r. ⌜ r ≡ numberAt (kind field) (now (text .entry)) first ⌝ }
 {
     let mut value = digit(text, first);
     if 9 < value {
         return Field::Unfit(12, first);
     }
     let mut at = first + 1;
+    if value == 0 {
+        if digit(text, at) <= 9 {
+            return Field::Unfit(13, first);
+        }
+        return judge(field, first, at, 0);
+    }
     loop {
         let d = digit(text, at);
         if 9 < d {
-            return judge(sort, first, at, value as u32);
+            return judge(field, first, at, value);
         }
-        if value == 0 {
+        if !has_room(value, d) {
             return Field::Unfit(13, first);
         }
         value = value * 10 + d;
-        if 4294967295 < value {
-            return Field::Unfit(13, first);
-        }
         at += 1;
     }
 }
@@ -108,17 +124,17 @@ fn follow(text: &[u8], f: Field, b: u8) -> Field
 }
 
 // A number, perhaps within double quotes.
-fn field_at(text: &[u8], at: usize, sort: Kind) -> Field
-    ensures { λ r. ⌜ r ≡ fieldAt sort (now (text .entry)) at ⌝ }
+fn field_at(text: &[u8], at: usize, field: usize) -> Field
+    ensures { λ r. ⌜ r ≡ fieldAt (kind field) (now (text .entry)) at ⌝ }
 {
     if text.len() <= at {
-        return number_at(text, at, sort);
+        return Field::Unfit(12, at);
     }
     if text[at] == 34 {
-        let f = number_at(text, at + 1, sort);
+        let f = number_at(text, at + 1, field);
         return follow(text, f, 34);
     }
-    number_at(text, at, sort)
+    number_at(text, at, field)
 }
 
 // The number, if the record ends after it: with the text, or by CRLF.
@@ -141,18 +157,23 @@ fn line_end(text: &[u8], f: Field) -> Field
 fn close(text: &[u8], f: Field, field: usize) -> Field
     ensures { λ r. ⌜ r ≡ closed field (now (text .entry)) f ⌝ }
 {
-    if field % 6 == 5 {
-        return line_end(text, f);
+    match f {
+        Field::Unfit(n, p) => Field::Unfit(n, p),
+        Field::Number(x, p) => {
+            if field % 6 == 5 {
+                return line_end(text, Field::Number(x, p));
+            }
+            follow(text, Field::Number(x, p), 44)
+        }
     }
-    follow(text, f, 44)
 }
 
 // Whether a record should begin at an offset where the text has ended.
 fn is_missing(text: &[u8], at: usize, field: usize) -> bool
     ensures { λ r. ⌜ r ≡ missing field (now (text .entry)) at ⌝ }
 {
-    if field % 6 == 0 {
-        return text.len() <= at;
+    if text.len() <= at {
+        return field % 6 == 0;
     }
     false
 }
@@ -164,6 +185,6 @@ pub fn item_at(text: &[u8], at: usize, field: usize) -> Field
     if is_missing(text, at, field) {
         return Field::Unfit(14, text.len());
     }
-    let f = field_at(text, at, kind_of(field));
+    let f = field_at(text, at, field);
     close(text, f, field)
 }

@@ -4,9 +4,6 @@ use borrow.Author.Needs.{needs}
 use Rattle.text.proofs.fields.field_at.Statement.{statement}
 use Rattle.text.proofs.fields.field_at.Tie as tie
 
-number-at-requires : tie.Need-number-at-requires
-number-at-requires c κs = search needs
-
 returns : tie.Need-returns
 returns c = search field-past
 
@@ -16,8 +13,8 @@ shared-slice-read-if2 c = search needs
 add-number-at : tie.Need-add-number-at
 add-number-at c = search needs
 
-number-at-requires-2 : tie.Need-number-at-requires-2
-number-at-requires-2 c κs = search needs
+number-at-requires : tie.Need-number-at-requires
+number-at-requires c κs = search needs
 
 follow-requires : tie.Need-follow-requires
 follow-requires c κs = search needs
@@ -25,8 +22,8 @@ follow-requires c κs = search needs
 returns-2 : tie.Need-returns-2
 returns-2 c = search field-quoted
 
-number-at-requires-3 : tie.Need-number-at-requires-3
-number-at-requires-3 c κs = search needs
+number-at-requires-2 : tie.Need-number-at-requires-2
+number-at-requires-2 c κs = search needs
 
 returns-3 : tie.Need-returns-3
 returns-3 c = search field-bare
@@ -35,12 +32,11 @@ pub field-at-spec : {M : Type 1} → statement M
 field-at-spec =
     tie.close
     (tie.spec
-    number-at-requires
     returns
     shared-slice-read-if2
     add-number-at
-    number-at-requires-2
+    number-at-requires
     follow-requires
     returns-2
-    number-at-requires-3
+    number-at-requires-2
     returns-3)

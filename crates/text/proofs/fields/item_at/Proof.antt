@@ -10,9 +10,6 @@ is-missing-requires c κs = search needs
 returns : tie.Need-returns
 returns c = search item-missing
 
-kind-of-requires : tie.Need-kind-of-requires
-kind-of-requires c κs = search needs
-
 field-at-requires : tie.Need-field-at-requires
 field-at-requires c κs = search needs
 
@@ -28,7 +25,6 @@ item-at-spec =
     (tie.spec
     is-missing-requires
     returns
-    kind-of-requires
     field-at-requires
     close-requires
     returns-2)

@@ -4,6 +4,9 @@ use borrow.Author.Needs.{needs}
 use Rattle.text.proofs.fields.judge.Statement.{statement}
 use Rattle.text.proofs.fields.judge.Tie as tie
 
+kind-of-requires : tie.Need-kind-of-requires
+kind-of-requires c κs = search needs
+
 enum-told : tie.Need-enum-told
 enum-told c = search needs
 
@@ -31,4 +34,13 @@ returns-5 c = search judge-used
 pub judge-spec : {M : Type 1} → statement M
 judge-spec =
     tie.close
-    (tie.spec enum-told enum-told-2 returns enum-told-3 returns-2 returns-3 returns-4 returns-5)
+    (tie.spec
+    kind-of-requires
+    enum-told
+    enum-told-2
+    returns
+    enum-told-3
+    returns-2
+    returns-3
+    returns-4
+    returns-5)
