@@ -1,5 +1,5 @@
 -- Which kind each code is, and what follows of an operation's operands. Assumes nothing.
-use mathlib.Core.Path.{_≡_, refl, sym}
+use mathlib.Core.Path.{_≡_, refl, sym, _∙_}
 use mathlib.Core.Bool.{Bool, true, false, cond, _&&_}
 use mathlib.Core.List.{[], _∷_}
 use Prim.Native.Nat.{ℕ, _+_, _-_, _%_, _^_, _≤_, _<_}
@@ -15,7 +15,7 @@ use Rattle.chart.specs.declared.operations.Kind.{Kind}
 use Rattle.chart.specs.declared.operations.Kind.the-variants.{Assignment, ConstantComparison, VariableComparison, Unknown}
 use Rattle.chart.specs.declared.operations.Operand.{Operand}
 use Rattle.chart.specs.declared.operations.Operand.the-variants.{Variable, Constant, Unused}
-use Rattle.chart.specs.Operations.{kind, byKind, operandB, assignedC, operandC, fits, operandsFit}
+use Rattle.chart.specs.Operations.{kind, byKind, isKnown, operandB, assignedC, operandC, fits, operandsFit}
 
 module _ (x : ℕ) where
   pub assigns : x ≤ 5 → Assignment ≡ kind x
@@ -62,6 +62,21 @@ no-more-codes code l =
       | yes e ↦ rw e
       | no n ↦ sym (List·getD-eq-default (Constant ∷ Unused ∷ Constant ∷ Variable ∷ Variable ∷ Unused ∷ []) Unused {n = code} (omega arith))
     ]
+
+-- ---- a known code with operands that fit, kind by kind
+module _ (o : Operation) (k : Kind) (i : k ≡ kind (o .code)) where
+  pub right-unknown : k ≡ Unknown → false ≡ isKnown o && operandsFit o
+  right-unknown e = rw (sym i ∙ e)
+
+  module _ (r : Bool) (h : r ≡ operandsFit o) where
+    pub right-assigns : k ≡ Assignment → r ≡ isKnown o && operandsFit o
+    right-assigns e = rw (sym i ∙ e) h
+
+    pub right-constants : k ≡ ConstantComparison → r ≡ isKnown o && operandsFit o
+    right-constants e = rw (sym i ∙ e) h
+
+    pub right-variables : k ≡ VariableComparison → r ≡ isKnown o && operandsFit o
+    right-variables e = rw (sym i ∙ e) h
 
 -- ---- operands that fit
 module _ (o : Operation) (h : operandsFit o ≡ true) where

@@ -5,12 +5,14 @@ use mathlib.Core.List.{List, [], _∷_}
 use Prim.Native.Nat.{ℕ, _%_, _<_}
 use native.Mathlib.Decide.{ℕ-discrete, decLt}
 use native.Mathlib.Omega.{arith}
+use borrow.Author.Tests.{eqb-true}
+use lib.Dec.{eqb}
 use lib.ListN.{getD}
 use Rattle.base.proofs.Lists.{any-false}
 use Rattle.base.proofs.Tests.{T-true}
 use Rattle.chart.specs.declared.operations.Operation.{Operation}
-use Rattle.chart.specs.Operations.{relation, related, withConstant, right, holds}
-use Rattle.chart.specs.Assumptions.{Opposed}
+use Rattle.chart.specs.Operations.{kind, byKind, isAssumption, relation, related, withConstant, right, holds}
+use Rattle.chart.specs.Assumptions.{OppositeCodes, Opposed}
 use Rattle.chart.specs.Trials.{alike, seats, trial, points, shown, shownBy, together, exclusive}
 use Rattle.chart.proofs.Order.{below-table, equal-table, above-table, related-lt, related-eq, related-gt}
 use Rattle.chart.proofs.Exact.{alike-is}
@@ -25,10 +27,18 @@ turned r s b e a x y = go (ℕ-discrete x y) (decLt x y)
     go (no n) (yes l) = related-lt s x y l ∙ b ∙ ap not (sym (related-lt r x y l))
     go (no n) (no l) = related-gt s x y (omega arith) ∙ a ∙ ap not (sym (related-gt r x y (omega arith)))
 
--- the relation of a code is below 8
-pub opposite-of : (code s r : ℕ) → s ≡ code % 8 → ((x y : ℕ) → s < 8 → related s x y ≡ not (related r x y))
-    → (x y : ℕ) → related (code % 8) x y ≡ not (related r x y)
-opposite-of code s r e h x y = subst (λ (z : ℕ). related z x y ≡ not (related r x y)) e (h x y (omega arith))
+-- codes whose relations are opposite of numbers that are below, equal and above
+pub opposite-codes : (f g : ℕ) → byKind (kind f) false true true false ≡ true → byKind (kind g) false true true false ≡ true
+    → byKind (kind f) false true false false ≡ byKind (kind g) false true false false
+    → getD below-table (f % 8) false ≡ not (getD below-table (g % 8) false) → getD equal-table (f % 8) false ≡ not (getD equal-table (g % 8) false)
+    → getD above-table (f % 8) false ≡ not (getD above-table (g % 8) false) → OppositeCodes f g
+opposite-codes f g p q w b e a = record { first = p; second = q; sort = w; relations = turned (g % 8) (f % 8) b e a }
+
+alike-same : (p q : Bool) → p ≡ q → alike p q ≡ true
+alike-same true true e = refl
+alike-same false false e = refl
+alike-same true false e = absurd (T-true (sym e))
+alike-same false true e = absurd (T-true e)
 
 module _ (f g : Operation) where
   -- the same two numbers, compared by opposite relations
@@ -42,6 +52,12 @@ module _ (f g : Operation) where
       go false false e = ap v eb
       go true false e = absurd (T-true e)
       go false true e = absurd (T-true (sym e))
+
+  pub opposed-codes : f .a ≡ g .a → f .b ≡ g .b → f .c ≡ g .c → (s : ℕ) → ((s ≡ 6 → ⊥) → OppositeCodes (f .code) s)
+      → (s ≡ 6 → ⊥) → eqb s (g .code) ≡ true → (isAssumption f ≡ true) × (isAssumption g ≡ true) × Opposed f g
+  opposed-codes ea eb ec s h n e =
+      let o : OppositeCodes (f .code) (g .code) = subst (OppositeCodes (f .code)) (eqb-true s (g .code) e) (h n) in
+      (o .first, o .second, opposed-by ea eb ec (alike-same (withConstant f) (withConstant g) (o .sort)) (o .relations))
 
   -- no trial meets both, and none fails both
   neither : (b h : Bool) → alike b (not h) && alike b h ≡ false

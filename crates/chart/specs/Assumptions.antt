@@ -1,12 +1,12 @@
 -- What it means that one assumption implies another, stated over all 64 values ("Charts and rows").
 use mathlib.Core.Path.{_≡_}
-use mathlib.Core.Bool.{Bool, true, not}
+use mathlib.Core.Bool.{Bool, true, false, not}
 use mathlib.Core.List.{List}
-use Prim.Native.Nat.{ℕ, _≤_, _^_, _<_}
+use Prim.Native.Nat.{ℕ, _≤_, _^_, _%_, _<_}
 use Rattle.chart.specs.declared.operations.Operation.{Operation}
 use Rattle.chart.specs.declared.assumptions.Implication.{Implication}
 use Rattle.chart.specs.declared.assumptions.Implication.the-variants.{Never, Implied, NotImplied}
-use Rattle.chart.specs.Operations.{holds}
+use Rattle.chart.specs.Operations.{kind, byKind, related, holds}
 use Rattle.chart.specs.Runs.{Values, var}
 
 -- the values meet the assumption
@@ -24,6 +24,14 @@ Implies f g = (v : List ℕ) → Values v → Meets v f → Meets v g
 -- "exactly one holds, for all values"
 abbrev pub ExactlyOne : Operation → Operation → Type 0
 ExactlyOne f g = (v : List ℕ) → Values v → holds f (var v) ≡ not (holds g (var v))
+
+-- codes of two assumptions that compare with the same sort of operand ("16 + r compares va with c; 32 + r compares va with vb"), by
+-- opposite relations
+pub record OppositeCodes (f g : ℕ) : Type 0 where
+  pub first : byKind (kind f) false true true false ≡ true
+  pub second : byKind (kind g) false true true false ≡ true
+  pub sort : byKind (kind f) false true false false ≡ byKind (kind g) false true false false
+  pub relations : (x y : ℕ) → related (f % 8) x y ≡ not (related (g % 8) x y)
 
 -- exactly one holds of any values whatever, in sight of the two operations: they compare the same in opposite ways
 abbrev pub Opposed : Operation → Operation → Type 0

@@ -1,11 +1,10 @@
 // The exact test of two assumptions: both are tried on a few values that stand for all.
 ghost use mathlib.Core.Path.{_≡_};
-ghost use mathlib.Core.Bool.{true, not};
-ghost use Prim.Native.Nat.{ℕ, _<_};
+ghost use mathlib.Core.Bool.{true};
 ghost use mathlib.Core.Logic.{_↔_};
 ghost use Rattle.base.specs.Lists.{any};
-ghost use Rattle.chart.specs.Operations.{related, right, holds};
-ghost use Rattle.chart.specs.Assumptions.{Operands, Means, Opposed, ExactlyOne};
+ghost use Rattle.chart.specs.Operations.{isAssumption, right, holds};
+ghost use Rattle.chart.specs.Assumptions.{Operands, Means, OppositeCodes, Opposed, ExactlyOne};
 ghost use Rattle.chart.specs.Trials.{alike, partner, compares, inside, own, seats, trial, points, shown, shownBy, together, never, implies, exclusive, implication};
 use crate::inner::meaning::related;
 use crate::operations::Operation;
@@ -185,24 +184,30 @@ pub fn implies(f: Operation, g: Operation) -> Implication
     Implication::Implied
 }
 
-// The relation that holds where r does not; none where r is no relation.
-fn opposite(r: u32) -> u32
-    ensures { λ s. ⌜ ((x y : ℕ) → s < 8 → related s x y ≡ not (related r x y)) ⌝ }
+// The code that compares in the opposite way; 6, which is no code, where there is none.
+fn opposite(code: u32) -> u32
+    ensures { λ s. ⌜ ((s ≡ 6 → ⊥) → OppositeCodes code s) ⌝ }
 {
-    match r {
-        0 => 1,
-        1 => 0,
-        2 => 5,
-        3 => 4,
-        4 => 3,
-        5 => 2,
-        _ => 8,
+    match code {
+        16 => 17,
+        17 => 16,
+        18 => 21,
+        19 => 20,
+        20 => 19,
+        21 => 18,
+        32 => 33,
+        33 => 32,
+        34 => 37,
+        35 => 36,
+        36 => 35,
+        37 => 34,
+        _ => 6,
     }
 }
 
-// Whether f and g compare the same in opposite ways, as the two rows of most places do: no trial is needed then.
-fn opposed(f: Operation, g: Operation) -> bool
-    ensures { λ r. ⌜ (r ≡ true → Opposed f g) ⌝ }
+// Whether f and g are assumptions that compare the same in opposite ways, as the two rows of most places do: no trial is needed then.
+pub fn opposed(f: Operation, g: Operation) -> bool
+    ensures { λ r. ⌜ (r ≡ true → (isAssumption f ≡ true) × (isAssumption g ≡ true) × Opposed f g) ⌝ }
 {
     if f.a != g.a {
         return false;
@@ -213,10 +218,11 @@ fn opposed(f: Operation, g: Operation) -> bool
     if f.c != g.c {
         return false;
     }
-    if alike(with_constant(f), with_constant(g)) {
-        return opposite(g.code % 8) == f.code % 8;
+    let s = opposite(f.code);
+    if s == 6 {
+        return false;
     }
-    false
+    s == g.code
 }
 
 // Whether exactly one of two assumptions holds, for all values.

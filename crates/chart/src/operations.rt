@@ -1,5 +1,6 @@
 // Operations: their kinds and operands, and the answers of the calls that evaluate one.
 ghost use mathlib.Core.Path.{_≡_};
+ghost use mathlib.Core.Bool.{_&&_};
 ghost use Rattle.chart.specs.Operations.{kind, isKnown, isAssignment, isAssumption, withConstant, operandB, assignedC, operandC, fits, operandsFit};
 
 // The operation of a row: its code "op" and the operands.
@@ -159,4 +160,16 @@ pub fn operands_fit(o: Operation) -> bool
         return fits(operand_c(o), o.c);
     }
     false
+}
+
+// Whether the code is known and every operand is as it wants it. Each kind by itself, so that the kind is found out once.
+pub fn is_right(o: Operation) -> bool
+    ensures { λ r. ⌜ r ≡ isKnown o && operandsFit o ⌝ }
+{
+    match kind_of(o.code) {
+        Kind::Assignment => operands_fit(o),
+        Kind::ConstantComparison => operands_fit(o),
+        Kind::VariableComparison => operands_fit(o),
+        Kind::Unknown => false,
+    }
 }

@@ -1,14 +1,16 @@
 // The first fault of a chart.
 ghost use mathlib.Core.Path.{_≡_};
-ghost use mathlib.Core.Bool.{_||_};
-ghost use Prim.Native.Nat.{_<_};
-ghost use lib.Dec.{leb, ltb};
+ghost use mathlib.Core.Bool.{true, false, _&&_, _||_};
+ghost use mathlib.Core.Option.{none};
+ghost use Prim.Native.Nat.{_-_, _<_, _≤_};
+ghost use lib.Dec.{eqb, leb, ltb};
 ghost use Rattle.base.specs.Options.{missing, firstOf};
 ghost use Rattle.base.specs.Tests.{someBelow};
 ghost use Rattle.chart.specs.Charts.{charted, size, from, to};
 ghost use Rattle.chart.specs.Faults.{told, countFault, alarmFault, fromBefore, rowFault, clash, conflictFault, rowsFault, fault};
 ghost use Rattle.chart.specs.Lookup.{Ascending};
 use crate::assumptions::exactly_one;
+use crate::assumptions::opposed;
 use crate::charts::Head;
 use crate::charts::Judged;
 use crate::inner::rows::operation_at;
@@ -114,19 +116,19 @@ fn row_fault(head: Head, rows: &[u32], i: usize) -> Judged
         };
     }
     let o = operation_at(rows, i);
+    if operations::is_right(o) {
+        return Judged::Faultless;
+    }
     if !operations::is_known(o) {
         return Judged::Faulty {
             number: 6,
             position: i,
         };
     }
-    if !operations::operands_fit(o) {
-        return Judged::Faulty {
-            number: 7,
-            position: i,
-        };
+    Judged::Faulty {
+        number: 7,
+        position: i,
     }
-    Judged::Faultless
 }
 
 // 4 to 7, of the first row that has one.
@@ -183,13 +185,56 @@ fn in_conflict(rows: &[u32], i: usize) -> bool
     false
 }
 
+// Whether row i leaves the same place as the row k before it.
+fn same_place(rows: &[u32], i: usize, k: usize) -> bool
+    requires { ⌜ i < size (now rows) ⌝ }
+    ensures { λ r. ⌜ r ≡ leb k i && eqb (from (now (rows .entry)) (i - k)) (from (now (rows .entry)) i) ⌝ }
+{
+    if i < k {
+        return false;
+    }
+    let j = i - k;
+    rows[j * 6] == rows[i * 6]
+}
+
+// Whether row i is plainly in no conflict, as nearly every row: the first of its place, or the second and opposed to the first.
+fn plainly_apart(rows: &[u32], i: usize) -> bool
+    requires { ⌜ i < size (now rows) ⌝ }
+    requires { ⌜ Ascending (now rows) ⌝ }
+    ensures { λ r. ⌜ (r ≡ true → someBelow i (clash (now (rows .entry)) i) ≡ false) ⌝ }
+{
+    if !same_place(rows, i, 1) {
+        return true;
+    }
+    if same_place(rows, i, 2) {
+        return false;
+    }
+    opposed(operation_at(rows, i - 1), operation_at(rows, i))
+}
+
+// So many rows from the first on that are plainly apart: in most charts all.
+fn plain_rows(rows: &[u32]) -> usize
+    requires { ⌜ Ascending (now rows) ⌝ }
+    ensures { λ r. ⌜ (r ≤ size (now (rows .entry))) × (firstOf r (conflictFault (now (rows .entry))) ≡ none) ⌝ }
+{
+    let n = rows.len() / 6;
+    let mut i = 0;
+    while i < n {
+        if !plainly_apart(rows, i) {
+            return i;
+        }
+        i += 1;
+    }
+    i
+}
+
 // 8, of the first row that is in conflict with an earlier one.
 fn first_conflict(rows: &[u32]) -> Judged
     requires { ⌜ Ascending (now rows) ⌝ }
     ensures { λ r. ⌜ told r ≡ firstOf (size (now (rows .entry))) (conflictFault (now (rows .entry))) ⌝ }
 {
     let n = rows.len() / 6;
-    let mut i = 0;
+    let mut i = plain_rows(rows);
     while i < n {
         if in_conflict(rows, i) {
             return Judged::Faulty {

@@ -10,7 +10,7 @@ opposed-requires : tie.Need-opposed-requires
 opposed-requires c κs = search needs
 
 returns : tie.Need-returns
-returns c = one-tested _ _ (opposed-one _ _ (c .before .opposed .ensures (c .if1 .taken)))
+returns c = one-tested _ _ (opposed-one _ _ (c .before .opposed .ensures (c .if1 .taken) .2))
 
 together-requires : tie.Need-together-requires
 together-requires c κs = search needs

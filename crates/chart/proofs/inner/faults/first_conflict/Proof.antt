@@ -1,4 +1,4 @@
--- `chart::inner::faults::first_conflict` meets its contract. The invariant: no row passed is in conflict. Assumes nothing.
+-- `chart::inner::faults::first_conflict` meets its contract. The invariant: no row passed is in conflict, those that are plainly apart first. Assumes nothing.
 use Rattle.chart.proofs.Faults.{conflict-here, no-conflict}
 use mathlib.Core.Path.{_≡_, refl, sym, ap, _∙_}
 use mathlib.Core.Option.{none}
@@ -18,12 +18,14 @@ Inv-loop rows n i₀ i = (i ≤ size rows) × (firstOf i (conflictFault rows) �
 abbrev μ-loop : tie.MeasureT-loop
 μ-loop rows n i₀ i = size rows - i
 
+plain-rows-requires : tie.Need-plain-rows-requires Inv-loop μ-loop
+plain-rows-requires c κs = search needs
+
 loop-holds : tie.Need-loop-holds Inv-loop μ-loop
-unfolding firstOf
-loop-holds c = search needs
+loop-holds c = c .plain-rows .ensures
 
 in-conflict-requires : tie.Need-in-conflict-requires Inv-loop μ-loop
-in-conflict-requires c κs = (c .loop-test .taken, c .before .before .before .pre)
+in-conflict-requires c κs = (c .loop-test .taken, c .before .before .before .before .pre)
 
 returns : tie.Need-returns Inv-loop μ-loop
 returns c = conflict-here _ (c .before .before .before .loop .i) (c .before .in-conflict .ensures) (c .if1 .taken) ∙ sym (first-at _ _ (c .before .before .before .loop .i) (c .before .before .loop-test .taken) (c .before .before .before .loop .inv .1) (ap missing (sym (conflict-here _ (c .before .before .before .loop .i) (c .before .in-conflict .ensures) (c .if1 .taken)))))
@@ -46,6 +48,7 @@ first-conflict-spec =
     (tie.spec
     Inv-loop
     μ-loop
+    plain-rows-requires
     loop-holds
     in-conflict-requires
     returns

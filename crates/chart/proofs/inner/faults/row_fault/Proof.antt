@@ -1,8 +1,6 @@
 -- `chart::inner::faults::row_fault` meets its contract: fault by fault. Assumes nothing.
-use mathlib.Core.Path.{sym, ap, _∙_}
-use borrow.Author.Tests.{not-true, not-false}
-use Rattle.chart.specs.Operations.{isKnown, operandsFit}
 use Rattle.chart.specs.Faults.{rowFault}
+use Rattle.chart.proofs.Faults.{row-right, row-unknown, row-unfit}
 use borrow.Author.Needs.{needs}
 use Rattle.chart.proofs.inner.faults.row_fault.Statement.{statement}
 use Rattle.chart.proofs.inner.faults.row_fault.Tie as tie
@@ -24,23 +22,20 @@ returns-2 c = rw (← c .before .before .before .strays .ensures, c .before .bef
 operation-at-requires : tie.Need-operation-at-requires
 operation-at-requires c κs = search needs
 
+is-right-requires : tie.Need-is-right-requires
+is-right-requires c κs = search needs
+
+returns-3 : tie.Need-returns-3
+returns-3 c = search row-right
+
 is-known-requires : tie.Need-is-known-requires
 is-known-requires c κs = search needs
 
-returns-3 : tie.Need-returns-3
-unfolding rowFault
-returns-3 c = rw (← c .before .before .before .before .before .before .strays .ensures, c .before .before .before .before .before .if1 .left, ← c .before .before .before .before .descends .ensures, c .before .before .before .if2 .left, sym (c .before .is-known .ensures ∙ ap isKnown (c .before .before .operation-at .ensures)) ∙ not-true _ (c .if3 .taken))
-
-operands-fit-requires : tie.Need-operands-fit-requires
-operands-fit-requires c κs = search needs
-
 returns-4 : tie.Need-returns-4
-unfolding rowFault
-returns-4 c = rw (← c .before .before .before .before .before .before .before .before .strays .ensures, c .before .before .before .before .before .before .before .if1 .left, ← c .before .before .before .before .before .before .descends .ensures, c .before .before .before .before .before .if2 .left, sym (c .before .before .before .is-known .ensures ∙ ap isKnown (c .before .before .before .before .operation-at .ensures)) ∙ not-false _ (c .before .before .if3 .left), sym (c .before .operands-fit .ensures ∙ ap operandsFit (c .before .before .before .before .operation-at .ensures)) ∙ not-true _ (c .if4 .taken))
+returns-4 c = search row-unknown
 
 returns-5 : tie.Need-returns-5
-unfolding rowFault
-returns-5 c = rw (← c .before .before .before .before .before .before .before .before .strays .ensures, c .before .before .before .before .before .before .before .if1 .left, ← c .before .before .before .before .before .before .descends .ensures, c .before .before .before .before .before .if2 .left, sym (c .before .before .before .is-known .ensures ∙ ap isKnown (c .before .before .before .before .operation-at .ensures)) ∙ not-false _ (c .before .before .if3 .left), sym (c .before .operands-fit .ensures ∙ ap operandsFit (c .before .before .before .before .operation-at .ensures)) ∙ not-false _ (c .if4 .left))
+returns-5 c = search row-unfit
 
 pub row-fault-spec : {M : Type 1} → statement M
 row-fault-spec =
@@ -51,8 +46,8 @@ row-fault-spec =
     descends-requires
     returns-2
     operation-at-requires
-    is-known-requires
+    is-right-requires
     returns-3
-    operands-fit-requires
+    is-known-requires
     returns-4
     returns-5)
