@@ -68,6 +68,10 @@ pub or-true : (b : Bool) → b || true ≡ true
 or-true true = refl
 or-true false = refl
 
+pub or-and : (a b : Bool) → a || (b && a) ≡ a
+or-and true b = refl
+or-and false b = and-false b
+
 pub not-both : (a b : Bool) → a && not b ≡ false → a ≡ true → b ≡ true
 not-both true true e t = refl
 not-both true false e t = absurd (subst T e tt)
