@@ -143,9 +143,3 @@ module _ (f g : Operation) where
 
   pub one-tested : {r : Bool} → r ≡ exclusive f g → (r ≡ exclusive f g) × (Operands f → Operands g → (r ≡ true) ↔ ExactlyOne f g)
   one-tested e = (e, λ F G. subst (λ (r : Bool). (r ≡ true) ↔ ExactlyOne f g) (sym e) (exclusive-means f g F G))
-
--- the answer of the search over all trials
-pub by-trials : (f : Operation) (p : Bool) (g : Operation) (q : Bool) {s : Seats} {l : List ℕ} {r : Bool}
-    → l ≡ points (f .c) (g .c) → s ≡ seats f g → r ≡ any (shownBy s f p g q l) l → r ≡ together f p g q
-unfolding together
-by-trials f p g q a b e = e ∙ rw (a, b)

@@ -4,6 +4,7 @@ pub mod Codes
 pub mod Order
 pub mod Trials
 pub mod Exact
+pub mod Fewer
 pub mod Opposed
 pub mod Rows
 pub mod Faults

@@ -160,10 +160,10 @@ module _ (c d : ℕ) where
   point e h m n = record { small = h; this = m; next = n }
 
   pub ends : Ends (points c d)
-  ends = record { zero = point 0 (omega arith) tt tt; top = point (2 ^ 32 - 1) (omega arith) tt tt }
+  ends = record { zero = point 0 (omega arith) tt tt; top = point (2 ^ 32 - 1) (omega arith) (has-at (points c d) 6 tt) tt }
 
   pub point-c : c < 2 ^ 32 → Point (points c d) c
-  point-c h = point c h (has-at (points c d) 3 tt) (has-at (points c d) 4 tt)
+  point-c h = point c h (has-at (points c d) 2 tt) (has-at (points c d) 3 tt)
 
   pub point-d : d < 2 ^ 32 → Point (points c d) d
-  point-d h = point d h (has-at (points c d) 5 tt) (has-at (points c d) 6 tt)
+  point-d h = point d h (has-at (points c d) 4 tt) (has-at (points c d) 5 tt)

@@ -163,11 +163,11 @@ module _ (i j x y : ℕ) where
   abbrev loose : Seats
   loose = record { first = i; second = j; apart = true }
 
-  trial-first : trial loose x y i ≡ x
+  pub trial-first : trial loose x y i ≡ x
   unfolding trial
   trial-first = rw (eq-eqb i i refl)
 
-  trial-second : j ≢ i → trial loose x y j ≡ y
+  pub trial-second : j ≢ i → trial loose x y j ≡ y
   unfolding trial
   trial-second n = rw (ne-eqb j i n, eq-eqb j j refl)
 

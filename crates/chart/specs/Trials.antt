@@ -9,7 +9,7 @@ use Rattle.chart.specs.declared.operations.Operation.{Operation}
 use Rattle.chart.specs.declared.assumptions.Implication.{Implication}
 use Rattle.chart.specs.declared.assumptions.Implication.the-variants.{Never, Implied, NotImplied}
 use Rattle.chart.specs.declared.assumptions.Seats.{Seats}
-use Rattle.chart.specs.Operations.{withConstant, plus, holds}
+use Rattle.chart.specs.Operations.{withConstant, plus, relation, related, holds}
 
 -- the second is as the first says
 abbrev pub alike : Bool → Bool → Bool
@@ -45,7 +45,11 @@ trial s x y k = cond (eqb k (s .first)) x (cond (eqb k (s .second)) y (cond (s .
 
 -- the values that are tried: where a comparison with a constant or with an end of the order can change
 abbrev pub points : ℕ → ℕ → List ℕ
-points c d = 0 ∷ 1 ∷ (2 ^ 32 - 1) ∷ c ∷ plus c 1 ∷ d ∷ plus d 1 ∷ []
+points c d = 0 ∷ 1 ∷ c ∷ plus c 1 ∷ d ∷ plus d 1 ∷ (2 ^ 32 - 1) ∷ []
+
+-- how many points at the front stand again after them: a constant 0 gives 0 and 1 once more
+unfoldable pub repeated : ℕ → ℕ → ℕ
+repeated c d = cond (eqb c 0) (cond (eqb d 0) 4 2) (cond (eqb d 0) 2 0)
 
 -- the trial with x and y shows it: f is met or not as p says, and g as q says
 unfoldable pub shown : Seats → Operation → Bool → Operation → Bool → ℕ → ℕ → Bool
@@ -53,6 +57,13 @@ shown s f p g q x y = alike p (holds f (trial s x y)) && alike q (holds g (trial
 
 abbrev pub shownBy : Seats → Operation → Bool → Operation → Bool → List ℕ → ℕ → Bool
 shownBy s f p g q l x = any (shown s f p g q x) l
+
+-- x meets f as p says, where f compares with its constant
+abbrev pub meets : Operation → Bool → ℕ → Bool
+meets f p x = alike p (related (relation f) x (f .c))
+
+abbrev pub meetsBoth : Operation → Bool → Operation → Bool → ℕ → Bool
+meetsBoth f p g q x = meets f p x && meets g q x
 
 -- some trial shows it
 unfoldable pub together : Operation → Bool → Operation → Bool → Bool

@@ -3,9 +3,9 @@ ghost use mathlib.Core.Path.{_≡_};
 ghost use mathlib.Core.Bool.{true};
 ghost use mathlib.Core.Logic.{_↔_};
 ghost use Rattle.base.specs.Lists.{any};
-ghost use Rattle.chart.specs.Operations.{isAssumption, right, holds};
+ghost use Rattle.chart.specs.Operations.{isAssumption, withConstant, right, holds};
 ghost use Rattle.chart.specs.Assumptions.{Operands, Means, OppositeCodes, Opposed, ExactlyOne};
-ghost use Rattle.chart.specs.Trials.{alike, partner, compares, inside, own, seats, trial, points, shown, shownBy, together, never, implies, exclusive, implication};
+ghost use Rattle.chart.specs.Trials.{alike, partner, compares, inside, own, seats, trial, points, repeated, shown, shownBy, meetsBoth, together, never, exclusive, implication};
 use crate::inner::meaning::related;
 use crate::operations::Operation;
 use crate::operations::with_constant;
@@ -153,15 +153,70 @@ fn points(c: u32, d: u32) -> [u32; 7]
 {
     let e = std::num::wrapping_add_u32(c, 1);
     let h = std::num::wrapping_add_u32(d, 1);
-    [0, 1, 4294967295, c, e, d, h]
+    [0, 1, c, e, d, h, 4294967295]
+}
+
+// How many points at the front stand again after them.
+fn repeated(c: u32, d: u32) -> usize
+    ensures { λ r. ⌜ r ≡ repeated c d ⌝ }
+{
+    if c == 0 {
+        return if d == 0 { 4 } else { 2 };
+    }
+    if d == 0 { 2 } else { 0 }
+}
+
+// The search over all trials. Where a constant is 0, as an unused one is, points that stand again are not tried twice.
+fn by_trials(f: Operation, p: bool, g: Operation, q: bool) -> bool
+    ensures { λ r. ⌜ r ≡ together f p g q ⌝ }
+{
+    let l = points(f.c, g.c);
+    let k = repeated(f.c, g.c);
+    shown_by_some(seats_of(f, g), f, p, g, q, &l[k..])
+}
+
+// Whether x meets f as p says, and g as q says, both compared with their constants.
+fn meets_both(f: Operation, p: bool, g: Operation, q: bool, x: u32) -> bool
+    ensures { λ r. ⌜ r ≡ meetsBoth f p g q x ⌝ }
+{
+    alike(p, related(f.code % 8, x, f.c)) && alike(q, related(g.code % 8, x, g.c))
+}
+
+fn met_by_some(f: Operation, p: bool, g: Operation, q: bool, l: &[u32]) -> bool
+    ensures { λ r. ⌜ r ≡ any (meetsBoth f p g q) (now (l .entry)) ⌝ }
+{
+    let mut i = 0;
+    while i < l.len() {
+        if meets_both(f, p, g, q, l[i]) {
+            return true;
+        }
+        i += 1;
+    }
+    false
+}
+
+// The search where both compare with constants: one value is tried at a time, for the one variable or for each of the two.
+fn by_values(f: Operation, p: bool, g: Operation, q: bool) -> bool
+    requires { ⌜ (withConstant f ≡ true) × (withConstant g ≡ true) ⌝ }
+    ensures { λ r. ⌜ r ≡ together f p g q ⌝ }
+{
+    let l = points(f.c, g.c);
+    if f.a == g.a {
+        return met_by_some(f, p, g, q, &l);
+    }
+    met_by_some(f, p, f, p, &l) && met_by_some(g, q, g, q, &l)
 }
 
 // Whether some values meet f if p says so, else not, and g likewise.
 fn together(f: Operation, p: bool, g: Operation, q: bool) -> bool
     ensures { λ r. ⌜ r ≡ together f p g q ⌝ }
 {
-    let l = points(f.c, g.c);
-    shown_by_some(seats_of(f, g), f, p, g, q, &l)
+    if with_constant(f) {
+        if with_constant(g) {
+            return by_values(f, p, g, q);
+        }
+    }
+    by_trials(f, p, g, q)
 }
 
 fn never(f: Operation) -> bool
