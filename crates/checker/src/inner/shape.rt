@@ -1,8 +1,8 @@
 // What every record of two charts is like: a start, marks and targets that can be (refusal 31).
 ghost use mathlib.Core.Path.{_≡_};
-ghost use mathlib.Core.Bool.{_||_};
-ghost use Prim.Native.Nat.{_<_};
-ghost use lib.Dec.{eqb};
+ghost use mathlib.Core.Bool.{_&&_, _||_};
+ghost use Prim.Native.Nat.{ℕ, _<_};
+ghost use lib.Dec.{eqb, leb};
 ghost use lib.ListN.{length};
 ghost use Rattle.base.specs.Says.{bool};
 ghost use Rattle.checker.specs.Rules.{markFits, marksFit, targetFits, targetsFit, shaped};
@@ -69,27 +69,35 @@ fn marks_fit(old: Head, new: Head, marks: &[u8]) -> bool
     true
 }
 
-fn target_fits(t: u16) -> bool
-    ensures { λ r. ⌜ r ≡ bool (targetFits t) ⌝ }
+// The larger of two numbers: at most k exactly where both are.
+fn larger_u16(a: u16, b: u16) -> u16
+    ensures { λ r. ⌜ ((k : ℕ) → leb r k ≡ leb a k && leb b k) ⌝ }
 {
-    if t < 4160 {
-        return true;
+    if a < b {
+        return b;
     }
-    t == 65535
+    a
 }
 
+// A number that is at most 4,160 exactly where the target fits: one more, 0 for 65535.
+fn wrapped(t: u16) -> u16
+    ensures { λ r. ⌜ leb r 4160 ≡ bool (targetFits t) ⌝ }
+{
+    std::num::wrapping_add_u16(t, 1)
+}
+
+// By the largest of all, with no early end, so that many are taken at once.
 fn targets_fit(targets: &[u16]) -> bool
     requires { ⌜ length (now targets) ≡ 8192 ⌝ }
     ensures { λ r. ⌜ r ≡ bool (targetsFit (now (targets .entry))) ⌝ }
 {
+    let mut w = 0;
     let mut i = 0;
     while i < 8192 {
-        if !target_fits(targets[i]) {
-            return false;
-        }
+        w = larger_u16(w, wrapped(targets[i]));
         i += 1;
     }
-    true
+    w <= 4160
 }
 
 pub fn shaped(old: Head, new: Head, start: u32, marks: &[u8], targets: &[u16]) -> bool
