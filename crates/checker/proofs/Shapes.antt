@@ -1,13 +1,14 @@
 -- The shape of a record, test by test, as the code comes upon it. Assumes nothing.
 use mathlib.Core.Path.{_≡_, refl, sym, ap, _∙_}
-use mathlib.Core.Bool.{Bool, true, false, _&&_, _||_}
+use mathlib.Core.Bool.{Bool, true, false, _&&_, _||_, not, and-true, and-assoc}
 use mathlib.Core.List.{List}
-use Prim.Native.Nat.{ℕ, _+_, _/_, _%_, _≤_, _<_}
+use Prim.Native.Nat.{ℕ, zero, suc, _+_, _-_, _*_, _/_, _%_, _≤_, _<_}
+use native.Mathlib.Nat.{add-zero, add-suc, add-assoc}
 use native.Mathlib.Decide.{ℕ-discrete, decLe, decLt}
 use native.Mathlib.Numerals.{add-one}
 use native.Mathlib.Omega.{arith}
 use borrow.Author.Tests.{eq-eqb, ne-eqb, lt-ltb, le-ltb, le-leb, lt-leb}
-use lib.Dec.{eqb, leb, ltb}
+use lib.Dec.{eqb, leb, ltb, leb·zero}
 use lib.ListN.{getD}
 use Rattle.base.specs.Says.{every, bool, Says}
 use Rattle.base.proofs.Tests.{and-false}
@@ -21,27 +22,6 @@ use Rattle.checker.specs.Rules.{markFits, targetFits, targetsFit, startF
 pub or-end : (b : Bool) → b || false ≡ b
 or-end true = refl
 or-end false = refl
-
--- ---- a mark, other than 0, of node n
-module _ (old new : Head) (n x : ℕ) (marked : x ≡ 0 → ⊥) {q : NewPlace} {b : Bool} (e : q ≡ newOf n) (t : b ≡ ltb (q .0) (new .places)) where
-  there : ltb (n % 64) (new .places) ≡ b
-  there = sym (t ∙ ap (λ (q : NewPlace). ltb (q .0) (new .places)) e)
-
-  pub mark-outside : b ≡ false → false ≡ bool (markFits old new n x)
-  mark-outside u = rw (ne-eqb x 0 marked, there ∙ u)
-
-  pub mark-kept : {r : Bool} → b ≡ true → 4096 ≤ n → r ≡ eqb x 2 → r ≡ bool (markFits old new n x)
-  mark-kept u l h = rw (ne-eqb x 0 marked, there ∙ u, le-ltb n 4096 l, le-leb 4096 n l) h
-
-  module _ {p : OldPlace} {b′ : Bool} (u : b ≡ true) (l : n < 4096) (e′ : p ≡ oldOf n) (t′ : b′ ≡ ltb (p .0) (old .places)) where
-    there-old : ltb (n / 64) (old .places) ≡ b′
-    there-old = sym (t′ ∙ ap (λ (p : OldPlace). ltb (p .0) (old .places)) e′)
-
-    pub mark-no-pair : b′ ≡ false → false ≡ bool (markFits old new n x)
-    mark-no-pair v = rw (ne-eqb x 0 marked, there ∙ u, lt-ltb n 4096 l, there-old ∙ v, lt-leb 4096 n l)
-
-    pub mark-pair : {r : Bool} → b′ ≡ true → r ≡ eqb x 1 || (eqb x 3 || eqb x 4) → r ≡ bool (markFits old new n x)
-    mark-pair v h = h ∙ sym (rw (ne-eqb x 0 marked, there ∙ u, lt-ltb n 4096 l, there-old ∙ v, lt-leb 4096 n l) (or-end (eqb x 1 || (eqb x 3 || eqb x 4))))
 
 -- ---- the largest of several numbers
 -- the larger of two is at most k exactly where both are
@@ -67,6 +47,163 @@ module _ (f : ℕ → Bool) where
 
   pub all-taken : (n i : ℕ) {a : Bool} → i ≤ n → n ≤ i → a ≡ every i f → a ≡ every n f
   all-taken n i l u e = let q : i ≡ n = omega arith in rw q at e
+
+-- ---- a test of each number, part by part
+module _ (f : ℕ → Bool) where
+  all-parts : (m n : ℕ) → every (m + n) f ≡ every m f && every n (λ j. f (m + j))
+  unfolding every
+  all-parts m zero = rw add-zero (sym (and-true (every m f)))
+  all-parts m (suc n) = rw (add-suc, all-parts m n) (and-assoc (every m f) (every n (λ j. f (m + j))) (f (m + n)))
+
+  all-same : (g : ℕ → Bool) (n : ℕ) → ((j : ℕ) → j < n → f j ≡ g j) → every n f ≡ every n g
+  unfolding every
+  all-same g zero h = refl
+  all-same g (suc n) h = rw (all-same g n (λ j l. h j (omega arith)), h n (omega arith))
+
+  -- the loop that asks 64 at a time
+  pub part-more : (p : ℕ) {b : Bool} → every (64 * p) f ≡ true → b ≡ every 64 (λ j. f (64 * p + j)) → b ≡ true → every (64 * (p + 1)) f ≡ true
+  part-more p e h t = let q : 64 * (p + 1) ≡ 64 * p + 64 = omega arith in rw (q, all-parts (64 * p) 64, e) (sym h ∙ t)
+
+  pub part-fails : (n p : ℕ) {b : Bool} → 64 * p + 64 ≤ n → every (64 * p) f ≡ true → b ≡ every 64 (λ j. f (64 * p + j)) → b ≡ false → false ≡ every n f
+  part-fails n p l e h t =
+      let q : 64 * p + 64 + (n - (64 * p + 64)) ≡ n = omega arith in
+      sym (rw (← q) (all-parts (64 * p + 64) (n - (64 * p + 64)) ∙ rw (all-parts (64 * p) 64, e, sym h ∙ t)))
+
+-- ---- marks
+-- a mark is rated above all others if it must not be
+pub rated-never : (x never : ℕ) → x ≡ never → (k : ℕ) → k < 255 → leb 255 k ≡ not (eqb x never) && leb x k
+rated-never x never e k l = rw (lt-leb 255 k l, eq-eqb x never e)
+
+pub rated-else : (x never : ℕ) → (x ≡ never → ⊥) → (k : ℕ) → k < 255 → leb x k ≡ not (eqb x never) && leb x k
+rated-else x never n k l = rw (ne-eqb x never n)
+
+at-most-0 : (x : ℕ) → leb x 0 ≡ eqb x 0
+at-most-0 x = go (ℕ-discrete x 0)
+  where
+    go : Dec (x ≡ 0) → leb x 0 ≡ eqb x 0
+    go (yes e) = rw e
+    go (no n) = rw (ne-eqb x 0 n, lt-leb x 0 (omega arith))
+
+-- and 255 is none such
+rated-0 : (x : ℕ) → not (eqb x 255) && leb x 0 ≡ eqb x 0
+rated-0 x = go (ℕ-discrete x 0)
+  where
+    go : Dec (x ≡ 0) → not (eqb x 255) && leb x 0 ≡ eqb x 0
+    go (yes e) = rw e
+    go (no n) = rw (ne-eqb x 0 n, lt-leb x 0 (omega arith)) (and-false (not (eqb x 255)))
+
+module _ (marks : List ℕ) (from : ℕ) where
+  pub all-blank : (n r : ℕ) → leb r 0 ≡ every n (λ j. not (eqb (getD marks (from + j) 0) 255) && leb (getD marks (from + j) 0) 0)
+      → eqb r 0 ≡ every n (λ j. eqb (getD marks (from + j) 0) 0)
+  all-blank n r e = sym (at-most-0 r) ∙ e ∙ all-same _ _ n (λ j l. rated-0 (getD marks (from + j) 0))
+
+  -- 64 marks: the first n, and the others
+  module _ (n most never : ℕ) (l : n ≤ 64) (z : 0 < never) where
+    abbrev inFront : ℕ → Bool
+    inFront j = not (eqb (getD marks (from + j) 0) never) && leb (getD marks (from + j) 0) most
+
+    abbrev inLine : ℕ → Bool
+    inLine j = eqb (getD marks (from + j) 0) 0 || (ltb j n && inFront j)
+
+    front : (j : ℕ) → j < n → inLine j ≡ inFront j
+    front j u = rw (lt-ltb j n u) (go (ℕ-discrete (getD marks (from + j) 0) 0))
+      where
+        go : Dec (getD marks (from + j) 0 ≡ 0) → eqb (getD marks (from + j) 0) 0 || inFront j ≡ inFront j
+        go (yes e) = rw (e, ne-eqb 0 never (omega arith), leb·zero most)
+        go (no m) = rw (ne-eqb (getD marks (from + j) 0) 0 m)
+
+    back : (j : ℕ) → inLine (n + j) ≡ eqb (getD marks (from + n + j) 0) 0
+    back j = rw (le-ltb (n + j) n (omega arith), ← add-assoc from n j) (or-end (eqb (getD marks (from + n + j) 0) 0))
+
+    in-parts : every 64 inLine ≡ every n inFront && every (64 - n) (λ j. eqb (getD marks (from + n + j) 0) 0)
+    in-parts =
+        let q : n + (64 - n) ≡ 64 = omega arith in
+        (rw q at (all-parts inLine n (64 - n)))
+        ∙ rw (all-same inLine inFront n front, all-same (λ j. inLine (n + j)) (λ j. eqb (getD marks (from + n + j) 0) 0) (64 - n) (λ j u. back j))
+
+    pub line-over : {r : ℕ} → leb r most ≡ every n inFront → most < r → false ≡ every 64 inLine
+    line-over {r} e u = sym (in-parts ∙ rw (sym e ∙ lt-leb r most u))
+
+    pub line-within : {r : ℕ} {b : Bool} → leb r most ≡ every n inFront → r ≤ most
+        → b ≡ every (64 - n) (λ j. eqb (getD marks (from + n + j) 0) 0) → b ≡ every 64 inLine
+    line-within {r} e u h = h ∙ sym (in-parts ∙ rw (sym e ∙ le-leb r most u))
+
+-- what a mark other than 0 is, on a pair and on a kept node
+pair-mark : (x : ℕ) → (x ≡ 0 → ⊥) → not (eqb x 2) && leb x 4 ≡ eqb x 1 || (eqb x 3 || eqb x 4)
+pair-mark x z = go (ℕ-discrete x 1) (ℕ-discrete x 2) (ℕ-discrete x 3) (ℕ-discrete x 4)
+  where
+    go : Dec (x ≡ 1) → Dec (x ≡ 2) → Dec (x ≡ 3) → Dec (x ≡ 4) → not (eqb x 2) && leb x 4 ≡ eqb x 1 || (eqb x 3 || eqb x 4)
+    go (yes a) q r s = rw a
+    go (no a) (yes b) r s = rw b
+    go (no a) (no b) (yes c) s = rw c
+    go (no a) (no b) (no c) (yes d) = rw d
+    go (no a) (no b) (no c) (no d) =
+        rw (ne-eqb x 1 a, ne-eqb x 3 c, ne-eqb x 4 d, lt-leb x 4 (omega arith)) (and-false (not (eqb x 2)))
+
+kept-mark : (x : ℕ) → (x ≡ 0 → ⊥) → not (eqb x 1) && leb x 2 ≡ eqb x 2
+kept-mark x z = go (ℕ-discrete x 1) (ℕ-discrete x 2)
+  where
+    go : Dec (x ≡ 1) → Dec (x ≡ 2) → not (eqb x 1) && leb x 2 ≡ eqb x 2
+    go (yes a) s = rw a
+    go (no a) (yes b) = rw b
+    go (no a) (no b) = rw (ne-eqb x 2 b, lt-leb x 2 (omega arith)) (and-false (not (eqb x 1)))
+
+unless-0 : (x : ℕ) (b : Bool) {s t : Bool} → ((x ≡ 0 → ⊥) → s ≡ t) → eqb x 0 || (b && s) ≡ eqb x 0 || (b && t)
+unless-0 x b {s} {t} h = go (ℕ-discrete x 0)
+  where
+    go : Dec (x ≡ 0) → eqb x 0 || (b && s) ≡ eqb x 0 || (b && t)
+    go (yes e) = rw (eq-eqb x 0 e)
+    go (no n) = rw (h n)
+
+-- a mark at old place p and new place j
+module _ (old new : Head) (p j x : ℕ) (l : j < 64) where
+  new-place : (64 * p + j) % 64 ≡ j
+  new-place = omega arith
+
+  old-place : (64 * p + j) / 64 ≡ p
+  old-place = omega arith
+
+  kept-fits : (n : ℕ) → p ≡ 64 → ltb j n ≡ ltb j (new .places)
+      → eqb x 0 || (ltb j n && (not (eqb x 1) && leb x 2)) ≡ bool (markFits old new (64 * p + j) x)
+  kept-fits n e t =
+      rw (t, new-place, le-ltb (64 * p + j) 4096 (omega arith), le-leb 4096 (64 * p + j) (omega arith))
+      (unless-0 x (ltb j (new .places)) (kept-mark x))
+
+  pair-fits : (n : ℕ) → p < 64 → ltb p (old .places) ≡ true → ltb j n ≡ ltb j (new .places)
+      → eqb x 0 || (ltb j n && (not (eqb x 2) && leb x 4)) ≡ bool (markFits old new (64 * p + j) x)
+  pair-fits n u o t =
+      rw (t, new-place, lt-ltb (64 * p + j) 4096 (omega arith), lt-leb 4096 (64 * p + j) (omega arith), old-place, o)
+      (unless-0 x (ltb j (new .places)) (λ z. pair-mark x z ∙ sym (or-end (eqb x 1 || (eqb x 3 || eqb x 4)))))
+
+  none-fits : p < 64 → ltb p (old .places) ≡ false → eqb x 0 ≡ bool (markFits old new (64 * p + j) x)
+  none-fits u o =
+      rw (new-place, lt-ltb (64 * p + j) 4096 (omega arith), lt-leb 4096 (64 * p + j) (omega arith), old-place, o)
+      (sym (rw (and-false (ltb j (new .places))) (or-end (eqb x 0))))
+
+-- the 64 marks at old place p, where n of them are of places that exist
+module _ (old new : Head) (marks : List ℕ) (p n : ℕ) (there : (j : ℕ) → j < 64 → ltb j n ≡ ltb j (new .places)) where
+  abbrev x : ℕ → ℕ
+  x j = getD marks (64 * p + j) 0
+
+  abbrev fits : ℕ → Bool
+  fits j = bool (markFits old new (64 * p + j) (x j))
+
+  pub place-kept : {b : Bool} → p ≡ 64 → b ≡ every 64 (λ j. eqb (x j) 0 || (ltb j n && (not (eqb (x j) 1) && leb (x j) 2))) → b ≡ every 64 fits
+  place-kept e h =
+      h ∙ all-same (λ j. eqb (x j) 0 || (ltb j n && (not (eqb (x j) 1) && leb (x j) 2))) fits 64 (λ j l. kept-fits old new p j (x j) l n e (there j l))
+
+  module _ (k : ℕ) (l : p < 65) (m : p ≡ 64 → ⊥) (there-old : (j : ℕ) → j < 64 → ltb j k ≡ ltb j (old .places)) where
+    pair : p < 64
+    pair = omega arith
+
+    pub place-pairs : {b : Bool} → p < k → b ≡ every 64 (λ j. eqb (x j) 0 || (ltb j n && (not (eqb (x j) 2) && leb (x j) 4))) → b ≡ every 64 fits
+    place-pairs u h =
+        h
+        ∙ all-same (λ j. eqb (x j) 0 || (ltb j n && (not (eqb (x j) 2) && leb (x j) 4))) fits 64
+        (λ j l. pair-fits old new p j (x j) l n pair (sym (there-old p pair) ∙ lt-ltb p k u) (there j l))
+
+    pub place-none : {b : Bool} → k ≤ p → b ≡ every 64 (λ j. eqb (x j) 0) → b ≡ every 64 fits
+    place-none u h = h ∙ all-same (λ j. eqb (x j) 0) fits 64 (λ j l. none-fits old new p j (x j) l pair (sym (there-old p pair) ∙ le-ltb p k u))
 
 -- ---- targets
 pub wrapped-fits : (t r : ℕ) → t < 65536 → r ≡ (t + 1) % 65536 → leb r 4160 ≡ bool (targetFits t)

@@ -1,14 +1,12 @@
 // What every record of two charts is like: a start, marks and targets that can be (refusal 31).
 ghost use mathlib.Core.Path.{_≡_};
 ghost use mathlib.Core.Bool.{_&&_, _||_};
-ghost use Prim.Native.Nat.{ℕ, _<_};
-ghost use lib.Dec.{eqb, leb};
-ghost use lib.ListN.{length};
-ghost use Rattle.base.specs.Says.{bool};
+ghost use Prim.Native.Nat.{ℕ, _+_, _*_, _≤_, _<_};
+ghost use lib.Dec.{eqb, leb, ltb};
+ghost use lib.ListN.{length, getD};
+ghost use Rattle.base.specs.Says.{eq, ne, le, _and_, _or_, each, below, bool};
 ghost use Rattle.checker.specs.Rules.{markFits, marksFit, targetFits, targetsFit, shaped};
 use chart::charts::Head;
-use chart::inner::pairs::new_of;
-use chart::inner::pairs::old_of;
 
 // Whether the start is one of the two nodes that a record can start from.
 fn start_named(start: u32) -> bool
@@ -20,51 +18,96 @@ fn start_named(start: u32) -> bool
     start == 4096
 }
 
-// Whether a pair can have the mark, other than 0.
-fn marks_pair(x: u8) -> bool
-    ensures { λ r. ⌜ r ≡ eqb x 1 || (eqb x 3 || eqb x 4) ⌝ }
+// The larger of two marks: at most k exactly where both are.
+fn larger_u8(a: u8, b: u8) -> u8
+    ensures { λ r. ⌜ ((k : ℕ) → leb r k ≡ leb a k && leb b k) ⌝ }
 {
-    if x == 1 {
-        return true;
+    if a < b {
+        return b;
     }
-    if x == 3 {
-        return true;
-    }
-    x == 4
+    a
 }
 
-// Whether node n can have the mark x.
-fn mark_fits(old: Head, new: Head, n: usize, x: u8) -> bool
-    requires { ⌜ n < 4160 ⌝ }
-    ensures { λ r. ⌜ r ≡ bool (markFits old new n x) ⌝ }
+// The mark, or 255 for the one that must not be.
+fn rated(x: u8, never: u8) -> u8
+    ensures { λ r. ⌜ ((k : ℕ) → k < 255 → leb r k ≡ bool (ne x never and le x k)) ⌝ }
 {
-    if x == 0 {
-        return true;
+    if x == never {
+        return 255;
     }
-    let q = new_of(n);
-    if !q.below(new.places as u64) {
+    x
+}
+
+// The largest of n marks, 255 if one is `never`: at most k exactly where each is, and none is `never`. There is no early end, so that many
+// are taken at once.
+fn worst(marks: &[u8], from: usize, n: usize, never: u8) -> u8
+    requires { ⌜ from + n ≤ length (now marks) ⌝ }
+    ensures { λ r. ⌜ ((k : ℕ) → k < 255 → leb r k ≡ bool (each n (λ j. ne (getD (now (marks .entry)) (from + j) 0) never and le (getD (now (marks .entry)) (from + j) 0) k))) ⌝ }
+{
+    let mut w = 0;
+    let mut j = 0;
+    while j < n {
+        w = larger_u8(w, rated(marks[from + j], never));
+        j += 1;
+    }
+    w
+}
+
+// Whether n marks are all 0.
+pub fn blank(marks: &[u8], from: usize, n: usize) -> bool
+    requires { ⌜ from + n ≤ length (now marks) ⌝ }
+    ensures { λ r. ⌜ r ≡ bool (each n (λ j. eq (getD (now (marks .entry)) (from + j) 0) 0)) ⌝ }
+{
+    worst(marks, from, n, 255) == 0
+}
+
+// Of 64 marks, whether the first n are at most `most` and not `never`, and the others 0.
+fn line_fits(marks: &[u8], from: usize, n: usize, most: u8, never: u8) -> bool
+    requires { ⌜ (from + 64 ≤ length (now marks)) × (n ≤ 64) × (most < 255) × (0 < never) ⌝ }
+    ensures { λ r. ⌜ r ≡ bool (each 64 (λ j. eq (getD (now (marks .entry)) (from + j) 0) 0 or below j n and ne (getD (now (marks .entry)) (from + j) 0) never and le (getD (now (marks .entry)) (from + j) 0) most)) ⌝ }
+{
+    if most < worst(marks, from, n, never) {
         return false;
     }
-    if 4096 <= n {
-        return x == 2;
+    blank(marks, from + n, 64 - n)
+}
+
+// How many of 64 places there are.
+fn shown(n: u32) -> usize
+    ensures { λ r. ⌜ (r ≤ 64) × ((j : ℕ) → j < 64 → ltb j r ≡ ltb j n) ⌝ }
+{
+    if n < 64 {
+        return n as usize;
     }
-    let p = old_of(n);
-    if !p.below(old.places as u64) {
-        return false;
+    64
+}
+
+// Whether the 64 nodes at old place p have marks that can be: for pairs 1, 3 or 4, and for the kept nodes, p = 64, 2.
+fn place_fits(old: Head, new: Head, marks: &[u8], p: usize) -> bool
+    requires { ⌜ (p < 65) × (length (now marks) ≡ 4160) ⌝ }
+    ensures { λ r. ⌜ r ≡ bool (each 64 (λ j. markFits old new (64 * p + j) (getD (now (marks .entry)) (64 * p + j) 0))) ⌝ }
+{
+    let from = 64 * p;
+    let n = shown(new.places);
+    if p == 64 {
+        return line_fits(marks, from, n, 2, 1);
     }
-    marks_pair(x)
+    if p < shown(old.places) {
+        return line_fits(marks, from, n, 4, 2);
+    }
+    blank(marks, from, 64)
 }
 
 fn marks_fit(old: Head, new: Head, marks: &[u8]) -> bool
     requires { ⌜ length (now marks) ≡ 4160 ⌝ }
     ensures { λ r. ⌜ r ≡ bool (marksFit old new (now (marks .entry))) ⌝ }
 {
-    let mut n = 0;
-    while n < 4160 {
-        if !mark_fits(old, new, n, marks[n]) {
+    let mut p = 0;
+    while p < 65 {
+        if !place_fits(old, new, marks, p) {
             return false;
         }
-        n += 1;
+        p += 1;
     }
     true
 }
