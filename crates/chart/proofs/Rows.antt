@@ -5,14 +5,14 @@ use mathlib.Core.List.{List, [], _∷_, _++_, append-assoc, append-nil}
 use mathlib.Core.Logic.{dite}
 use Prim.Native.Nat.{ℕ, zero, suc, _+_, _-_, _*_, _/_, _≤_, _<_}
 use native.Mathlib.Nat.{add-suc, add-zero, add-mul, suc-mul, add-sub-of-le, zero-add}
-use native.Mathlib.Decide.{decLe}
+use native.Mathlib.Decide.{decLe, ℕ-discrete}
 use native.Mathlib.Omega.{arith}
 use borrow.Author.Tests.{eq-eqb, ne-eqb}
 use lib.Dec.{eqb}
-use lib.ListN.{length, getD, take, drop}
-use lib.Seq.{take-add, drop-drop}
+use lib.ListN.{length, getD, set, take, drop, length-set}
+use lib.Seq.{take-add, drop-drop, getD-set-same, getD-set-other}
 use Rattle.chart.specs.Charts.{size, from, leavingOf, leaving}
-use Rattle.chart.specs.Lookup.{Ascending, Lower}
+use Rattle.chart.specs.Lookup.{Ascending, Lower, Indexed}
 
 -- rows that do not leave p add nothing
 skip : (t : List ℕ) (p m k : ℕ) → ((j : ℕ) → m ≤ j → j < m + k → from t j ≡ p → ⊥) → leavingOf t p (m + k) ≡ leavingOf t p m
@@ -118,3 +118,72 @@ module _ (t : List ℕ) (p : ℕ) (s : Ascending t) where
         below = b .below;
         reached = λ u. (let g = s .order first i (b .from-first) u in let r = l .reached (omega (arith, b .from-first)) in let n = h u in omega arith);
       }
+
+-- ---- the loop that makes the index
+-- the first row of a table is the lower bound of place 0
+pub lower-first : (t : List ℕ) → Lower t 0 0
+lower-first t = record { inside = omega arith; below = λ k l. absurd (omega arith); reached = λ l. omega arith }
+
+-- the entries of the places below p are there; i and j are those of p
+pub record Entered (old new index : List ℕ) (i j p : ℕ) : Type 0 where
+  pub long : length index ≡ 130
+  pub few : p ≤ 65
+  pub old-next : Lower old p i
+  pub new-next : Lower new p j
+  pub olds : (q : ℕ) → q < p → Lower old q (getD index q 0)
+  pub news : (q : ℕ) → q < p → Lower new q (getD index (65 + q) 0)
+
+module _ (old new : List ℕ) where
+  pub entered-none : {index : List ℕ} → length index ≡ 130 → Entered old new index 0 0 0
+  entered-none l =
+      record {
+        long = l;
+        few = omega arith;
+        old-next = lower-first old;
+        new-next = lower-first new;
+        olds = λ q u. absurd (omega arith);
+        news = λ q u. absurd (omega arith);
+      }
+
+  pub entered-more : {index : List ℕ} {i j p i2 j2 : ℕ} → Entered old new index i j p → p < 65 → Lower old (p + 1) i2 → Lower new (p + 1) j2
+      → Entered old new (set (set index p i) (65 + p) j) i2 j2 (p + 1)
+  entered-more {index} {i} {j} {p} {i2} {j2} E l a b =
+      record {
+        long = simp length-set (E .long);
+        few = omega arith;
+        old-next = a;
+        new-next = b;
+        olds = λ q u. rw (getD-set-other (set index p i) (65 + p) q j 0 (λ e. omega arith)) (elim (ℕ-discrete q p) [
+          | yes e ↦ rw (e, getD-set-same index p i 0 (omega (arith, E .long))) (E .old-next)
+          | no n ↦ rw (getD-set-other index p q i 0 n) (E .olds q (let m : q ≡ p → ⊥ = n in omega arith))
+        ]);
+        news = λ q u. elim (ℕ-discrete q p) [
+          | yes e ↦ rw (e, getD-set-same (set index p i) (65 + p) j 0 (rw length-set (omega (arith, E .long)))) (E .new-next)
+          | no n ↦ rw (getD-set-other (set index p i) (65 + p) (65 + q) j 0 (let m : q ≡ p → ⊥ = n in λ e. omega arith), getD-set-other index p (65 + q) i 0 (λ e. omega arith)) (E .news q (let m : q ≡ p → ⊥ = n in omega arith))
+        ];
+      }
+
+  pub indexed : {index : List ℕ} {i j p : ℕ} → Entered old new index i j p → 65 ≤ p → Indexed old new index
+  indexed E l = record { olds = λ q u. E .olds q (omega arith); news = λ q u. E .news q (omega arith) }
+
+  -- ---- and what is looked up in it
+  module _ {index : List ℕ} {p : ℕ} (I : Indexed old new index) (l : p < 64) where
+    -- the entry after that of a place of the new chart
+    after-new : Lower new (p + 1) (getD index (65 + p + 1) 0)
+    after-new = let e : 65 + (p + 1) ≡ 65 + p + 1 = omega arith in rw e at (I .news (p + 1) (omega arith))
+
+    pub at-old : (p < 129) × (getD index p 0 ≤ getD index (p + 1) 0) × (getD index (p + 1) 0 ≤ size old)
+    at-old = (
+      omega arith,
+      ordered old p _ _ (I .olds p (omega arith)) (I .olds (p + 1) (omega arith)),
+      I .olds (p + 1) (omega arith) .inside,
+    )
+
+    pub at-new : (65 + p < 129) × (getD index (65 + p) 0 ≤ getD index (65 + p + 1) 0) × (getD index (65 + p + 1) 0 ≤ size new)
+    at-new = (omega arith, ordered new p _ _ (I .news p (omega arith)) after-new, after-new .inside)
+
+    pub part-old : Ascending old → leaving old p ≡ take (getD index (p + 1) 0 * 6 - getD index p 0 * 6) (drop (getD index p 0 * 6) old)
+    part-old = part old p _ _ (I .olds p (omega arith)) (I .olds (p + 1) (omega arith))
+
+    pub part-new : Ascending new → leaving new p ≡ take (getD index (65 + p + 1) 0 * 6 - getD index (65 + p) 0 * 6) (drop (getD index (65 + p) 0 * 6) new)
+    part-new = part new p _ _ (I .news p (omega arith)) after-new

@@ -2,8 +2,9 @@
 use mathlib.Core.Path.{_≡_}
 use mathlib.Core.Bool.{Bool, cond, _&&_}
 use mathlib.Core.List.{List, []}
-use Prim.Native.Nat.{ℕ, _≤_, _<_}
+use Prim.Native.Nat.{ℕ, _+_, _≤_, _<_}
 use lib.Dec.{eqb, ltb}
+use lib.ListN.{getD}
 use Rattle.base.specs.Options.{missing}
 use Rattle.chart.specs.declared.places.Place.{Place}
 use Rattle.chart.specs.declared.places.Place.the-variants.{Old, New}
@@ -40,3 +41,9 @@ pub record Lower (t : List ℕ) (p r : ℕ) : Type 0 where
   pub inside : r ≤ size t
   pub below : (k : ℕ) → k < r → from t k < p
   pub reached : r < size t → p ≤ from t r
+
+-- an index of both tables: entry p is the first row of the old one whose "from" is not below p, entry 65 + p that of the new one, for the places
+-- 0 to 63 and the one after them
+pub record Indexed (old new index : List ℕ) : Type 0 where
+  pub olds : (p : ℕ) → p ≤ 64 → Lower old p (getD index p 0)
+  pub news : (p : ℕ) → p ≤ 64 → Lower new p (getD index (65 + p) 0)

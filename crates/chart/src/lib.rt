@@ -55,13 +55,13 @@ pub fn lookup<'a>(
 {
     if chart == 0 {
         if open_to(old, old_rows, place) {
-            return inner::rows::rows_of(old_rows, new_rows, Place::Old(OldPlace(place)));
+            return inner::rows::rows_sought(old_rows, new_rows, Place::Old(OldPlace(place)));
         }
         return &old_rows[0..0];
     }
     if chart == 1 {
         if open_to(new, new_rows, place) {
-            return inner::rows::rows_of(old_rows, new_rows, Place::New(NewPlace(place)));
+            return inner::rows::rows_sought(old_rows, new_rows, Place::New(NewPlace(place)));
         }
         return &new_rows[0..0];
     }

@@ -10,12 +10,12 @@ use Rattle.chart.proofs.lookup.Tie as tie
 open-to-requires : tie.Need-open-to-requires
 open-to-requires c κs = search needs
 
-rows-of-requires : tie.Need-rows-of-requires
-rows-of-requires c κs = opened _ _ (sym (c .before .open-to .ensures) ∙ c .if2 .taken)
+rows-sought-requires : tie.Need-rows-sought-requires
+rows-sought-requires c κs = opened _ _ (sym (c .before .open-to .ensures) ∙ c .if2 .taken)
 
 returns : tie.Need-returns
 unfolding lookup
-returns c = rw (eq-eqb _ _ (c .before .before .before .if1 .taken), sym (c .before .before .open-to .ensures) ∙ c .before .if2 .taken) (c .rows-of .ensures)
+returns c = rw (eq-eqb _ _ (c .before .before .before .if1 .taken), sym (c .before .before .open-to .ensures) ∙ c .before .if2 .taken) (c .rows-sought .ensures)
 
 sub-result : tie.Need-sub-result
 sub-result c = search needs
@@ -33,12 +33,12 @@ returns-2 c = rw (eq-eqb _ _ (c .before .before .before .if1 .taken), sym (c .be
 open-to-requires-2 : tie.Need-open-to-requires-2
 open-to-requires-2 c κs = search needs
 
-rows-of-requires-2 : tie.Need-rows-of-requires-2
-rows-of-requires-2 c κs = opened _ _ (sym (c .before .open-to2 .ensures) ∙ c .if4 .taken)
+rows-sought-requires-2 : tie.Need-rows-sought-requires-2
+rows-sought-requires-2 c κs = opened _ _ (sym (c .before .open-to2 .ensures) ∙ c .if4 .taken)
 
 returns-3 : tie.Need-returns-3
 unfolding lookup
-returns-3 c = rw (ne-eqb _ _ (c .before .before .before .before .if1 .left), eq-eqb _ _ (c .before .before .before .if3 .taken), sym (c .before .before .open-to2 .ensures) ∙ c .before .if4 .taken) (c .rows-of2 .ensures)
+returns-3 c = rw (ne-eqb _ _ (c .before .before .before .before .if1 .left), eq-eqb _ _ (c .before .before .before .if3 .taken), sym (c .before .before .open-to2 .ensures) ∙ c .before .if4 .taken) (c .rows-sought2 .ensures)
 
 sub-result-2 : tie.Need-sub-result-2
 sub-result-2 c = search needs
@@ -71,14 +71,14 @@ lookup-spec =
     tie.close
     (tie.spec
     open-to-requires
-    rows-of-requires
+    rows-sought-requires
     returns
     sub-result
     part-result-start
     part-result-end
     returns-2
     open-to-requires-2
-    rows-of-requires-2
+    rows-sought-requires-2
     returns-3
     sub-result-2
     part-result-start-2

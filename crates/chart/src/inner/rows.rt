@@ -1,11 +1,11 @@
 // Rows where they stand in a table, and the part of a table that leaves a place.
 ghost use mathlib.Core.Path.{_≡_};
-ghost use Prim.Native.Nat.{_+_, _*_, _<_, _≤_};
+ghost use Prim.Native.Nat.{_+_, _-_, _*_, _<_, _≤_};
 ghost use lib.Dec.{eqb};
-ghost use lib.ListN.{length, getD};
+ghost use lib.ListN.{length, getD, take, drop};
 ghost use Rattle.chart.specs.Operations.{same};
 ghost use Rattle.chart.specs.Charts.{size, from, to, operation, leaving};
-ghost use Rattle.chart.specs.Lookup.{Ascending, Lower, tableOf, numberOf};
+ghost use Rattle.chart.specs.Lookup.{Ascending, Lower, Indexed, tableOf, numberOf};
 use crate::operations::Operation;
 use crate::places::NewPlace;
 use crate::places::OldPlace;
@@ -101,24 +101,78 @@ fn past(rows: &[u32], place: u32, first: usize) -> usize
     i
 }
 
-fn rows_in(rows: &[u32], place: u32) -> &[u32]
-    requires { ⌜ Ascending (now rows) ⌝ }
-    ensures { λ r. ⌜ now r ≡ leaving (now (rows .entry)) place ⌝ }
+// The rows from `first` up to `end`, as a part of the table.
+fn part(rows: &[u32], first: usize, end: usize) -> &[u32]
+    requires { ⌜ (first ≤ end) × (end ≤ size (now rows)) ⌝ }
+    ensures { λ r. ⌜ now r ≡ take (end * 6 - first * 6) (drop (first * 6) (now (rows .entry))) ⌝ }
 {
-    let first = lower(rows, place);
-    let end = past(rows, place, first);
     let a = first * 6;
     let e = end * 6;
     &rows[a..e]
 }
 
-// The rows that leave a place of either chart, as a part of that chart's table.
-pub fn rows_of<'a>(old: &'a [u32], new: &'a [u32], place: Place) -> &'a [u32]
+fn rows_in(rows: &[u32], place: u32) -> &[u32]
+    requires { ⌜ Ascending (now rows) ⌝ }
+    ensures { λ r. ⌜ now r ≡ leaving (now (rows .entry)) place ⌝ }
+{
+    let first = lower(rows, place);
+    part(rows, first, past(rows, place, first))
+}
+
+// The rows that leave a place of either chart, as a part of that chart's table: sought there, for whoever has no index.
+pub fn rows_sought<'a>(old: &'a [u32], new: &'a [u32], place: Place) -> &'a [u32]
     requires { ⌜ Ascending (tableOf place (now old) (now new)) ⌝ }
     ensures { λ r. ⌜ now r ≡ leaving (tableOf place (now (old .entry)) (now (new .entry))) (numberOf place) ⌝ }
 {
     match place {
         Place::Old(p) => rows_in(old, p.0),
         Place::New(q) => rows_in(new, q.0),
+    }
+}
+
+// The index of two tables, made once, so that no lookup after it has to search.
+pub fn index(old: &[u32], new: &[u32]) -> [u8; 130]
+    requires { ⌜ Ascending (now old) × (size (now old) ≤ 128) ⌝ }
+    requires { ⌜ Ascending (now new) × (size (now new) ≤ 128) ⌝ }
+    ensures { λ r. ⌜ Indexed (now (old .entry)) (now (new .entry)) r ⌝ }
+{
+    let mut entries = [0u8; 130];
+    let mut i = 0;
+    let mut j = 0;
+    let mut place: u32 = 0;
+    while place < 65 {
+        let at = place as usize;
+        entries[at] = i as u8;
+        entries[65 + at] = j as u8;
+        i = past(old, place, i);
+        j = past(new, place, j);
+        place += 1;
+    }
+    entries
+}
+
+fn wide(x: u8) -> usize
+    ensures { λ r. ⌜ r ≡ x ⌝ }
+{
+    x as usize
+}
+
+// The rows between two neighbouring entries of an index.
+fn rows_at<'a>(rows: &'a [u32], index: &[u8; 130], at: usize) -> &'a [u32]
+    requires { ⌜ (at < 129) × (getD (now index) at 0 ≤ getD (now index) (at + 1) 0) × (getD (now index) (at + 1) 0 ≤ size (now rows)) ⌝ }
+    ensures { λ r. ⌜ now r ≡ take (getD (now (index .entry)) (at + 1) 0 * 6 - getD (now (index .entry)) at 0 * 6) (drop (getD (now (index .entry)) at 0 * 6) (now (rows .entry))) ⌝ }
+{
+    part(rows, wide(index[at]), wide(index[at + 1]))
+}
+
+// The rows that leave a place of either chart, as a part of that chart's table: by the index of both.
+pub fn rows_of<'a>(old: &'a [u32], new: &'a [u32], index: &[u8; 130], place: Place) -> &'a [u32]
+    requires { ⌜ Indexed (now old) (now new) (now index) ⌝ }
+    requires { ⌜ Ascending (tableOf place (now old) (now new)) × (numberOf place < 64) ⌝ }
+    ensures { λ r. ⌜ now r ≡ leaving (tableOf place (now (old .entry)) (now (new .entry))) (numberOf place) ⌝ }
+{
+    match place {
+        Place::Old(p) => rows_at(old, index, p.0 as usize),
+        Place::New(q) => rows_at(new, index, 65 + q.0 as usize),
     }
 }
