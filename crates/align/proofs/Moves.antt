@@ -23,14 +23,14 @@ use Rattle.align.proofs.Onto.{further, picked, Among, found}
 use Rattle.align.proofs.Parts.{row-of, row-same}
 
 -- ---- lines 7 and 8
-module _ (s : ℕ) (o : Operation) {rd : ℕ} {m : Bool} (e : rd ≡ readSet o) (t : m ≡ meets s rd) where
+module _ (s : ℕ) (o : Operation) {m : Bool} (t : m ≡ meets s (readSet o)) where
   pub rewritten-with : {r : ℕ} → m ≡ true → r ≡ with s (o .a) → r ≡ rewritten s o
   unfolding rewritten
-  rewritten-with u q = q ∙ sym (pick-true (meets s (readSet o)) (with s (o .a)) (without s (o .a)) (ap (meets s) (sym e) ∙ sym t ∙ u))
+  rewritten-with u q = q ∙ sym (pick-true (meets s (readSet o)) (with s (o .a)) (without s (o .a)) (sym t ∙ u))
 
   pub rewritten-without : {r : ℕ} → m ≡ false → r ≡ without s (o .a) → r ≡ rewritten s o
   unfolding rewritten
-  rewritten-without u q = q ∙ sym (pick-false (meets s (readSet o)) (with s (o .a)) (without s (o .a)) (ap (meets s) (sym e) ∙ sym t ∙ u))
+  rewritten-without u q = q ∙ sym (pick-false (meets s (readSet o)) (with s (o .a)) (without s (o .a)) (sym t ∙ u))
 
 -- ---- line 15
 abbrev byImplication : List ℕ → Operation → Option ℕ
@@ -100,6 +100,10 @@ module _ (old : Chart) (F : FaultlessChart old) where
   follow-below (suc n) met h b =
       further (onward old h) (some h) _ (All-some b)
       (All-map (λ h′ b′. picked (meets met (alone (h′ .place .0))) none _ (λ t. All-none) (λ t. follow-below n (with met (h′ .place .0)) h′ b′)) (onward-below h))
+
+  pub followed-below : (h : Spot) → Below h → All Below (followed old h)
+  unfolding followed
+  followed-below h b = follow-below 64 (alone (h .place .0)) h b
 
   assumed-below : (h : Spot) (o : Operation) → Below h → (x : Option ℕ) → All (Among (rowsAt old (h .place)) (λ o. Unit {0})) x → All Below (assumed old h o x)
   unfolding assumed matched

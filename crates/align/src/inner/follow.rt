@@ -5,6 +5,7 @@ ghost use mathlib.Core.Option.{some};
 ghost use Prim.Native.Nat.{_<_};
 ghost use Rattle.chart.specs.Charts.{charted, size, operation};
 ghost use Rattle.chart.specs.Faultless.{FaultlessChart};
+ghost use Rattle.chart.specs.Lookup.{Indexed};
 ghost use Rattle.chart.specs.Operations.{operandsFit};
 ghost use Rattle.align.specs.Steps.{toldOnward, toldFollowed, along, onward, followed};
 use crate::inner::seek;
@@ -33,15 +34,23 @@ fn along(set: u64, rows: &[u32], k: usize) -> Spot
 }
 
 // By the assignment that leaves the place, unless it is the old alarm or none does.
-fn onward<'a>(old: Head, old_rows: &'a [u32], new_rows: &'a [u32], h: Spot) -> Onward
+fn onward<'a>(
+    old: Head,
+    old_rows: &'a [u32],
+    new_rows: &'a [u32],
+    index: &[u8; 130],
+    h: Spot,
+) -> Onward
     requires { ⌜ FaultlessChart (charted old (now «old_rows»)) ⌝ }
+    requires { ⌜ Indexed (now «old_rows») (now «new_rows») (now index) ⌝ }
+    requires { ⌜ h .place .0 < 64 ⌝ }
     ensures { λ r. ⌜ toldOnward r ≡ onward (charted old (now («old_rows» .entry))) h ⌝ }
 {
     let p = h.place;
     if p.is(old.alarm) {
         return Onward::Ends;
     }
-    let rows = rows_of(old_rows, new_rows, Place::Old(p));
+    let rows = rows_of(old_rows, new_rows, index, Place::Old(p));
     match seek::assignment(rows) {
         Found::At(k) => Onward::To(along(h.set, rows, k)),
         Found::Nothing => Onward::Ends,
@@ -49,8 +58,15 @@ fn onward<'a>(old: Head, old_rows: &'a [u32], new_rows: &'a [u32], h: Spot) -> O
 }
 
 // All of them, from a place that counts as come to: a walk that comes to no place twice follows no more than 64.
-pub fn follow<'a>(old: Head, old_rows: &'a [u32], new_rows: &'a [u32], h: Spot) -> Followed
+pub fn follow<'a>(
+    old: Head,
+    old_rows: &'a [u32],
+    new_rows: &'a [u32],
+    index: &[u8; 130],
+    h: Spot,
+) -> Followed
     requires { ⌜ FaultlessChart (charted old (now «old_rows»)) ⌝ }
+    requires { ⌜ Indexed (now «old_rows») (now «new_rows») (now index) ⌝ }
     requires { ⌜ h .place .0 < 64 ⌝ }
     ensures { λ r. ⌜ toldFollowed r ≡ followed (charted old (now («old_rows» .entry))) h ⌝ }
 {
@@ -59,7 +75,7 @@ pub fn follow<'a>(old: Head, old_rows: &'a [u32], new_rows: &'a [u32], h: Spot) 
     let mut met = bit(p);
     let mut left: u32 = 64;
     while 0 < left {
-        match onward(old, old_rows, new_rows, at) {
+        match onward(old, old_rows, new_rows, index, at) {
             Onward::Ends => {
                 return Followed::At(at);
             }

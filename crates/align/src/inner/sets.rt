@@ -76,3 +76,14 @@ pub fn reads(o: Operation) -> u64
     }
     right
 }
+
+// Whether some variable that an operation reads is in s. Nothing is in an empty set, as most are.
+pub fn meets_reads(s: u64, o: Operation) -> bool
+    requires { ⌜ operandsFit o ≡ true ⌝ }
+    ensures { λ r. ⌜ r ≡ meets s (readSet o) ⌝ }
+{
+    if s == 0 {
+        return false;
+    }
+    meets(s, reads(o))
+}

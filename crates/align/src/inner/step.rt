@@ -5,6 +5,7 @@ ghost use Prim.Native.Nat.{_<_};
 ghost use Rattle.base.specs.Says.{bool};
 ghost use Rattle.chart.specs.Charts.{charted, size, to, operation};
 ghost use Rattle.chart.specs.Faultless.{FaultlessChart};
+ghost use Rattle.chart.specs.Lookup.{Indexed};
 ghost use Rattle.chart.specs.Operations.{same, operandsFit};
 ghost use Rattle.align.specs.Steps.{told, find, rewritten, assigned, matched, counterpart, assumed, moved, fair, arrived, rowsAt, step};
 use crate::inner::follow::follow;
@@ -30,8 +31,7 @@ fn rewritten(set: u64, o: Operation) -> u64
     requires { ⌜ operandsFit o ≡ true ⌝ }
     ensures { λ r. ⌜ r ≡ rewritten set o ⌝ }
 {
-    let read = sets::reads(o);
-    if sets::meets(set, read) {
+    if sets::meets_reads(set, o) {
         return sets::with(set, o.a);
     }
     sets::without(set, o.a)
@@ -42,16 +42,19 @@ fn assigned<'a>(
     old: Head,
     old_rows: &'a [u32],
     new_rows: &'a [u32],
+    index: &[u8; 130],
     h: Spot,
     part: &'a [u32],
     j: usize,
 ) -> Spot
     requires { ⌜ FaultlessChart (charted old (now «old_rows»)) ⌝ }
+    requires { ⌜ Indexed (now «old_rows») (now «new_rows») (now index) ⌝ }
+    requires { ⌜ h .place .0 < 64 ⌝ }
     requires { ⌜ (j < size (now part)) × (operandsFit (operation (now part) j) ≡ true) ⌝ }
     ensures { λ r. ⌜ r ≡ assigned (charted old (now («old_rows» .entry))) h (operation (now (part .entry)) j) (find (rowsAt (charted old (now («old_rows» .entry))) (h .place)) (λ o. same o (operation (now (part .entry)) j))) ⌝ }
 {
     let p = h.place;
-    let rows = rows_of(old_rows, new_rows, Place::Old(p));
+    let rows = rows_of(old_rows, new_rows, index, Place::Old(p));
     let o = operation_at(part, j);
     match seek::same(rows, part, j) {
         Found::At(k) => Spot {
@@ -70,10 +73,10 @@ fn matched(set: u64, rows: &[u32], k: usize, o: Operation) -> Aligned
     requires { ⌜ (k < size (now rows)) × (operandsFit (operation (now rows) k) ≡ true) × (operandsFit o ≡ true) ⌝ }
     ensures { λ r. ⌜ told r ≡ matched set (now (rows .entry)) k o ⌝ }
 {
-    if sets::meets(set, sets::reads(o)) {
+    if sets::meets_reads(set, o) {
         return Aligned::Failed;
     }
-    if sets::meets(set, sets::reads(operation_at(rows, k))) {
+    if sets::meets_reads(set, operation_at(rows, k)) {
         return Aligned::Failed;
     }
     Aligned::To(Spot {
@@ -87,11 +90,14 @@ fn assumed<'a>(
     old: Head,
     old_rows: &'a [u32],
     new_rows: &'a [u32],
+    index: &[u8; 130],
     h: Spot,
     part: &'a [u32],
     j: usize,
 ) -> Aligned
     requires { ⌜ FaultlessChart (charted old (now «old_rows»)) ⌝ }
+    requires { ⌜ Indexed (now «old_rows») (now «new_rows») (now index) ⌝ }
+    requires { ⌜ h .place .0 < 64 ⌝ }
     requires { ⌜ (j < size (now part)) × (operandsFit (operation (now part) j) ≡ true) ⌝ }
     ensures { λ r. ⌜ told r ≡ assumed (charted old (now («old_rows» .entry))) h (operation (now (part .entry)) j) (counterpart (charted old (now («old_rows» .entry))) (h .place) (operation (now (part .entry)) j)) ⌝ }
 {
@@ -99,7 +105,7 @@ fn assumed<'a>(
     if p.is(old.alarm) {
         return Aligned::To(h);
     }
-    let rows = rows_of(old_rows, new_rows, Place::Old(p));
+    let rows = rows_of(old_rows, new_rows, index, Place::Old(p));
     match seek::matching(rows, part, j) {
         Found::At(k) => matched(h.set, rows, k, operation_at(part, j)),
         Found::Nothing => Aligned::To(h),
@@ -111,20 +117,22 @@ fn moved<'a>(
     old: Head,
     old_rows: &'a [u32],
     new_rows: &'a [u32],
+    index: &[u8; 130],
     h: Spot,
     part: &'a [u32],
     j: usize,
 ) -> Aligned
     requires { ⌜ FaultlessChart (charted old (now «old_rows»)) ⌝ }
+    requires { ⌜ Indexed (now «old_rows») (now «new_rows») (now index) ⌝ }
     requires { ⌜ h .place .0 < 64 ⌝ }
     requires { ⌜ (j < size (now part)) × (operandsFit (operation (now part) j) ≡ true) ⌝ }
     ensures { λ r. ⌜ told r ≡ moved (charted old (now («old_rows» .entry))) h (operation (now (part .entry)) j) ⌝ }
 {
     if operations::is_assignment(operation_at(part, j)) {
-        return Aligned::To(assigned(old, old_rows, new_rows, h, part, j));
+        return Aligned::To(assigned(old, old_rows, new_rows, index, h, part, j));
     }
-    match follow(old, old_rows, new_rows, h) {
-        Followed::At(next) => assumed(old, old_rows, new_rows, next, part, j),
+    match follow(old, old_rows, new_rows, index, h) {
+        Followed::At(next) => assumed(old, old_rows, new_rows, index, next, part, j),
         Followed::Twice => Aligned::Failed,
     }
 }
@@ -159,11 +167,13 @@ pub fn step<'a>(
     old_rows: &'a [u32],
     new: Head,
     new_rows: &'a [u32],
+    index: &[u8; 130],
     h: Spot,
     part: &'a [u32],
     j: usize,
 ) -> Aligned
     requires { ⌜ FaultlessChart (charted old (now «old_rows»)) ⌝ }
+    requires { ⌜ Indexed (now «old_rows») (now «new_rows») (now index) ⌝ }
     requires { ⌜ h .place .0 < 64 ⌝ }
     requires { ⌜ (j < size (now part)) × (operandsFit (operation (now part) j) ≡ true) ⌝ }
     ensures { λ r. ⌜ told r ≡ step (charted old (now («old_rows» .entry))) (charted new (now («new_rows» .entry))) h (operation (now (part .entry)) j) (record { 0 = to (now (part .entry)) j }) ⌝ }
@@ -172,6 +182,6 @@ pub fn step<'a>(
         old,
         new,
         new_to(part, j),
-        moved(old, old_rows, new_rows, h, part, j),
+        moved(old, old_rows, new_rows, index, h, part, j),
     )
 }

@@ -8,16 +8,16 @@ use Rattle.align.proofs.inner.follow.follow.Statement.{statement}
 use Rattle.align.proofs.inner.follow.follow.Tie as tie
 
 abbrev Inv-loop : tie.InvT-loop
-Inv-loop old old-rows new-rows at₀ met₀ left₀ at met left = Walk (charted old old-rows) at₀ at met left
+Inv-loop old old-rows new-rows index at₀ met₀ left₀ at met left = Walk (charted old old-rows) at₀ at met left
 
 abbrev μ-loop : tie.MeasureT-loop
-μ-loop old old-rows new-rows at₀ met₀ left₀ at met left = left
+μ-loop old old-rows new-rows index at₀ met₀ left₀ at met left = left
 
 bit-requires : tie.Need-bit-requires Inv-loop μ-loop
 bit-requires c κs = search needs
 
 loop-holds : tie.Need-loop-holds Inv-loop μ-loop
-loop-holds c = walk-begins _ _ (c .before .before .before .before .pre .1) (c .bit .ensures)
+loop-holds c = walk-begins _ _ (c .before .before .before .before .pre .1 .1) (c .bit .ensures)
 
 onward-requires : tie.Need-onward-requires Inv-loop μ-loop
 onward-requires c κs = search needs

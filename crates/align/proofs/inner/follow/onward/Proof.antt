@@ -20,7 +20,7 @@ returns : tie.Need-returns
 returns c = onward-ends _ _ (sym (c .before .is .ensures) ∙ c .if1 .taken)
 
 rows-of-requires : tie.Need-rows-of-requires
-rows-of-requires c κs = ascends _ (no-refusal _ (c .before .before .before .before .before .pre))
+rows-of-requires c κs = (c .before .before .before .before .before .pre .1 .0, (ascends _ (no-refusal _ (c .before .before .before .before .before .pre .0)), c .before .before .before .before .before .pre .1 .1))
 
 assignment-requires : tie.Need-assignment-requires
 assignment-requires c κs = search needs
@@ -29,7 +29,7 @@ enum-known-k : tie.Need-enum-known-k
 enum-known-k c = search needs
 
 along-requires : tie.Need-along-requires
-along-requires c κs = let l = found-inside _ _ _ (sym (ap toldFound (c .before .k .given .1)) ∙ c .before .before .before .assignment .ensures) in let e = c .before .before .before .before .rows-of .ensures in (l, subst (λ (rows : List ℕ). operandsFit (operation rows (c .before .k .given .0 .0)) ≡ true) (sym e) (part-fits _ _ _ (c .before .before .before .before .before .before .before .before .before .before .pre) (subst (λ (rows : List ℕ). c .before .k .given .0 .0 < size rows) e l)))
+along-requires c κs = let l = found-inside _ _ _ (sym (ap toldFound (c .before .k .given .1)) ∙ c .before .before .before .assignment .ensures) in let e = c .before .before .before .before .rows-of .ensures in (l, subst (λ (rows : List ℕ). operandsFit (operation rows (c .before .k .given .0 .0)) ≡ true) (sym e) (part-fits _ _ _ (c .before .before .before .before .before .before .before .before .before .before .pre .0) (subst (λ (rows : List ℕ). c .before .k .given .0 .0 < size rows) e l)))
 
 enum-told : tie.Need-enum-told
 enum-told c = search needs

@@ -14,7 +14,7 @@ use Rattle.align.proofs.inner.step.assigned.Statement.{statement}
 use Rattle.align.proofs.inner.step.assigned.Tie as tie
 
 rows-of-requires : tie.Need-rows-of-requires
-rows-of-requires c κs = ascends _ (no-refusal _ (c .before .before .before .before .pre .0))
+rows-of-requires c κs = (c .before .before .before .before .pre .1 .0, (ascends _ (no-refusal _ (c .before .before .before .before .pre .0)), c .before .before .before .before .pre .1 .1 .0))
 
 operation-at-requires : tie.Need-operation-at-requires
 operation-at-requires c κs = search needs
@@ -29,13 +29,13 @@ old-to-requires : tie.Need-old-to-requires
 old-to-requires c κs = found-inside _ _ _ (sym (ap toldFound (c .before .k .given .1)) ∙ c .before .before .before .same .ensures)
 
 rewritten-requires : tie.Need-rewritten-requires
-rewritten-requires c κs = subst (λ (o : Operation). operandsFit o ≡ true) (sym (c .before .before .before .before .before .operation-at .ensures)) (c .before .before .before .before .before .before .before .before .before .before .before .pre .1 .1)
+rewritten-requires c κs = subst (λ (o : Operation). operandsFit o ≡ true) (sym (c .before .before .before .before .before .operation-at .ensures)) (c .before .before .before .before .before .before .before .before .before .before .before .pre .1 .1 .1 .1)
 
 enum-told : tie.Need-enum-told
 enum-told c = search needs
 
 with-requires : tie.Need-with-requires
-with-requires c κs = subst (λ (o : Operation). o .a < 64) (sym (c .before .before .before .operation-at .ensures)) (fit-a _ (c .before .before .before .before .before .before .before .before .before .pre .1 .1))
+with-requires c κs = subst (λ (o : Operation). o .a < 64) (sym (c .before .before .before .operation-at .ensures)) (fit-a _ (c .before .before .before .before .before .before .before .before .before .pre .1 .1 .1 .1))
 
 returns : tie.Need-returns
 returns c = assigned-equal _ _ _ (c .before .before .before .before .before .before .before .rows-of .ensures) (c .before .before .before .before .before .same .ensures) (ap toldFound (c .before .before .before .k .given .1)) (c .before .old-to .ensures) (c .before .before .before .before .before .before .operation-at .ensures) (c .rewritten .ensures)

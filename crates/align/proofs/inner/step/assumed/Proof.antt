@@ -24,7 +24,7 @@ returns : tie.Need-returns
 returns c = assumed-on _ _ _ (counterpart-none _ _ _ (sym (c .before .is .ensures) ∙ c .if1 .taken)) refl
 
 rows-of-requires : tie.Need-rows-of-requires
-rows-of-requires c κs = ascends _ (no-refusal _ (c .before .before .before .before .before .before .pre .0))
+rows-of-requires c κs = (c .before .before .before .before .before .before .pre .1 .0, (ascends _ (no-refusal _ (c .before .before .before .before .before .before .pre .0)), c .before .before .before .before .before .before .pre .1 .1 .0))
 
 matching-requires : tie.Need-matching-requires
 matching-requires c κs = search needs
@@ -36,7 +36,7 @@ operation-at-requires : tie.Need-operation-at-requires
 operation-at-requires c κs = search needs
 
 matched-requires : tie.Need-matched-requires
-matched-requires c κs = let l = matching-inside _ _ _ (sym (ap toldFound (c .before .before .k .given .1)) ∙ c .before .before .before .before .matching .ensures) in let e = c .before .before .before .before .before .rows-of .ensures in (l, subst (λ (rows : List ℕ). operandsFit (operation rows (c .before .before .k .given .0 .0)) ≡ true) (sym e) (part-fits _ _ _ (c .before .before .before .before .before .before .before .before .before .before .before .before .pre .0) (subst (λ (rows : List ℕ). c .before .before .k .given .0 .0 < size rows) e l)), subst (λ (o : Operation). operandsFit o ≡ true) (sym (c .operation-at .ensures)) (c .before .before .before .before .before .before .before .before .before .before .before .before .pre .1 .1))
+matched-requires c κs = let l = matching-inside _ _ _ (sym (ap toldFound (c .before .before .k .given .1)) ∙ c .before .before .before .before .matching .ensures) in let e = c .before .before .before .before .before .rows-of .ensures in (l, subst (λ (rows : List ℕ). operandsFit (operation rows (c .before .before .k .given .0 .0)) ≡ true) (sym e) (part-fits _ _ _ (c .before .before .before .before .before .before .before .before .before .before .before .before .pre .0) (subst (λ (rows : List ℕ). c .before .before .k .given .0 .0 < size rows) e l)), subst (λ (o : Operation). operandsFit o ≡ true) (sym (c .operation-at .ensures)) (c .before .before .before .before .before .before .before .before .before .before .before .before .pre .1 .1 .1 .1))
 
 enum-told : tie.Need-enum-told
 enum-told c = search needs

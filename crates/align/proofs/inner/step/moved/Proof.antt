@@ -1,6 +1,6 @@
 -- `align::inner::step::moved` meets its contract: by an assignment, or by an assumption after what is followed. Assumes nothing.
 use mathlib.Core.Path.{_≡_, sym, ap, subst, _∙_}
-use Rattle.align.proofs.Moves.{moved-assigned, moved-twice, moved-assumed}
+use Rattle.align.proofs.Moves.{followed-below, moved-assigned, moved-twice, moved-assumed}
 use Rattle.align.specs.Steps.{toldFollowed}
 use Rattle.chart.specs.declared.operations.Operation.{Operation}
 use mathlib.Core.Bool.{true}
@@ -29,7 +29,7 @@ enum-known-next : tie.Need-enum-known-next
 enum-known-next c = search needs
 
 assumed-requires : tie.Need-assumed-requires
-assumed-requires c κs = search needs
+assumed-requires c κs = (search needs, (search needs, (followed-below _ (c .before .before .before .before .before .before .before .before .before .before .pre .0) _ (c .before .before .before .before .before .before .before .before .before .before .pre .1 .1 .0) .of _ (sym (c .before .before .before .follow .ensures) ∙ ap toldFollowed (c .before .next .given .1)), search needs)))
 
 enum-told : tie.Need-enum-told
 enum-told c = search needs

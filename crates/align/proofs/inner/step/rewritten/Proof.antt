@@ -1,31 +1,27 @@
 -- `align::inner::step::rewritten` meets its contract: by the test. Assumes nothing.
 use Rattle.align.proofs.Moves.{rewritten-with, rewritten-without}
-use Rattle.align.specs.Sets.{with, without, meets}
 use Rattle.chart.proofs.Codes.{fit-a}
 use native.Mathlib.Omega.{arith}
 use borrow.Author.Needs.{needs}
 use Rattle.align.proofs.inner.step.rewritten.Statement.{statement}
 use Rattle.align.proofs.inner.step.rewritten.Tie as tie
 
-reads-requires : tie.Need-reads-requires
-reads-requires c κs = search needs
-
-meets-requires : tie.Need-meets-requires
-meets-requires c κs = search needs
+meets-reads-requires : tie.Need-meets-reads-requires
+meets-reads-requires c κs = search needs
 
 with-requires : tie.Need-with-requires
-with-requires c κs = omega (arith, fit-a _ (c .before .before .before .pre))
+with-requires c κs = omega (arith, fit-a _ (c .before .before .pre))
 
 returns : tie.Need-returns
-returns c = rewritten-with _ _ (c .before .before .before .reads .ensures) (c .before .before .meets .ensures) (c .before .if1 .taken) (c .with .ensures)
+returns c = rewritten-with _ _ (c .before .before .meets-reads .ensures) (c .before .if1 .taken) (c .with .ensures)
 
 without-requires : tie.Need-without-requires
-without-requires c κs = omega (arith, fit-a _ (c .before .before .before .pre))
+without-requires c κs = omega (arith, fit-a _ (c .before .before .pre))
 
 returns-2 : tie.Need-returns-2
-returns-2 c = rewritten-without _ _ (c .before .before .before .reads .ensures) (c .before .before .meets .ensures) (c .before .if1 .left) (c .without .ensures)
+returns-2 c = rewritten-without _ _ (c .before .before .meets-reads .ensures) (c .before .if1 .left) (c .without .ensures)
 
 pub rewritten-spec : {M : Type 1} → statement M
 rewritten-spec =
     tie.close
-    (tie.spec reads-requires meets-requires with-requires returns without-requires returns-2)
+    (tie.spec meets-reads-requires with-requires returns without-requires returns-2)
