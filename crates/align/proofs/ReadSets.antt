@@ -1,17 +1,16 @@
 -- The variables that an operation reads, joined from its operands. Assumes nothing.
-use mathlib.Core.Path.{_≡_, refl, sym, ap, ap₂, _∙_}
-use mathlib.Core.Bool.{true, false}
-use mathlib.Core.List.{List, [], _∷_, _++_}
+use mathlib.Core.Path.{_≡_, sym, ap, ap₂, _∙_}
+use mathlib.Core.Bool.{true}
+use mathlib.Core.List.{List, _++_}
 use Prim.Native.Nat.{ℕ}
 use lib.Bits.{bitOr, or-zero-l, or-zero-r}
-use Rattle.base.proofs.Tests.{T-true, and-true}
+use Rattle.base.proofs.Tests.{and-true}
 use lib.Dec.{leb}
 use Rattle.chart.specs.declared.operations.Operation.{Operation}
-use Rattle.chart.specs.declared.operations.Kind.{Kind}
 use Rattle.chart.specs.declared.operations.Kind.the-variants.{Assignment, ConstantComparison, VariableComparison, Unknown}
 use Rattle.chart.specs.declared.operations.Operand.{Operand}
 use Rattle.chart.specs.declared.operations.Operand.the-variants.{Variable, Constant, Unused}
-use Rattle.chart.specs.Operations.{kind, byKind, isAssumption, operandB, operandC, fits, operandsFit, ifVariable, reads}
+use Rattle.chart.specs.Operations.{kind, operandB, operandC, fits, operandsFit, ifVariable, reads}
 use Rattle.align.specs.Sets.{alone, joined, setOf, readSet}
 
 -- a list of one variable or none before others
@@ -22,39 +21,23 @@ first-joined Constant x l = sym (or-zero-l (setOf l))
 first-joined Unused x l = sym (or-zero-l (setOf l))
 
 module _ (o : Operation) where
-  right-set : ℕ
-  right-set = joined (setOf (ifVariable (operandB o) (o .b))) (setOf (ifVariable (operandC o) (o .c)))
-
-  right-joined : setOf (ifVariable (operandB o) (o .b) ++ ifVariable (operandC o) (o .c)) ≡ right-set
-  unfolding right-set
-  right-joined = first-joined (operandB o) (o .b) (ifVariable (operandC o) (o .c))
+  -- ---- kind by kind
+  pub reads-assignment : {r : ℕ} → kind (o .code) ≡ Assignment → r ≡ joined (setOf (ifVariable (operandB o) (o .b))) (setOf (ifVariable (operandC o) (o .c))) → r ≡ readSet o
+  unfolding readSet reads
+  reads-assignment k e = e ∙ sym (first-joined (operandB o) (o .b) (ifVariable (operandC o) (o .c))) ∙ rw k
 
   -- an assumption reads va as well
-  pub reads-assumption : {b c right va r : ℕ} → b ≡ setOf (ifVariable (operandB o) (o .b)) → c ≡ setOf (ifVariable (operandC o) (o .c)) → right ≡ joined b c
-      → isAssumption o ≡ true → va ≡ alone (o .a) → r ≡ joined va right → r ≡ readSet o
-  unfolding readSet reads setOf right-set
-  reads-assumption eb ec er t ea e = e ∙ ap₂ joined ea (er ∙ ap₂ joined eb ec ∙ sym right-joined) ∙ go (kind (o .code)) t
-    where
-      go : (k : Kind) → byKind k false true true false ≡ true
-          → joined (alone (o .a)) (setOf (ifVariable (operandB o) (o .b) ++ ifVariable (operandC o) (o .c)))
-          ≡ setOf (byKind k [] (o .a ∷ []) (o .a ∷ []) [] ++ (ifVariable (operandB o) (o .b) ++ ifVariable (operandC o) (o .c)))
-      go Assignment t = absurd (T-true t)
-      go ConstantComparison t = refl
-      go VariableComparison t = refl
-      go Unknown t = absurd (T-true t)
+  pub reads-constant : {r : ℕ} → kind (o .code) ≡ ConstantComparison → r ≡ alone (o .a) → r ≡ readSet o
+  unfolding readSet reads operandB operandC setOf joined
+  reads-constant k e = e ∙ rw k (sym (or-zero-r (alone (o .a))))
 
-  pub reads-other : {b c right : ℕ} → b ≡ setOf (ifVariable (operandB o) (o .b)) → c ≡ setOf (ifVariable (operandC o) (o .c)) → right ≡ joined b c
-      → isAssumption o ≡ false → right ≡ readSet o
-  unfolding readSet reads right-set
-  reads-other eb ec er t = er ∙ ap₂ joined eb ec ∙ sym right-joined ∙ go (kind (o .code)) t
-    where
-      go : (k : Kind) → byKind k false true true false ≡ false
-          → setOf (ifVariable (operandB o) (o .b) ++ ifVariable (operandC o) (o .c))
-          ≡ setOf (byKind k [] (o .a ∷ []) (o .a ∷ []) [] ++ (ifVariable (operandB o) (o .b) ++ ifVariable (operandC o) (o .c)))
-      go Assignment t = refl
-      go ConstantComparison t = absurd (T-true (sym t))
-      go VariableComparison t = absurd (T-true (sym t))
-      go Unknown t = refl
+  pub reads-variable : {va vb r : ℕ} → kind (o .code) ≡ VariableComparison → va ≡ alone (o .a) → vb ≡ alone (o .b) → r ≡ joined va vb → r ≡ readSet o
+  unfolding readSet reads operandB operandC setOf joined
+  reads-variable k ea eb e = e ∙ ap₂ bitOr ea (eb ∙ sym (or-zero-r (alone (o .b)))) ∙ rw k
+
+  pub reads-unknown : kind (o .code) ≡ Unknown → 0 ≡ readSet o
+  unfolding readSet reads operandB operandC setOf
+  reads-unknown k = rw k
 
   -- operands that fit, one by one
   pub fits-b : operandsFit o ≡ true → fits (operandB o) (o .b) ≡ true

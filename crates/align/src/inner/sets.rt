@@ -2,9 +2,10 @@
 ghost use mathlib.Core.Path.{_≡_};
 ghost use mathlib.Core.Bool.{true};
 ghost use Prim.Native.Nat.{_<_};
-ghost use Rattle.chart.specs.Operations.{fits, ifVariable, operandsFit};
+ghost use Rattle.chart.specs.Operations.{operandB, operandC, fits, ifVariable, operandsFit};
 ghost use Rattle.align.specs.Sets.{alone, joined, with, without, meets, holdsAll, setOf, readSet};
 use chart::operations;
+use chart::operations::Kind;
 use chart::operations::Operand;
 use chart::operations::Operation;
 
@@ -62,19 +63,28 @@ fn if_variable(operand: Operand, x: u32) -> u64
     }
 }
 
-// The variables that an operation reads.
+// The variables on the right of an assignment.
+fn right(o: Operation) -> u64
+    requires { ⌜ operandsFit o ≡ true ⌝ }
+    ensures { λ r. ⌜ r ≡ joined (setOf (ifVariable (operandB o) (o .b))) (setOf (ifVariable (operandC o) (o .c))) ⌝ }
+{
+    joined(
+        if_variable(operations::operand_b(o), o.b),
+        if_variable(operations::operand_c(o), o.c),
+    )
+}
+
+// The variables that an operation reads: by its kind, told once.
 pub fn reads(o: Operation) -> u64
     requires { ⌜ operandsFit o ≡ true ⌝ }
     ensures { λ r. ⌜ r ≡ readSet o ⌝ }
 {
-    let right = joined(
-        if_variable(operations::operand_b(o), o.b),
-        if_variable(operations::operand_c(o), o.c),
-    );
-    if operations::is_assumption(o) {
-        return joined(alone(o.a), right);
+    match operations::kind_of(o.code) {
+        Kind::Assignment => right(o),
+        Kind::ConstantComparison => alone(o.a),
+        Kind::VariableComparison => joined(alone(o.a), alone(o.b)),
+        Kind::Unknown => 0,
     }
-    right
 }
 
 // Whether some variable that an operation reads is in s. Nothing is in an empty set, as most are.
