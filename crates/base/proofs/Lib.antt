@@ -10,3 +10,4 @@ pub mod OnSome
 pub mod Walks
 pub mod Sums
 pub mod Repeat
+pub mod Scanning

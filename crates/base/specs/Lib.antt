@@ -8,3 +8,4 @@ pub mod Says
 pub mod Refusals
 pub mod Walks
 pub mod Repeat
+pub mod Scan
