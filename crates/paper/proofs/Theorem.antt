@@ -46,13 +46,17 @@ module _ (old new : Chart) (F : FaultlessChart old) (H : FaultlessChart new) (wo
       ⊎-elim
       (λ e. let B = ran old new F H wo wn .reads .sets .waits-numbered n e in
       let l = number-below n B in
-      sym (ap (last old new F H wo wn .waitlist) (pair-is n B)) ∙ ran old new F H wo wn .reads .sets .waits (number n) l ∙ marked-no (explored old new .waiting) (number n) (nothing-waits old new F H (number n) l))
+      sym (ap (last old new F H wo wn .waitlist) (pair-is n B))
+      ∙ ran old new F H wo wn .reads .sets .waits (number n) l
+      ∙ marked-no (explored old new .waiting) (number n) (nothing-waits old new F H (number n) l))
       (λ e. e) (in-or-not (last old new F H wo wn .waitlist n))
 
   -- line 19
   line19-is : line19 old new (last old new F H wo wn) ≡ alone (headOf old) (headOf new) (explored old new .marks)
   unfolding line19 alone
-  line19-is = rw (ran old new F H wo wn .reads .sets .Δ (record { 0 = 0 }) (omega arith)) (go (marked (explored old new .marks) (firstKept new)) (eqb 0 (new .alarm)) (eqb 0 (old .alarm)))
+  line19-is =
+      rw (ran old new F H wo wn .reads .sets .Δ (record { 0 = 0 }) (omega arith))
+      (go (marked (explored old new .marks) (firstKept new)) (eqb 0 (new .alarm)) (eqb 0 (old .alarm)))
     where
       go : (k a b : Bool) → k || (a && not b) ≡ k || not (not a || b)
       go true a b = refl
@@ -65,7 +69,9 @@ module _ (old new : Chart) (F : FaultlessChart old) (H : FaultlessChart new) (wo
   left b =
       elim b [
         | true ↦ builds.lone (headOf new)
-        | false ↦ graph (finalMarks (firstPair old new) (finalTargets (explored old new)) (explored old new .marks)) (finalTargets (explored old new)) (explored old new .sets) (explored old new .waiting)
+        | false ↦
+            graph (finalMarks (firstPair old new) (finalTargets (explored old new)) (explored old new .marks)) (finalTargets (explored old new))
+            (explored old new .sets) (explored old new .waiting)
       ]
 
   -- lines 20 and 21, or line 19; b tells whether the start is the lone kept node
@@ -82,10 +88,9 @@ module _ (old new : Chart) (F : FaultlessChart old) (H : FaultlessChart new) (wo
       let g = whole-graph old new F H wo wn e in
       record { graph = g; found = searched g (numbered 0 (omega arith)); condition = λ f z. whole-condition old new F H wo wn e f z }
 
-  -- every build is one run of the source's algorithms
-  pub demand-2 : Returned old new (recorded old new)
+  returns : Returned old new (recorded old new)
   unfolding recorded built finished startOf returned left
-  demand-2 =
+  returns =
       let E =
       subst
       (λ (b : Bool). Ends (recorded old new) (elim b as (λ _. DifferenceGraph) [ true ↦ lone old new | false ↦ whole old new (last old new F H wo wn) ])
@@ -102,6 +107,11 @@ module _ (old new : Chart) (F : FaultlessChart old) (H : FaultlessChart new) (wo
         emptied = E .found .emptied;
         condition = E .condition;
       }
+
+-- every build is one run of the source's algorithms
+pub demand-2 : (old new : Chart) → FaultlessChart old → FaultlessChart new → Words (old .table) → Words (new .table)
+    → Returned old new (recorded old new)
+demand-2 = returns
 
 -- a pair and a row have one edge
 pub one-edge : {R : Record} {G : DifferenceGraph} {Vδ : Pair → ℕ} → IsGraph R G Vδ → (n : Pair) (r : ℕ) (x y : Node) → G .E (edge n r x) → G .E (edge n r y) → x ≡ y
