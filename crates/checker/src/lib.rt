@@ -13,6 +13,7 @@ ghost use Rattle.checker.specs.Promise.{Promise};
 use chart::charts::Head;
 use chart::charts::Judged;
 use chart::inner::faults::fault;
+use chart::inner::rows;
 use inner::rules::is_passed;
 use inner::rules::rule_fault;
 use inner::shape::shaped;
@@ -87,7 +88,18 @@ fn record_fault<'a>(
     if !shaped(old, new, start, marks, targets) {
         return Checked::Shape;
     }
-    rule_fault(old, old_rows, new, new_rows, start, marks, targets, sets)
+    let index = rows::index(old_rows, new_rows);
+    rule_fault(
+        old,
+        old_rows,
+        new,
+        new_rows,
+        &index,
+        start,
+        marks,
+        targets,
+        sets,
+    )
 }
 
 // The check: the refusal that is due, if any. What passes keeps the promise: a run of the new chart that reaches its alarm and that the

@@ -5,6 +5,7 @@ ghost use lib.ListN.{length};
 ghost use Rattle.base.specs.Options.{missing, firstOf};
 ghost use Rattle.base.specs.Says.{bool};
 ghost use Rattle.chart.specs.Charts.{charted, leaving};
+ghost use Rattle.chart.specs.Lookup.{Indexed};
 ghost use Rattle.chart.specs.Places.{newOf};
 ghost use Rattle.checker.specs.Records.{graphOf, recordOf};
 ghost use Rattle.checker.specs.Rules.{startFits, Admitted};
@@ -62,6 +63,7 @@ fn target_fault<'a>(
     old_rows: &'a [u32],
     new: Head,
     new_rows: &'a [u32],
+    index: &[u8; 130],
     marks: &[u8],
     targets: &[u16],
     sets: &[u64],
@@ -70,6 +72,7 @@ fn target_fault<'a>(
     k: usize,
 ) -> Checked
     requires { ⌜ Admitted (charted old (now «old_rows»)) (charted new (now «new_rows»)) (graphOf (now marks) (now targets) (now sets)) ⌝ }
+    requires { ⌜ Indexed (now «old_rows») (now «new_rows») (now index) ⌝ }
     requires { ⌜ (m < 4096) × (now rows ≡ leaving (now «new_rows») (newOf m .0)) × (k < 2) ⌝ }
     ensures { λ r. ⌜ told r ≡ targetFault (charted old (now («old_rows» .entry))) (charted new (now («new_rows» .entry))) (graphOf (now (marks .entry)) (now (targets .entry)) (now (sets .entry))) m (now (rows .entry)) k ⌝ }
 {
@@ -82,6 +85,7 @@ fn target_fault<'a>(
         old_rows,
         new,
         new_rows,
+        index,
         marks,
         targets,
         sets,
@@ -100,6 +104,7 @@ fn rows_fault<'a>(
     old_rows: &'a [u32],
     new: Head,
     new_rows: &'a [u32],
+    index: &[u8; 130],
     marks: &[u8],
     targets: &[u16],
     sets: &[u64],
@@ -107,6 +112,7 @@ fn rows_fault<'a>(
     rows: &'a [u32],
 ) -> Checked
     requires { ⌜ Admitted (charted old (now «old_rows»)) (charted new (now «new_rows»)) (graphOf (now marks) (now targets) (now sets)) ⌝ }
+    requires { ⌜ Indexed (now «old_rows») (now «new_rows») (now index) ⌝ }
     requires { ⌜ (m < 4096) × (now rows ≡ leaving (now «new_rows») (newOf m .0)) ⌝ }
     ensures { λ r. ⌜ told r ≡ rowsFault (charted old (now («old_rows» .entry))) (charted new (now («new_rows» .entry))) (graphOf (now (marks .entry)) (now (targets .entry)) (now (sets .entry))) m (now (rows .entry)) ⌝ }
 {
@@ -115,6 +121,7 @@ fn rows_fault<'a>(
         old_rows,
         new,
         new_rows,
+        index,
         marks,
         targets,
         sets,
@@ -130,6 +137,7 @@ fn rows_fault<'a>(
         old_rows,
         new,
         new_rows,
+        index,
         marks,
         targets,
         sets,
@@ -145,20 +153,33 @@ fn pair_fault<'a>(
     old_rows: &'a [u32],
     new: Head,
     new_rows: &'a [u32],
+    index: &[u8; 130],
     marks: &[u8],
     targets: &[u16],
     sets: &[u64],
     m: usize,
 ) -> Checked
     requires { ⌜ Admitted (charted old (now «old_rows»)) (charted new (now «new_rows»)) (graphOf (now marks) (now targets) (now sets)) ⌝ }
+    requires { ⌜ Indexed (now «old_rows») (now «new_rows») (now index) ⌝ }
     requires { ⌜ m < 4096 ⌝ }
     ensures { λ r. ⌜ told r ≡ pairFault (charted old (now («old_rows» .entry))) (charted new (now («new_rows» .entry))) (graphOf (now (marks .entry)) (now (targets .entry)) (now (sets .entry))) m ⌝ }
 {
     if marks[m] == 0 {
         return Checked::Passed;
     }
-    let rows = rows_of(old_rows, new_rows, Place::New(new_of(m)));
-    rows_fault(old, old_rows, new, new_rows, marks, targets, sets, m, rows)
+    let rows = rows_of(old_rows, new_rows, index, Place::New(new_of(m)));
+    rows_fault(
+        old,
+        old_rows,
+        new,
+        new_rows,
+        index,
+        marks,
+        targets,
+        sets,
+        m,
+        rows,
+    )
 }
 
 // The lowest target index at fault among the 16 pairs of group g. Where all are absent, as in most groups of most records, none is asked.
@@ -167,12 +188,14 @@ fn group_fault<'a>(
     old_rows: &'a [u32],
     new: Head,
     new_rows: &'a [u32],
+    index: &[u8],
     marks: &[u8],
     targets: &[u16],
     sets: &[u64],
     g: usize,
 ) -> Checked
     requires { ⌜ Admitted (charted old (now «old_rows»)) (charted new (now «new_rows»)) (graphOf (now marks) (now targets) (now sets)) ⌝ }
+    requires { ⌜ Indexed (now «old_rows») (now «new_rows») (now index) ⌝ }
     requires { ⌜ g < 256 ⌝ }
     ensures { λ r. ⌜ told r ≡ firstOf 16 (λ j. pairFault (charted old (now («old_rows» .entry))) (charted new (now («new_rows» .entry))) (graphOf (now (marks .entry)) (now (targets .entry)) (now (sets .entry))) (16 * g + j)) ⌝ }
 {
@@ -186,6 +209,7 @@ fn group_fault<'a>(
             old_rows,
             new,
             new_rows,
+            index,
             marks,
             targets,
             sets,
@@ -205,16 +229,18 @@ fn first_fault<'a>(
     old_rows: &'a [u32],
     new: Head,
     new_rows: &'a [u32],
+    index: &[u8; 130],
     marks: &[u8],
     targets: &[u16],
     sets: &[u64],
 ) -> Checked
     requires { ⌜ Admitted (charted old (now «old_rows»)) (charted new (now «new_rows»)) (graphOf (now marks) (now targets) (now sets)) ⌝ }
+    requires { ⌜ Indexed (now «old_rows») (now «new_rows») (now index) ⌝ }
     ensures { λ r. ⌜ told r ≡ firstOf 4096 (pairFault (charted old (now («old_rows» .entry))) (charted new (now («new_rows» .entry))) (graphOf (now (marks .entry)) (now (targets .entry)) (now (sets .entry)))) ⌝ }
 {
     let mut g = 0;
     while g < 256 {
-        let f = group_fault(old, old_rows, new, new_rows, marks, targets, sets, g);
+        let f = group_fault(old, old_rows, new, new_rows, index, marks, targets, sets, g);
         if !is_passed(f) {
             return f;
         }
@@ -229,16 +255,18 @@ pub fn rule_fault<'a>(
     old_rows: &'a [u32],
     new: Head,
     new_rows: &'a [u32],
+    index: &[u8; 130],
     start: u32,
     marks: &[u8],
     targets: &[u16],
     sets: &[u64],
 ) -> Checked
     requires { ⌜ Admitted (charted old (now «old_rows»)) (charted new (now «new_rows»)) (graphOf (now marks) (now targets) (now sets)) ⌝ }
+    requires { ⌜ Indexed (now «old_rows») (now «new_rows») (now index) ⌝ }
     ensures { λ r. ⌜ told r ≡ ruleFault (charted old (now («old_rows» .entry))) (charted new (now («new_rows» .entry))) (recordOf start (now (marks .entry)) (now (targets .entry)) (now (sets .entry))) ⌝ }
 {
     if !start_fits(old, new, start, marks) {
         return Checked::Start;
     }
-    first_fault(old, old_rows, new, new_rows, marks, targets, sets)
+    first_fault(old, old_rows, new, new_rows, index, marks, targets, sets)
 }

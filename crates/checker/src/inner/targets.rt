@@ -6,6 +6,7 @@ ghost use lib.ListN.{length};
 ghost use Rattle.base.specs.Says.{bool, Says};
 ghost use Rattle.base.specs.Tests.{within};
 ghost use Rattle.chart.specs.Charts.{charted, size, to, operation, leaving};
+ghost use Rattle.chart.specs.Lookup.{Indexed};
 ghost use Rattle.chart.specs.Places.{newOf};
 ghost use Rattle.align.specs.Steps.{step};
 ghost use Rattle.checker.specs.Records.{graphOf, spot};
@@ -97,6 +98,7 @@ fn joins_step<'a>(
     old_rows: &'a [u32],
     new: Head,
     new_rows: &'a [u32],
+    index: &[u8; 130],
     marks: &[u8],
     targets: &[u16],
     sets: &[u64],
@@ -106,6 +108,7 @@ fn joins_step<'a>(
     t: usize,
 ) -> bool
     requires { ⌜ Admitted (charted old (now «old_rows»)) (charted new (now «new_rows»)) (graphOf (now marks) (now targets) (now sets)) ⌝ }
+    requires { ⌜ Indexed (now «old_rows») (now «new_rows») (now index) ⌝ }
     requires { ⌜ (m < 4096) × (now rows ≡ leaving (now «new_rows») (newOf m .0)) × (k < size (now rows)) ⌝ }
     ensures { λ r. ⌜ r ≡ joinsStep (now (marks .entry)) (now (sets .entry)) (record { 0 = to (now (rows .entry)) k }) t (step (charted old (now («old_rows» .entry))) (charted new (now («new_rows» .entry))) (spot (graphOf (now (marks .entry)) (now (targets .entry)) (now (sets .entry))) m) (operation (now (rows .entry)) k) (record { 0 = to (now (rows .entry)) k })) ⌝ }
 {
@@ -113,7 +116,7 @@ fn joins_step<'a>(
         place: old_of(m),
         set: sets[m],
     };
-    match step(old, old_rows, new, new_rows, here, rows, k) {
+    match step(old, old_rows, new, new_rows, index, here, rows, k) {
         Aligned::To(h) => joins(marks, sets, new_to(rows, k), t, h),
         Aligned::Failed => false,
     }
@@ -125,6 +128,7 @@ fn leads<'a>(
     old_rows: &'a [u32],
     new: Head,
     new_rows: &'a [u32],
+    index: &[u8; 130],
     marks: &[u8],
     targets: &[u16],
     sets: &[u64],
@@ -134,6 +138,7 @@ fn leads<'a>(
     t: usize,
 ) -> bool
     requires { ⌜ Admitted (charted old (now «old_rows»)) (charted new (now «new_rows»)) (graphOf (now marks) (now targets) (now sets)) ⌝ }
+    requires { ⌜ Indexed (now «old_rows») (now «new_rows») (now index) ⌝ }
     requires { ⌜ (m < 4096) × (now rows ≡ leaving (now «new_rows») (newOf m .0)) × (k < size (now rows)) ⌝ }
     ensures { λ r. ⌜ r ≡ bool (leads (charted old (now («old_rows» .entry))) (charted new (now («new_rows» .entry))) (graphOf (now (marks .entry)) (now (targets .entry)) (now (sets .entry))) m (operation (now (rows .entry)) k) (record { 0 = to (now (rows .entry)) k }) t) ⌝ }
 {
@@ -150,6 +155,7 @@ fn leads<'a>(
         old_rows,
         new,
         new_rows,
+        index,
         marks,
         targets,
         sets,
@@ -166,6 +172,7 @@ pub fn row_fits<'a>(
     old_rows: &'a [u32],
     new: Head,
     new_rows: &'a [u32],
+    index: &[u8; 130],
     marks: &[u8],
     targets: &[u16],
     sets: &[u64],
@@ -174,6 +181,7 @@ pub fn row_fits<'a>(
     k: usize,
 ) -> bool
     requires { ⌜ Admitted (charted old (now «old_rows»)) (charted new (now «new_rows»)) (graphOf (now marks) (now targets) (now sets)) ⌝ }
+    requires { ⌜ Indexed (now «old_rows») (now «new_rows») (now index) ⌝ }
     requires { ⌜ (m < 4096) × (now rows ≡ leaving (now «new_rows») (newOf m .0)) × (k < size (now rows)) × (k < 2) ⌝ }
     ensures { λ r. ⌜ r ≡ bool (rowFits (charted old (now («old_rows» .entry))) (charted new (now («new_rows» .entry))) (graphOf (now (marks .entry)) (now (targets .entry)) (now (sets .entry))) m (now (rows .entry)) k) ⌝ }
 {
@@ -184,6 +192,7 @@ pub fn row_fits<'a>(
         old_rows,
         new,
         new_rows,
+        index,
         marks,
         targets,
         sets,

@@ -15,10 +15,10 @@ use Rattle.checker.proofs.inner.rules.first_fault.Statement.{statement}
 use Rattle.checker.proofs.inner.rules.first_fault.Tie as tie
 
 abbrev Inv-loop : tie.InvT-loop
-Inv-loop old old-rows new new-rows marks targets sets g₀ g = (g ≤ 256) × (firstOf (16 * g) (pairFault (charted old old-rows) (charted new new-rows) (graphOf marks targets sets)) ≡ none)
+Inv-loop old old-rows new new-rows index marks targets sets g₀ g = (g ≤ 256) × (firstOf (16 * g) (pairFault (charted old old-rows) (charted new new-rows) (graphOf marks targets sets)) ≡ none)
 
 abbrev μ-loop : tie.MeasureT-loop
-μ-loop old old-rows new new-rows marks targets sets g₀ g = 256 - g
+μ-loop old old-rows new new-rows index marks targets sets g₀ g = 256 - g
 
 loop-holds : tie.Need-loop-holds Inv-loop μ-loop
 unfolding firstOf

@@ -16,10 +16,10 @@ use Rattle.checker.proofs.inner.rules.group_fault.Statement.{statement}
 use Rattle.checker.proofs.inner.rules.group_fault.Tie as tie
 
 abbrev Inv-loop : tie.InvT-loop
-Inv-loop old old-rows new new-rows marks targets sets g j₀ j = (j ≤ 16) × (firstOf j (λ j. pairFault (charted old old-rows) (charted new new-rows) (graphOf marks targets sets) (16 * g + j)) ≡ none)
+Inv-loop old old-rows new new-rows index marks targets sets g j₀ j = (j ≤ 16) × (firstOf j (λ j. pairFault (charted old old-rows) (charted new new-rows) (graphOf marks targets sets) (16 * g + j)) ≡ none)
 
 abbrev μ-loop : tie.MeasureT-loop
-μ-loop old old-rows new new-rows marks targets sets g j₀ j = 16 - j
+μ-loop old old-rows new new-rows index marks targets sets g j₀ j = 16 - j
 
 mul-blank : tie.Need-mul-blank Inv-loop μ-loop
 mul-blank c = search needs

@@ -1,4 +1,7 @@
 -- `checker::inner::rules::pair_fault` meets its contract: an absent pair, or the rows of its new place. Assumes nothing.
+use mathlib.Core.Path.{ap}
+use Rattle.chart.specs.declared.places.NewPlace.{NewPlace}
+use native.Mathlib.Omega.{arith}
 use Rattle.checker.proofs.Targets.{absent, part-of, present}
 use Rattle.checker.specs.Records.{graphOf}
 use Rattle.chart.proofs.Faultless.{ascends, no-refusal}
@@ -17,10 +20,10 @@ new-of-requires : tie.Need-new-of-requires
 new-of-requires c κs = search needs
 
 rows-of-requires : tie.Need-rows-of-requires
-rows-of-requires c κs = ascends _ (no-refusal _ (c .before .before .before .before .before .before .before .before .pre .0 .new-faultless))
+rows-of-requires c κs = (c .before .before .before .before .before .before .before .before .pre .1 .0, (ascends _ (no-refusal _ (c .before .before .before .before .before .before .before .before .pre .0 .new-faultless)), (let e = ap (λ (q : NewPlace). q .0) (c .new-of .ensures) in omega arith)))
 
 rows-fault-requires : tie.Need-rows-fault-requires
-rows-fault-requires c κs = (c .before .before .before .before .before .before .before .before .before .pre .0, (c .before .before .before .before .before .before .before .before .before .pre .1, part-of _ _ (c .before .new-of .ensures) (c .rows-of .ensures)))
+rows-fault-requires c κs = (c .before .before .before .before .before .before .before .before .before .pre .0, (c .before .before .before .before .before .before .before .before .before .pre .1 .0, (c .before .before .before .before .before .before .before .before .before .pre .1 .1, part-of _ _ (c .before .new-of .ensures) (c .rows-of .ensures))))
 
 returns-2 : tie.Need-returns-2
 returns-2 c = present _ _ (graphOf _ _ _) _ (c .before .before .before .if1 .left) (c .before .before .new-of .ensures) (c .before .rows-of .ensures) (c .rows-fault .ensures)

@@ -8,7 +8,7 @@ use Rattle.checker.proofs.inner.rules.rows_fault.Statement.{statement}
 use Rattle.checker.proofs.inner.rules.rows_fault.Tie as tie
 
 target-fault-requires : tie.Need-target-fault-requires
-target-fault-requires c κs = search needs
+target-fault-requires c κs = (c .before .before .before .before .before .before .pre .0, (c .before .before .before .before .before .before .pre .1 .0, (c .before .before .before .before .before .before .pre .1 .1 .0, c .before .before .before .before .before .before .pre .1 .1 .1, search needs)))
 
 is-passed-requires : tie.Need-is-passed-requires
 is-passed-requires c κs = search needs
@@ -18,7 +18,7 @@ unfolding rowsFault
 returns c = picked-first (c .before .before .target-fault .ensures) (c .before .is-passed .ensures) _ (not-true _ (c .if1 .taken))
 
 target-fault-requires-2 : tie.Need-target-fault-requires-2
-target-fault-requires-2 c κs = search needs
+target-fault-requires-2 c κs = (c .before .before .before .before .before .before .before .before .before .pre .0, (c .before .before .before .before .before .before .before .before .before .pre .1 .0, (c .before .before .before .before .before .before .before .before .before .pre .1 .1 .0, c .before .before .before .before .before .before .before .before .before .pre .1 .1 .1, search needs)))
 
 returns-2 : tie.Need-returns-2
 unfolding rowsFault

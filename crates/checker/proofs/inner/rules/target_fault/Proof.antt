@@ -10,20 +10,20 @@ returns : tie.Need-returns
 returns c = no-row _ _ (graphOf _ _ _) _ _ _ (c .if1 .taken)
 
 row-fits-requires : tie.Need-row-fits-requires
-row-fits-requires c κs = search needs
+row-fits-requires c κs = (c .before .before .before .before .before .before .before .pre .0, (c .before .before .before .before .before .before .before .pre .1 .0, (c .before .before .before .before .before .before .before .pre .1 .1 .0, c .before .before .before .before .before .before .before .pre .1 .1 .1, c .if1 .left, c .before .before .before .before .before .before .before .pre .1 .1 .2)))
 
 returns-2 : tie.Need-returns-2
 returns-2 c = row-fine _ _ (graphOf _ _ _) _ _ _ (c .before .before .if1 .left) (c .before .row-fits .ensures) (c .if2 .taken)
 
-mul-t12 : tie.Need-mul-t12
-mul-t12 c = search needs
+mul-t13 : tie.Need-mul-t13
+mul-t13 c = search needs
 
-add-t15 : tie.Need-add-t15
-add-t15 c = search needs
+add-t16 : tie.Need-add-t16
+add-t16 c = search needs
 
 returns-3 : tie.Need-returns-3
 returns-3 c = row-fails _ _ (graphOf _ _ _) _ _ _ (c .before .before .if1 .left) (c .before .row-fits .ensures) (c .if2 .left)
 
 pub target-fault-spec : {M : Type 1} → statement M
 target-fault-spec =
-    tie.close (tie.spec returns row-fits-requires returns-2 mul-t12 add-t15 returns-3)
+    tie.close (tie.spec returns row-fits-requires returns-2 mul-t13 add-t16 returns-3)

@@ -11,14 +11,14 @@ use Rattle.checker.proofs.inner.targets.joins_step.Tie as tie
 old-of-requires : tie.Need-old-of-requires
 old-of-requires c κs = search needs
 
-mul-t15 : tie.Need-mul-t15
-mul-t15 c = search needs
+mul-t16 : tie.Need-mul-t16
+mul-t16 c = search needs
 
-shared-slice-read-t17 : tie.Need-shared-slice-read-t17
-shared-slice-read-t17 c = search needs
+shared-slice-read-t18 : tie.Need-shared-slice-read-t18
+shared-slice-read-t18 c = search needs
 
 step-requires : tie.Need-step-requires
-step-requires c κs = (c .before .before .before .before .before .before .before .before .pre .0 .old-faultless, (pair-below _ (c .before .old-of .ensures) (c .before .before .before .before .before .before .before .before .pre .1 .0), (c .before .before .before .before .before .before .before .before .pre .1 .2, row-operands _ (c .before .before .before .before .before .before .before .before .pre .0 .new-faultless) _ _ (c .before .before .before .before .before .before .before .before .pre .1 .1) (c .before .before .before .before .before .before .before .before .pre .1 .2))))
+step-requires c κs = (c .before .before .before .before .before .before .before .before .pre .0 .old-faultless, (c .before .before .before .before .before .before .before .before .pre .1 .0, (pair-below _ (c .before .old-of .ensures) (c .before .before .before .before .before .before .before .before .pre .1 .1 .0), (c .before .before .before .before .before .before .before .before .pre .1 .1 .2, row-operands _ (c .before .before .before .before .before .before .before .before .pre .0 .new-faultless) _ _ (c .before .before .before .before .before .before .before .before .pre .1 .1 .1) (c .before .before .before .before .before .before .before .before .pre .1 .1 .2)))))
 
 enum-known-h : tie.Need-enum-known-h
 enum-known-h c = search needs
@@ -27,7 +27,7 @@ new-to-requires : tie.Need-new-to-requires
 new-to-requires c κs = search needs
 
 joins-requires : tie.Need-joins-requires
-joins-requires c κs = (c .before .before .before .before .before .before .before .before .before .before .before .before .before .pre .0 .marks-length, c .before .before .before .before .before .before .before .before .before .before .before .before .before .pre .0 .sets-length, row-below _ (c .before .before .before .before .before .before .before .before .before .before .before .before .before .pre .0 .new-faultless) _ _ (c .before .before .before .before .before .before .before .before .before .before .before .before .before .pre .1 .1) (c .before .before .before .before .before .before .before .before .before .before .before .before .before .pre .1 .2) (c .new-to .ensures), stepped-below _ _ (graphOf (c .before .before .before .before .before .before .before .before .before .before .before .before .before .args .marks .now) (c .before .before .before .before .before .before .before .before .before .before .before .before .before .args .targets .now) (c .before .before .before .before .before .before .before .before .before .before .before .before .before .args .sets .now)) _ _ _ 0 (c .before .before .before .before .before .before .old-of .ensures) (c .before .before .before .before .step .ensures) _ (c .before .before .before .before .before .before .before .before .before .before .before .before .before .pre .0 .old-faultless) (c .before .before .before .before .before .before .before .before .before .before .before .before .before .pre .1 .0) (ap stepTold (c .before .before .h .given .1)))
+joins-requires c κs = (c .before .before .before .before .before .before .before .before .before .before .before .before .before .pre .0 .marks-length, c .before .before .before .before .before .before .before .before .before .before .before .before .before .pre .0 .sets-length, row-below _ (c .before .before .before .before .before .before .before .before .before .before .before .before .before .pre .0 .new-faultless) _ _ (c .before .before .before .before .before .before .before .before .before .before .before .before .before .pre .1 .1 .1) (c .before .before .before .before .before .before .before .before .before .before .before .before .before .pre .1 .1 .2) (c .new-to .ensures), stepped-below _ _ (graphOf (c .before .before .before .before .before .before .before .before .before .before .before .before .before .args .marks .now) (c .before .before .before .before .before .before .before .before .before .before .before .before .before .args .targets .now) (c .before .before .before .before .before .before .before .before .before .before .before .before .before .args .sets .now)) _ _ _ 0 (c .before .before .before .before .before .before .old-of .ensures) (c .before .before .before .before .step .ensures) _ (c .before .before .before .before .before .before .before .before .before .before .before .before .before .pre .0 .old-faultless) (c .before .before .before .before .before .before .before .before .before .before .before .before .before .pre .1 .1 .0) (ap stepTold (c .before .before .h .given .1)))
 
 enum-told : tie.Need-enum-told
 enum-told c = search needs
@@ -43,8 +43,8 @@ joins-step-spec =
     tie.close
     (tie.spec
     old-of-requires
-    mul-t15
-    shared-slice-read-t17
+    mul-t16
+    shared-slice-read-t18
     step-requires
     enum-known-h
     new-to-requires
