@@ -3,5 +3,4 @@ pub mod Passed
 pub mod Demand3
 pub mod Shapes
 pub mod Targets
-pub mod Groups
 pub mod Answers

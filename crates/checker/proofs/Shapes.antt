@@ -8,10 +8,11 @@ use native.Mathlib.Decide.{ℕ-discrete, decLe, decLt}
 use native.Mathlib.Numerals.{add-one}
 use native.Mathlib.Omega.{arith}
 use borrow.Author.Tests.{eq-eqb, ne-eqb, lt-ltb, le-ltb, le-leb, lt-leb}
-use lib.Dec.{eqb, leb, ltb, leb·zero}
+use lib.Dec.{eqb, leb, ltb, leb·zero, eqb→eq}
 use lib.ListN.{getD}
 use Rattle.base.specs.Says.{every, bool, Says}
-use Rattle.base.proofs.Tests.{and-false}
+use Rattle.base.proofs.Says.{every-at}
+use Rattle.base.proofs.Tests.{and-false, T-true}
 use Rattle.chart.specs.declared.charts.Head.{Head}
 use Rattle.chart.specs.declared.places.OldPlace.{OldPlace}
 use Rattle.chart.specs.declared.places.NewPlace.{NewPlace}
@@ -96,6 +97,9 @@ module _ (marks : List ℕ) (from : ℕ) where
   pub all-blank : (n r : ℕ) → leb r 0 ≡ every n (λ j. not (eqb (getD marks (from + j) 0) 255) && leb (getD marks (from + j) 0) 0)
       → eqb r 0 ≡ every n (λ j. eqb (getD marks (from + j) 0) 0)
   all-blank n r e = sym (at-most-0 r) ∙ e ∙ all-same _ _ n (λ j l. rated-0 (getD marks (from + j) 0))
+
+  pub blank-at : (n : ℕ) {b : Bool} → b ≡ every n (λ j. eqb (getD marks (from + j) 0) 0) → b ≡ true → (j : ℕ) → j < n → getD marks (from + j) 0 ≡ 0
+  blank-at n e t j l = eqb→eq (getD marks (from + j) 0) 0 (every-at (λ j. eqb (getD marks (from + j) 0) 0) n j (T-true (sym e ∙ t)) l)
 
   -- 64 marks: the first n, and the others
   module _ (n most never : ℕ) (l : n ≤ 64) (z : 0 < never) where

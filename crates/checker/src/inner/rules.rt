@@ -1,7 +1,7 @@
 // All rules of refusal 32, in order: the start, then the targets by index.
 ghost use mathlib.Core.Path.{_≡_};
-ghost use Prim.Native.Nat.{_+_, _*_, _<_};
-ghost use lib.ListN.{length};
+ghost use Prim.Native.Nat.{ℕ, _+_, _<_, _≤_};
+ghost use lib.ListN.{length, getD};
 ghost use Rattle.base.specs.Options.{missing, firstOf};
 ghost use Rattle.base.specs.Says.{bool};
 ghost use Rattle.chart.specs.Charts.{charted, leaving};
@@ -182,45 +182,18 @@ fn pair_fault<'a>(
     )
 }
 
-// The lowest target index at fault among the 16 pairs of group g. Where all are absent, as in most groups of most records, none is asked.
-fn group_fault<'a>(
-    old: Head,
-    old_rows: &'a [u32],
-    new: Head,
-    new_rows: &'a [u32],
-    index: &[u8],
-    marks: &[u8],
-    targets: &[u16],
-    sets: &[u64],
-    g: usize,
-) -> Checked
-    requires { ⌜ Admitted (charted old (now «old_rows»)) (charted new (now «new_rows»)) (graphOf (now marks) (now targets) (now sets)) ⌝ }
-    requires { ⌜ Indexed (now «old_rows») (now «new_rows») (now index) ⌝ }
-    requires { ⌜ g < 256 ⌝ }
-    ensures { λ r. ⌜ told r ≡ firstOf 16 (λ j. pairFault (charted old (now («old_rows» .entry))) (charted new (now («new_rows» .entry))) (graphOf (now (marks .entry)) (now (targets .entry)) (now (sets .entry))) (16 * g + j)) ⌝ }
+// How far the walk over the pairs goes on from pair m: 16 where a group of 16 is absent, as most are in most records, else 1.
+fn stride(marks: &[u8], m: usize) -> usize
+    requires { ⌜ (m < 4096) × (length (now marks) ≡ 4160) ⌝ }
+    ensures { λ r. ⌜ (0 < r) × (m + r ≤ 4096) × ((j : ℕ) → 0 < j → j < r → getD (now (marks .entry)) (m + j) 0 ≡ 0) ⌝ }
 {
-    if blank(marks, 16 * g, 16) {
-        return Checked::Passed;
+    if m % 16 != 0 {
+        return 1;
     }
-    let mut j = 0;
-    while j < 16 {
-        let f = pair_fault(
-            old,
-            old_rows,
-            new,
-            new_rows,
-            index,
-            marks,
-            targets,
-            sets,
-            16 * g + j,
-        );
-        if !is_passed(f) {
-            return f;
-        }
-        j += 1;
+    if blank(marks, m, 16) {
+        return 16;
     }
-    Checked::Passed
+    1
 }
 
 // The lowest target index at fault.
@@ -238,13 +211,13 @@ fn first_fault<'a>(
     requires { ⌜ Indexed (now «old_rows») (now «new_rows») (now index) ⌝ }
     ensures { λ r. ⌜ told r ≡ firstOf 4096 (pairFault (charted old (now («old_rows» .entry))) (charted new (now («new_rows» .entry))) (graphOf (now (marks .entry)) (now (targets .entry)) (now (sets .entry)))) ⌝ }
 {
-    let mut g = 0;
-    while g < 256 {
-        let f = group_fault(old, old_rows, new, new_rows, index, marks, targets, sets, g);
+    let mut m = 0;
+    while m < 4096 {
+        let f = pair_fault(old, old_rows, new, new_rows, index, marks, targets, sets, m);
         if !is_passed(f) {
             return f;
         }
-        g += 1;
+        m += stride(marks, m);
     }
     Checked::Passed
 }
