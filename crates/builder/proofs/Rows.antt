@@ -1,15 +1,18 @@
 -- The row of a pair in hand, in the form in which the code meets it. Assumes nothing.
 use mathlib.Core.Path.{_≡_, refl, sym, ap, subst, _∙_}
 use mathlib.Core.Bool.{Bool, true, false, not}
+use mathlib.Core.Logic.{dite}
 use mathlib.Core.List.{List}
 use mathlib.Core.Option.{none, some}
 use Prim.Native.Nat.{ℕ, zero, suc, min, _+_, _*_, _/_, _%_, _^_, _≤_, _<_}
 use native.Mathlib.Numerals.{add-one}
+use native.Mathlib.Decide.{decLt}
 use native.Mathlib.Omega.{arith}
 use borrow.Author.Tests.{lt-ltb, le-ltb, eq-eqb, ne-eqb}
 use lib.Dec.{eqb}
 use lib.ListN.{length, getD, set, drop}
 use Rattle.base.specs.Walks.{firstFrom}
+use Rattle.base.specs.Scan.{Next}
 use Rattle.base.proofs.Walks.{skip-at, stop-at, end-at}
 use Rattle.chart.specs.declared.operations.Operation.{Operation}
 use Rattle.chart.specs.declared.places.OldPlace.{OldPlace}
@@ -88,32 +91,24 @@ unfolding taken unwait
 turn-is old new m t s w n a b c =
     c ∙ (λ i. secondDone old new (b i) n (getD s n 0)) ∙ (λ i. secondDone old new (rowDone old new (graph m t s (a i)) n (getD s n 0) 0) n (getD s n 0))
 
--- ---- the loop that looks for the lowest waiting pair
-pub record Scanned (w : List ℕ) (i : ℕ) : Type 0 where
-  pub most : i ≤ length w
-  pub same : lowest w ≡ firstFrom (λ k x. not (eqb x 0)) i (drop i w)
-
+-- ---- the look for the lowest waiting pair
 module _ (w : List ℕ) where
-  pub scan-start : Scanned w 0
-  unfolding lowest
-  scan-start = record { most = omega arith; same = refl }
-
   -- none waits below where the look begins
-  pub scan-from : (from : ℕ) → from ≤ length w → ((i : ℕ) → i < from → getD w i 0 ≡ 0) → Scanned w from
-  scan-from zero l h = scan-start
-  scan-from (suc k) l h =
-      let S = scan-from k (omega arith) (λ i b. h i (omega arith)) in
-      record { most = l; same = S .same ∙ skip-at (λ k x. not (eqb x 0)) w k (omega arith) (rw (eq-eqb (getD w k 0) 0 (h k (omega arith)))) ∙ rw (add-one k) refl }
+  look-from : (from : ℕ) → from ≤ length w → ((i : ℕ) → i < from → getD w i 0 ≡ 0) → lowest w ≡ firstFrom (λ k x. not (eqb x 0)) from (drop from w)
+  unfolding lowest
+  look-from zero l h = refl
+  look-from (suc k) l h =
+      look-from k (omega arith) (λ i b. h i (omega arith)) ∙ skip-at (λ k x. not (eqb x 0)) w k (omega arith) (rw (eq-eqb (getD w k 0) 0 (h k (omega arith)))) ∙ rw (add-one k) refl
 
-  module _ (i : ℕ) (S : Scanned w i) where
-    pub scan-skip : i < length w → getD w i 0 ≡ 0 → Scanned w (i + 1)
-    scan-skip l e = record { most = omega arith; same = S .same ∙ skip-at (λ k x. not (eqb x 0)) w i l (rw (eq-eqb (getD w i 0) 0 e)) }
+  module _ (from : ℕ) {i : ℕ} (h : (k : ℕ) → k < from → getD w k 0 ≡ 0) (N : Next w from (length w) i) where
+    looked : lowest w ≡ firstFrom (λ k x. not (eqb x 0)) i (drop i w)
+    looked = look-from i (N .most) (λ k b. dite (decLt k from) (λ c. h k c) (λ c. N .blank k (omega arith) b))
 
-    pub scan-here : i < length w → (getD w i 0 ≡ 0 → ⊥) → some i ≡ lowest w
-    scan-here l e = sym (S .same ∙ stop-at (λ k x. not (eqb x 0)) w i l (rw (ne-eqb (getD w i 0) 0 e)))
+    pub look-here : i < length w → some i ≡ lowest w
+    look-here l = sym (looked ∙ stop-at (λ k x. not (eqb x 0)) w i l (rw (ne-eqb (getD w i 0) 0 (N .here l))))
 
-    pub scan-end : length w ≤ i → none ≡ lowest w
-    scan-end l = sym (S .same ∙ end-at (λ k x. not (eqb x 0)) w i l)
+    pub look-end : length w ≤ i → none ≡ lowest w
+    look-end l = sym (looked ∙ end-at (λ k x. not (eqb x 0)) w i l)
 
 -- ---- where to look on
 module _ (m t : List ℕ) (n : ℕ) {q : NewPlace} {k : ℕ} {b : Bool} (a : q ≡ newOf n) (e : k ≡ keptNumber q) (d : b ≡ marked m k) where

@@ -15,6 +15,7 @@ use align::inner::step::step;
 use align::spots::Aligned;
 use align::spots::Found;
 use align::spots::Spot;
+use base::scan::next;
 use chart::charts::Head;
 use chart::inner::pairs::kept;
 use chart::inner::pairs::new_of;
@@ -30,12 +31,9 @@ pub fn lowest(waiting: &[u8], from: usize) -> Found
     requires { ⌜ (from ≤ length (now waiting)) × ((i : ℕ) → i < from → getD (now waiting) i 0 ≡ 0) ⌝ }
     ensures { λ r. ⌜ toldFound r ≡ lowest (now (waiting .entry)) ⌝ }
 {
-    let mut i = from;
-    while i < waiting.len() {
-        if waiting[i] != 0 {
-            return Found::At(i);
-        }
-        i += 1;
+    let i = next(waiting, from, waiting.len());
+    if i < waiting.len() {
+        return Found::At(i);
     }
     Found::Nothing
 }
