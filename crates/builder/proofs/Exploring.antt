@@ -75,16 +75,16 @@ module _ (old new : Chart) {g : Graph} {from : ℕ} (B : Building old new g from
     pub build-less : {n : ℕ} {h : Graph} → f ≡ founds.At n → h ≡ taken old new g n → weight h < weight g
     build-less a q = less-by next (taken old new) weight Shaped (turns old new (B .old-faultless) (B .new-faultless)) (B .going .good) (found a) q
 
-    pub build-turn : {n r : ℕ} {h : Graph} → f ≡ founds.At n → h ≡ taken old new g n → r ≡ lowAfter (h .marks) (h .targets) n → Building old new h r
+    pub build-turn : {n r : ℕ} {h : Graph} → f ≡ founds.At n → h ≡ taken old new g n → r ≡ lowAfter (h .marks) (h .targets) (h .waiting) n → Building old new h r
     build-turn {n} {r} {h} a q z =
-        let w = z ∙ (λ i. lowAfter (q i .marks) (q i .targets) n) in
+        let w = z ∙ (λ i. lowAfter (q i .marks) (q i .targets) (q i .waiting) n) in
         let l = build-below a in
         record {
           old-faultless = B .old-faultless;
           new-faultless = B .new-faultless;
           going = again-by next (taken old new) weight Shaped (turns old new (B .old-faultless) (B .new-faultless)) (B .going) (found a) q;
           inv = rw q (turn-inv old new (B .old-faultless) (B .new-faultless) g n (B .inv) (found a));
-          near = omega (arith, w, low-most n l (taken old new g n .marks) (taken old new g n .targets));
+          near = omega (arith, w, low-most n l (taken old new g n .marks) (taken old new g n .targets) (taken old new g n .waiting));
           quiet = λ i b. (λ j. waitAt (q j) i) ∙ quiet-after n l old new (B .old-faultless) (B .new-faultless) g (B .inv) (found a) i (subst (λ (x : ℕ). i < x) w b);
         }
 

@@ -1,4 +1,4 @@
--- After a turn no pair waits below the pair that was taken and the targets of its rows. Assumes nothing.
+-- After a turn no pair waits below the pair that was taken and those targets of its rows that wait. Assumes nothing.
 use mathlib.Core.Path.{_≡_, sym, ap, _∙_}
 use mathlib.Core.Logic.{_⊎_, inl, inr, ⊎-elim, dite}
 use mathlib.Core.List.{List}
@@ -14,10 +14,11 @@ use Rattle.chart.specs.Faultless.{FaultlessChart}
 use Rattle.chart.specs.Places.{pairNumber, keptNumber, newOf}
 use Rattle.checker.specs.Records.{index}
 use Rattle.builder.specs.Graphs.{Graph, Sized, keep, aim, join, unwait}
-use Rattle.builder.specs.Turns.{rowsOf, leadsTo, next, setNow, rowDone, secondDone, taken, lowAfter}
+use Rattle.builder.specs.Turns.{rowsOf, leadsTo, next, setNow, rowDone, secondDone, taken, lowOf, lowAfter}
 use Rattle.builder.proofs.Steps.{Fits}
 use Rattle.builder.proofs.Graphs.{markAt, setAt, waitAt, targetAt, Shaped, marked-yes, marked-no, keep-node, keep-nodes, keep-wait, keep-mark-other, keep-wait-other, keep-target-other, aimed, by-aim, join-mark, join-mark-other, join-wait-other, join-target, keep-shaped, join-shaped, unwait-shaped}
 use Rattle.builder.proofs.Turns.{by-row, set-now-small, leads-below, step-of-fits, Lowest, next-lowest}
+use Rattle.builder.proofs.Rows.{low-waits, low-of-most}
 use Rattle.builder.proofs.Measure.{row-lighter}
 use Rattle.builder.proofs.Invariant.{Inv, Every}
 
@@ -101,27 +102,37 @@ module _ (n : ℕ) where
     unfolding unwait
     begun-quiet g p h = record { held = inl p; below = λ i b. inl (getD-set-other (g .waiting) n i 0 0 (λ e. omega arith) ∙ h i b) }
 
-    low-kept : (m t : List ℕ) → 0 < getD m (keptNumber (newOf n)) 0 → lowAfter m t n ≡ 0
-    unfolding lowAfter
-    low-kept m t p = rw (marked-yes m (keptNumber (newOf n)) p, lowAfter)
+    module _ (m t w : List ℕ) where
+      low-kept : 0 < getD m (keptNumber (newOf n)) 0 → lowAfter m t w n ≡ 0
+      unfolding lowAfter
+      low-kept p = rw (marked-yes m (keptNumber (newOf n)) p, lowAfter)
 
-    low-else : (m t : List ℕ) → getD m (keptNumber (newOf n)) 0 ≡ 0 → lowAfter m t n ≡ min n (min (getD t (index n 0) 0) (getD t (index n 1) 0))
-    unfolding lowAfter
-    low-else m t e = rw (marked-no m (keptNumber (newOf n)) e, lowAfter)
+      low-else : getD m (keptNumber (newOf n)) 0 ≡ 0 → lowAfter m t w n ≡ min (lowOf w n (getD t (index n 0) 0)) (lowOf w n (getD t (index n 1) 0))
+      unfolding lowAfter
+      low-else e = rw (marked-no m (keptNumber (newOf n)) e, lowAfter)
 
-    pub low-most : (m t : List ℕ) → lowAfter m t n ≤ n
-    low-most m t = dite (ℕ-discrete (getD m (keptNumber (newOf n)) 0) 0) (λ e. omega (arith, low-else m t e)) (λ e. omega (arith, low-kept m t (omega arith)))
+      pub low-most : lowAfter m t w n ≤ n
+      low-most =
+          dite (ℕ-discrete (getD m (keptNumber (newOf n)) 0) 0)
+          (λ e. omega (arith, low-else e, low-of-most w n (getD t (index n 0) 0)))
+          (λ e. omega (arith, low-kept (omega arith)))
 
-    low-waits : (g : Graph) → Quiet g 2 → (i : ℕ) → i < lowAfter (g .marks) (g .targets) n → waitAt g i ≡ 0
-    low-waits g Q i b =
-        dite (ℕ-discrete (getD (g .marks) (keptNumber (newOf n)) 0) 0)
-        (λ e. let z = low-else (g .marks) (g .targets) e in ⊎-elim (λ x. x) (λ x. ⊎-elim (λ k. absurd (omega arith)) (λ a. absurd (aims z a)) x) (Q .below i (omega arith)))
-        (λ e. absurd (omega (arith, low-kept (g .marks) (g .targets) (omega arith))))
-      where
-        aims : lowAfter (g .marks) (g .targets) n ≡ min n (min (targetAt g n 0) (targetAt g n 1)) → Aimed g 2 i → ⊥
-        aims z (zero, a, e) = omega arith
-        aims z (suc zero, a, e) = omega arith
-        aims z (suc (suc k), a, e) = omega arith
+    module _ (g : Graph) (i : ℕ) (b : i < lowAfter (g .marks) (g .targets) (g .waiting) n) where
+      inside : i < n
+      inside = omega (arith, low-most (g .marks) (g .targets) (g .waiting))
+
+      -- a target that waits is not passed over
+      aimed-rests : getD (g .marks) (keptNumber (newOf n)) 0 ≡ 0 → Aimed g 2 i → (waitAt g i ≡ 0 → ⊥) → ⊥
+      aimed-rests k (zero, a, e) f = omega (arith, low-else (g .marks) (g .targets) (g .waiting) k, low-waits (g .waiting) n (targetAt g n 0) (sym e) inside f)
+      aimed-rests k (suc zero, a, e) f = omega (arith, low-else (g .marks) (g .targets) (g .waiting) k, low-waits (g .waiting) n (targetAt g n 1) (sym e) inside f)
+      aimed-rests k (suc (suc j), a, e) f = omega arith
+
+      low-quiet : Quiet g 2 → waitAt g i ≡ 0
+      low-quiet Q =
+          dite (ℕ-discrete (waitAt g i) 0) (λ x. x)
+          (λ f. dite (ℕ-discrete (getD (g .marks) (keptNumber (newOf n)) 0) 0)
+          (λ k. ⊎-elim (λ x. x) (λ x. ⊎-elim (λ p. absurd (omega arith)) (λ a. absurd (aimed-rests k a f)) x) (Q .below i inside))
+          (λ k. absurd (omega (arith, low-kept (g .marks) (g .targets) (g .waiting) (omega arith)))))
 
     module _ (old new : Chart) (F : FaultlessChart old) (H : FaultlessChart new) where
       row-quiet : (g : Graph) (v r : ℕ) → Shaped g → v < 2 ^ 64 → r < 2 → Quiet g r → Quiet (rowDone old new g n v r) (suc r)
@@ -158,5 +169,6 @@ module _ (n : ℕ) where
           begins L = begun-quiet g (I .waiters n l (L .waits)) (L .none-lower)
 
       -- no pair below the number at which to look on waits
-      pub quiet-after : (g : Graph) → Inv old new Every g → next g ≡ some n → (i : ℕ) → i < lowAfter (taken old new g n .marks) (taken old new g n .targets) n → waitAt (taken old new g n) i ≡ 0
-      quiet-after g I e i b = low-waits (taken old new g n) (turn-quiet g I e) i b
+      pub quiet-after : (g : Graph) → Inv old new Every g → next g ≡ some n
+          → (i : ℕ) → i < lowAfter (taken old new g n .marks) (taken old new g n .targets) (taken old new g n .waiting) n → waitAt (taken old new g n) i ≡ 0
+      quiet-after g I e i b = low-quiet (taken old new g n) i b (turn-quiet g I e)

@@ -6,7 +6,7 @@ use mathlib.Core.List.{List}
 use mathlib.Core.Option.{none, some}
 use Prim.Native.Nat.{ℕ, zero, suc, min, _+_, _*_, _/_, _%_, _^_, _≤_, _<_}
 use native.Mathlib.Numerals.{add-one}
-use native.Mathlib.Decide.{decLt}
+use native.Mathlib.Decide.{ℕ-discrete, decLt}
 use native.Mathlib.Omega.{arith}
 use borrow.Author.Tests.{lt-ltb, le-ltb, eq-eqb, ne-eqb}
 use lib.Dec.{eqb}
@@ -27,7 +27,7 @@ use Rattle.align.specs.declared.spots.Aligned.{Aligned}
 use Rattle.align.specs.Steps.{told, step}
 use Rattle.align.proofs.Parts.{row-of, row-same}
 use Rattle.builder.specs.Graphs.{Graph, graph, marked, unwait}
-use Rattle.builder.specs.Turns.{rowsOf, leadsTo, lowest, lowAfter, setNow, stepOf, processed, rowDone, secondDone, taken}
+use Rattle.builder.specs.Turns.{rowsOf, leadsTo, lowest, lowOf, lowAfter, setNow, stepOf, processed, rowDone, secondDone, taken}
 use Rattle.builder.proofs.Graphs.{marked-yes, marked-no}
 use Rattle.builder.proofs.Steps.{row-to}
 use Rattle.builder.proofs.Turns.{step-of-fits}
@@ -111,14 +111,36 @@ module _ (w : List ℕ) where
     look-end l = sym (looked ∙ end-at (λ k x. not (eqb x 0)) w i l)
 
 -- ---- where to look on
-module _ (m t : List ℕ) (n : ℕ) {q : NewPlace} {k : ℕ} {b : Bool} (a : q ≡ newOf n) (e : k ≡ keptNumber q) (d : b ≡ marked m k) where
+module _ (w : List ℕ) (n t : ℕ) where
+  module _ {at : ℕ} (a : at ≡ t) where
+    pub low-past : n ≤ at → n ≡ lowOf w n t
+    unfolding lowOf
+    low-past l = rw (le-ltb t n (omega arith), lowOf)
+
+    pub low-rests : at < n → getD w at 0 ≡ 0 → n ≡ lowOf w n t
+    unfolding lowOf
+    low-rests l e = rw (lt-ltb t n (omega arith), marked-no w t (subst (λ (x : ℕ). getD w x 0 ≡ 0) a e), lowOf)
+
+    pub low-waits : at < n → (getD w at 0 ≡ 0 → ⊥) → at ≡ lowOf w n t
+    unfolding lowOf
+    low-waits l e =
+        let f : getD w t 0 ≡ 0 → ⊥ = subst (λ (x : ℕ). getD w x 0 ≡ 0 → ⊥) a e in
+        a ∙ rw (lt-ltb t n (omega arith), marked-yes w t (omega arith), lowOf)
+
+  pub low-of-most : lowOf w n t ≤ n
+  low-of-most =
+      dite (decLt t n)
+      (λ l. dite (ℕ-discrete (getD w t 0) 0) (λ e. omega (arith, low-rests refl l e)) (λ e. omega (arith, low-waits refl l e)))
+      (λ l. omega (arith, low-past refl (omega arith)))
+
+module _ (m t w : List ℕ) (n : ℕ) {q : NewPlace} {k : ℕ} {b : Bool} (a : q ≡ newOf n) (e : k ≡ keptNumber q) (d : b ≡ marked m k) where
   kept-told : marked m (keptNumber (newOf n)) ≡ b
   kept-told = sym (d ∙ ap (marked m) (e ∙ ap (λ (x : NewPlace). keptNumber x) a))
 
-  pub low-at-kept : b ≡ true → 0 ≡ lowAfter m t n
+  pub low-at-kept : b ≡ true → 0 ≡ lowAfter m t w n
   unfolding lowAfter
   low-at-kept h = rw (kept-told ∙ h, lowAfter)
 
-  pub low-at-targets : {u v x y : ℕ} → b ≡ false → u ≡ getD t (2 * n) 0 → v ≡ getD t (2 * n + 1) 0 → x ≡ min u v → y ≡ min n x → y ≡ lowAfter m t n
+  pub low-at-targets : {u v x : ℕ} → b ≡ false → u ≡ lowOf w n (getD t (2 * n) 0) → v ≡ lowOf w n (getD t (2 * n + 1) 0) → x ≡ min u v → x ≡ lowAfter m t w n
   unfolding lowAfter
-  low-at-targets h p q u v = let z : index n 0 ≡ 2 * n = omega arith in v ∙ ap (min n) (u ∙ (λ i. min (p i) (q i))) ∙ rw (kept-told ∙ h, lowAfter) (rw z)
+  low-at-targets h p q u = let z : index n 0 ≡ 2 * n = omega arith in u ∙ (λ i. min (p i) (q i)) ∙ rw (kept-told ∙ h, lowAfter) (rw z)

@@ -1,5 +1,5 @@
 -- Algorithm 2 ("The builder"): begin, take the lowest waiting pair and its rows, until none waits.
-use mathlib.Core.Bool.{true, false, not}
+use mathlib.Core.Bool.{true, false, _&&_, not}
 use mathlib.Core.List.{List}
 use mathlib.Core.Option.{Option, none, some}
 use Prim.Native.Nat.{ℕ, _^_, min}
@@ -29,10 +29,18 @@ lowest w = firstFrom (λ i x. not (eqb x 0)) 0 w
 unfoldable pub next : Graph → Option ℕ
 next g = lowest (g .waiting)
 
+-- pair t, where it waits and comes before n; else n
+unfoldable pub lowOf : List ℕ → ℕ → ℕ → ℕ
+lowOf w n t = elim (ltb t n && marked w t) [ true ↦ t | false ↦ n ]
+
 -- where to look on after the turn of pair n: no pair below this number waits, which is proved. Where n's place is kept, at 0; else at the
--- lowest of n and the targets of its rows
-unfoldable pub lowAfter : List ℕ → List ℕ → ℕ → ℕ
-lowAfter m t n = elim (marked m (keptNumber (newOf n))) [ true ↦ 0 | false ↦ min n (min (getD t (index n 0) 0) (getD t (index n 1) 0)) ]
+-- lowest of n and those targets of its rows that wait
+unfoldable pub lowAfter : List ℕ → List ℕ → List ℕ → ℕ → ℕ
+lowAfter m t w n =
+    elim (marked m (keptNumber (newOf n))) [
+      | true ↦ 0
+      | false ↦ min (lowOf w n (getD t (index n 0) 0)) (lowOf w n (getD t (index n 1) 0))
+    ]
 
 -- "reading its set afresh for each": its own set; "Rows of the pair in hand are finished, under the set it had, even if it left the graph."
 unfoldable pub setNow : List ℕ → List ℕ → ℕ → ℕ → ℕ

@@ -80,7 +80,7 @@ pub fn explore<'a>(
                     waiting,
                     n,
                 );
-                from = turns::low_after(&*marks, &*targets, n);
+                from = turns::low_after(&*marks, &*targets, &*waiting, n);
             }
             Found::Nothing => {
                 return;

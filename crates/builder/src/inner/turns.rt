@@ -8,7 +8,7 @@ ghost use Rattle.chart.specs.Faultless.{FaultlessChart};
 ghost use Rattle.align.specs.declared.spots.Spot.{Spot};
 ghost use Rattle.align.specs.Steps.{told, toldFound};
 ghost use Rattle.builder.specs.Graphs.{graph, Sized};
-ghost use Rattle.builder.specs.Turns.{lowest, lowAfter, setNow, arrived, processed, rowDone, secondDone, taken};
+ghost use Rattle.builder.specs.Turns.{lowest, lowOf, lowAfter, setNow, arrived, processed, rowDone, secondDone, taken};
 use crate::inner::buffers;
 use crate::inner::graphs;
 use align::inner::step::step;
@@ -53,16 +53,34 @@ fn lower(a: usize, b: usize) -> usize
     b
 }
 
+// Pair t, where it waits and comes before n; else n.
+fn low_of(waiting: &[u8], n: usize, t: u16) -> usize
+    requires { ⌜ n ≤ length (now waiting) ⌝ }
+    ensures { λ r. ⌜ r ≡ lowOf (now (waiting .entry)) n t ⌝ }
+{
+    let at = wide(t);
+    if n <= at {
+        return n;
+    }
+    if waiting[at] == 0 {
+        return n;
+    }
+    at
+}
+
 // Where to look on after the turn of pair n: no pair below waits.
-pub fn low_after(marks: &[u8], targets: &[u16], n: usize) -> usize
-    requires { ⌜ (n < 4096) × (length (now marks) ≡ 4160) × (length (now targets) ≡ 8192) ⌝ }
-    ensures { λ r. ⌜ r ≡ lowAfter (now (marks .entry)) (now (targets .entry)) n ⌝ }
+pub fn low_after(marks: &[u8], targets: &[u16], waiting: &[u8], n: usize) -> usize
+    requires { ⌜ (n < 4096) × (length (now marks) ≡ 4160) × (length (now targets) ≡ 8192) × (length (now waiting) ≡ 4096) ⌝ }
+    ensures { λ r. ⌜ r ≡ lowAfter (now (marks .entry)) (now (targets .entry)) (now (waiting .entry)) n ⌝ }
 {
     if graphs::is_marked(marks, kept(new_of(n))) {
         return 0;
     }
     let at = 2 * n;
-    lower(n, lower(wide(targets[at]), wide(targets[at + 1])))
+    lower(
+        low_of(waiting, n, targets[at]),
+        low_of(waiting, n, targets[at + 1]),
+    )
 }
 
 // Row r of pair n leads to new place q by a step that came to h.

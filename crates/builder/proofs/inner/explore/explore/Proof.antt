@@ -31,7 +31,7 @@ turn-requires : tie.Need-turn-requires Inv-loop μ-loop
 turn-requires c κs = ((c .before .before .before .before .before .before .before .before .before .before .before .before .before .before .before .before .before .before .before .before .before .before .before .before .before .before .before .before .before .pre .0), ((c .before .before .before .before .before .before .before .before .before .before .before .before .before .before .before .before .before .before .before .before .before .before .before .before .before .before .before .before .before .pre .1 .0), (build-below _ _ (c .before .before .before .before .before .before .before .before .before .loop .inv) (c .before .before .before .before .before .before .before .lowest .ensures) (c .before .before .before .before .before .n .given .1), build-sized _ _ (c .before .before .before .before .before .before .before .before .before .loop .inv))))
 
 low-after-requires : tie.Need-low-after-requires Inv-loop μ-loop
-low-after-requires c κs = let B = (c .before .before .before .before .before .before .before .before .before .before .before .before .before .before .before .before .before .before .before .before .loop .inv) in (build-below _ _ (c .before .before .before .before .before .before .before .before .before .before .before .before .before .before .before .before .before .before .before .before .loop .inv) (c .before .before .before .before .before .before .before .before .before .before .before .before .before .before .before .before .before .before .lowest .ensures) (c .before .before .before .before .before .before .before .before .before .before .before .before .before .before .before .before .n .given .1), search (needs, build-sized _ _ B), search (needs, build-sized _ _ B))
+low-after-requires c κs = let S = build-sized _ _ (c .before .before .before .before .before .before .before .before .before .before .before .before .before .before .before .before .before .before .before .before .before .loop .inv) in (search build-below, search (needs, S), search (needs, S), search (needs, S))
 
 loop-less : tie.Need-loop-less Inv-loop μ-loop
 loop-less c = search build-less

@@ -22,32 +22,29 @@ returns c = search low-at-kept
 mul-at : tie.Need-mul-at
 mul-at c = search needs
 
-mul-wide : tie.Need-mul-wide
-mul-wide c = search needs
+mul-low-of : tie.Need-mul-low-of
+mul-low-of c = search needs
 
-shared-slice-read-wide : tie.Need-shared-slice-read-wide
-shared-slice-read-wide c = search needs
+shared-slice-read-low-of : tie.Need-shared-slice-read-low-of
+shared-slice-read-low-of c = search needs
 
-wide-requires : tie.Need-wide-requires
-wide-requires c κs = search needs
+low-of-requires : tie.Need-low-of-requires
+low-of-requires c κs = search needs
 
-add-wide : tie.Need-add-wide
-add-wide c = search needs
+add-low-of : tie.Need-add-low-of
+add-low-of c = search needs
 
-mul-wide-2 : tie.Need-mul-wide-2
-mul-wide-2 c = search needs
+mul-low-of-2 : tie.Need-mul-low-of-2
+mul-low-of-2 c = search needs
 
-shared-slice-read-wide-2 : tie.Need-shared-slice-read-wide-2
-shared-slice-read-wide-2 c = search needs
+shared-slice-read-low-of-2 : tie.Need-shared-slice-read-low-of-2
+shared-slice-read-low-of-2 c = search needs
 
-wide-requires-2 : tie.Need-wide-requires-2
-wide-requires-2 c κs = search needs
+low-of-requires-2 : tie.Need-low-of-requires-2
+low-of-requires-2 c κs = search needs
 
 lower-requires : tie.Need-lower-requires
 lower-requires c κs = search needs
-
-lower-requires-2 : tie.Need-lower-requires-2
-lower-requires-2 c κs = search needs
 
 returns-2 : tie.Need-returns-2
 returns-2 c = search low-at-targets
@@ -61,13 +58,12 @@ low-after-spec =
     is-marked-requires
     returns
     mul-at
-    mul-wide
-    shared-slice-read-wide
-    wide-requires
-    add-wide
-    mul-wide-2
-    shared-slice-read-wide-2
-    wide-requires-2
+    mul-low-of
+    shared-slice-read-low-of
+    low-of-requires
+    add-low-of
+    mul-low-of-2
+    shared-slice-read-low-of-2
+    low-of-requires-2
     lower-requires
-    lower-requires-2
     returns-2)
