@@ -19,6 +19,7 @@ use answers::Verdict;
 use chart::charts::Head;
 use chart::charts::Judged;
 use chart::inner::faults::fault;
+use chart::inner::rows;
 use inner::explore::explore;
 use inner::finish::count;
 use inner::finish::finish;
@@ -155,7 +156,18 @@ pub fn build<'a>(
         &*waiting,
     ) {
         Verdict::Sound => {
-            explore(old, old_rows, new, new_rows, marks, targets, sets, waiting);
+            let index = rows::index(old_rows, new_rows);
+            explore(
+                old,
+                old_rows,
+                new,
+                new_rows,
+                &index,
+                marks,
+                targets,
+                sets,
+                waiting,
+            );
             let start = finish(old, new, marks, targets, sets, waiting);
             Built::Done(summary(start, &*marks))
         }

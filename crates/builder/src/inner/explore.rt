@@ -4,6 +4,7 @@ ghost use mathlib.Core.List.{List};
 ghost use Prim.Native.Nat.{ℕ};
 ghost use Rattle.chart.specs.Charts.{charted};
 ghost use Rattle.chart.specs.Faultless.{FaultlessChart};
+ghost use Rattle.chart.specs.Lookup.{Indexed};
 ghost use Rattle.checker.specs.Rules.{startPair, startKept};
 ghost use Rattle.builder.specs.Graphs.{graph, Sized};
 ghost use Rattle.builder.specs.Turns.{begun, explored};
@@ -53,6 +54,7 @@ pub fn explore<'a>(
     old_rows: &'a [u32],
     new: Head,
     new_rows: &'a [u32],
+    index: &[u8; 130],
     marks: &mut [u8],
     targets: &mut [u16],
     sets: &mut [u64],
@@ -60,6 +62,7 @@ pub fn explore<'a>(
 )
     requires { ⌜ FaultlessChart (charted old (now «old_rows»)) ⌝ }
     requires { ⌜ FaultlessChart (charted new (now «new_rows»)) ⌝ }
+    requires { ⌜ Indexed (now «old_rows») (now «new_rows») (now index) ⌝ }
     requires { ⌜ Sized (graph (now marks) (now targets) (now sets) (now waiting)) ⌝ }
     ensures { λ _. ⌜ graph (now (marks .exit)) (now (targets .exit)) (now (sets .exit)) (now (waiting .exit))
         ≡ explored (charted old (now («old_rows» .entry))) (charted new (now («new_rows» .entry))) ⌝ }
@@ -74,6 +77,7 @@ pub fn explore<'a>(
                     old_rows,
                     new,
                     new_rows,
+                    index,
                     marks,
                     targets,
                     sets,

@@ -5,6 +5,7 @@ ghost use Prim.Native.Nat.{ℕ, _<_, _≤_, min};
 ghost use lib.ListN.{length, getD};
 ghost use Rattle.chart.specs.Charts.{charted};
 ghost use Rattle.chart.specs.Faultless.{FaultlessChart};
+ghost use Rattle.chart.specs.Lookup.{Indexed};
 ghost use Rattle.align.specs.declared.spots.Spot.{Spot};
 ghost use Rattle.align.specs.Steps.{told, toldFound};
 ghost use Rattle.builder.specs.Graphs.{graph, Sized};
@@ -145,6 +146,7 @@ fn row<'a>(
     old_rows: &'a [u32],
     new: Head,
     new_rows: &'a [u32],
+    index: &[u8; 130],
     marks: &mut [u8],
     targets: &mut [u16],
     sets: &mut [u64],
@@ -155,18 +157,19 @@ fn row<'a>(
 )
     requires { ⌜ FaultlessChart (charted old (now «old_rows»)) ⌝ }
     requires { ⌜ FaultlessChart (charted new (now «new_rows»)) ⌝ }
+    requires { ⌜ Indexed (now «old_rows») (now «new_rows») (now index) ⌝ }
     requires { ⌜ (n < 4096) × (r < 2) ⌝ }
     requires { ⌜ Sized (graph (now marks) (now targets) (now sets) (now waiting)) ⌝ }
     ensures { λ _. ⌜ graph (now (marks .exit)) (now (targets .exit)) (now (sets .exit)) (now (waiting .exit))
         ≡ rowDone (charted old (now («old_rows» .entry))) (charted new (now («new_rows» .entry))) (graph (now (marks .entry)) (now (targets .entry)) (now (sets .entry)) (now (waiting .entry))) n v r ⌝ }
 {
-    let part = rows_of(old_rows, new_rows, Place::New(new_of(n)));
+    let part = rows_of(old_rows, new_rows, index, Place::New(new_of(n)));
     if r < part.len() / 6 {
         let from = Spot {
             place: old_of(n),
             set: v,
         };
-        let came = step(old, old_rows, new, new_rows, from, part, r);
+        let came = step(old, old_rows, new, new_rows, index, from, part, r);
         process(
             old,
             marks,
@@ -198,6 +201,7 @@ fn second_row<'a>(
     old_rows: &'a [u32],
     new: Head,
     new_rows: &'a [u32],
+    index: &[u8; 130],
     marks: &mut [u8],
     targets: &mut [u16],
     sets: &mut [u64],
@@ -207,6 +211,7 @@ fn second_row<'a>(
 )
     requires { ⌜ FaultlessChart (charted old (now «old_rows»)) ⌝ }
     requires { ⌜ FaultlessChart (charted new (now «new_rows»)) ⌝ }
+    requires { ⌜ Indexed (now «old_rows») (now «new_rows») (now index) ⌝ }
     requires { ⌜ n < 4096 ⌝ }
     requires { ⌜ Sized (graph (now marks) (now targets) (now sets) (now waiting)) ⌝ }
     ensures { λ _. ⌜ graph (now (marks .exit)) (now (targets .exit)) (now (sets .exit)) (now (waiting .exit))
@@ -218,6 +223,7 @@ fn second_row<'a>(
         old_rows,
         new,
         new_rows,
+        index,
         marks,
         targets,
         sets,
@@ -234,6 +240,7 @@ pub fn turn<'a>(
     old_rows: &'a [u32],
     new: Head,
     new_rows: &'a [u32],
+    index: &[u8; 130],
     marks: &mut [u8],
     targets: &mut [u16],
     sets: &mut [u64],
@@ -242,6 +249,7 @@ pub fn turn<'a>(
 )
     requires { ⌜ FaultlessChart (charted old (now «old_rows»)) ⌝ }
     requires { ⌜ FaultlessChart (charted new (now «new_rows»)) ⌝ }
+    requires { ⌜ Indexed (now «old_rows») (now «new_rows») (now index) ⌝ }
     requires { ⌜ n < 4096 ⌝ }
     requires { ⌜ Sized (graph (now marks) (now targets) (now sets) (now waiting)) ⌝ }
     ensures { λ _. ⌜ graph (now (marks .exit)) (now (targets .exit)) (now (sets .exit)) (now (waiting .exit))
@@ -254,6 +262,7 @@ pub fn turn<'a>(
         old_rows,
         new,
         new_rows,
+        index,
         marks,
         targets,
         sets,
@@ -267,6 +276,7 @@ pub fn turn<'a>(
         old_rows,
         new,
         new_rows,
+        index,
         marks,
         targets,
         sets,

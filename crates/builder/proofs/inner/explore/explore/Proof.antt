@@ -8,11 +8,11 @@ use Rattle.builder.proofs.inner.explore.explore.Statement.{statement}
 use Rattle.builder.proofs.inner.explore.explore.Tie as tie
 
 abbrev Inv-loop : tie.InvT-loop
-Inv-loop old old-rows new new-rows marks₀ targets₀ sets₀ waiting₀ from₀ marks targets sets waiting from =
+Inv-loop old old-rows new new-rows index marks₀ targets₀ sets₀ waiting₀ from₀ marks targets sets waiting from =
     Building (charted old old-rows) (charted new new-rows) (graph marks targets sets waiting) from
 
 abbrev μ-loop : tie.MeasureT-loop
-μ-loop old old-rows new new-rows marks₀ targets₀ sets₀ waiting₀ from₀ marks targets sets waiting from =
+μ-loop old old-rows new new-rows index marks₀ targets₀ sets₀ waiting₀ from₀ marks targets sets waiting from =
     weight (graph marks targets sets waiting)
 
 begin-requires : tie.Need-begin-requires Inv-loop μ-loop
@@ -28,7 +28,7 @@ enum-known-n : tie.Need-enum-known-n Inv-loop μ-loop
 enum-known-n c = search needs
 
 turn-requires : tie.Need-turn-requires Inv-loop μ-loop
-turn-requires c κs = ((c .before .before .before .before .before .before .before .before .before .before .before .before .before .before .before .before .before .before .before .before .before .before .before .before .before .before .before .before .before .pre .0), ((c .before .before .before .before .before .before .before .before .before .before .before .before .before .before .before .before .before .before .before .before .before .before .before .before .before .before .before .before .before .pre .1 .0), (build-below _ _ (c .before .before .before .before .before .before .before .before .before .loop .inv) (c .before .before .before .before .before .before .before .lowest .ensures) (c .before .before .before .before .before .n .given .1), build-sized _ _ (c .before .before .before .before .before .before .before .before .before .loop .inv))))
+turn-requires c κs = ((c .before .before .before .before .before .before .before .before .before .before .before .before .before .before .before .before .before .before .before .before .before .before .before .before .before .before .before .before .before .pre .0), ((c .before .before .before .before .before .before .before .before .before .before .before .before .before .before .before .before .before .before .before .before .before .before .before .before .before .before .before .before .before .pre .1 .0), (c .before .before .before .before .before .before .before .before .before .before .before .before .before .before .before .before .before .before .before .before .before .before .before .before .before .before .before .before .before .pre .1 .1 .0, (build-below _ _ (c .before .before .before .before .before .before .before .before .before .loop .inv) (c .before .before .before .before .before .before .before .lowest .ensures) (c .before .before .before .before .before .n .given .1), build-sized _ _ (c .before .before .before .before .before .before .before .before .before .loop .inv)))))
 
 low-after-requires : tie.Need-low-after-requires Inv-loop μ-loop
 low-after-requires c κs = let S = build-sized _ _ (c .before .before .before .before .before .before .before .before .before .before .before .before .before .before .before .before .before .before .before .before .before .loop .inv) in (search build-below, search (needs, S), search (needs, S), search (needs, S))

@@ -1,6 +1,7 @@
 -- `builder::inner::turns::row` meets its contract: the row of the part that leaves the pair's new place, if there is one. Assumes nothing.
 use mathlib.Core.Path.{ap}
 use Rattle.chart.specs.declared.places.OldPlace.{OldPlace}
+use Rattle.chart.specs.declared.places.NewPlace.{NewPlace}
 use Rattle.chart.proofs.Faultless.{ascends, no-refusal}
 use Rattle.builder.proofs.Rows.{part-fit, part-below, came-fits, row-there, row-spare}
 use native.Mathlib.Omega.{arith}
@@ -12,19 +13,19 @@ new-of-requires : tie.Need-new-of-requires
 new-of-requires c κs = search needs
 
 rows-of-requires : tie.Need-rows-of-requires
-rows-of-requires c κs = ascends _ (no-refusal _ (c .before .before .before .before .before .before .before .pre .1 .0))
+rows-of-requires c κs = (c .before .before .before .before .before .before .before .pre .1 .1 .0, (ascends _ (no-refusal _ (c .before .before .before .before .before .before .before .pre .1 .0)), (let e = ap (λ (q : NewPlace). q .0) (c .new-of .ensures) in omega arith)))
 
 old-of-requires : tie.Need-old-of-requires
 old-of-requires c κs = search needs
 
 step-requires : tie.Need-step-requires
-step-requires c κs = ((c .before .before .before .before .before .before .before .before .before .before .pre .0), ((let e = ap (λ (p : OldPlace). p .0) (c .old-of .ensures) in omega arith), ((c .before .if1 .taken), part-fit _ _ _ (c .before .before .before .new-of .ensures) (c .before .before .rows-of .ensures) (c .before .before .before .before .before .before .before .before .before .before .pre .1 .0) (c .before .if1 .taken))))
+step-requires c κs = ((c .before .before .before .before .before .before .before .before .before .before .pre .0), (c .before .before .before .before .before .before .before .before .before .before .pre .1 .1 .0, ((let e = ap (λ (p : OldPlace). p .0) (c .old-of .ensures) in omega arith), ((c .before .if1 .taken), part-fit _ _ _ (c .before .before .before .new-of .ensures) (c .before .before .rows-of .ensures) (c .before .before .before .before .before .before .before .before .before .before .pre .1 .0) (c .before .if1 .taken)))))
 
 new-to-requires : tie.Need-new-to-requires
 new-to-requires c κs = search needs
 
 process-requires : tie.Need-process-requires
-process-requires c κs = (((c .before .before .before .before .before .before .before .before .before .before .before .before .before .before .before .before .pre .1 .1 .0 .0), (c .before .before .before .before .before .before .before .before .before .before .before .before .before .before .before .before .pre .1 .1 .0 .1), part-below _ _ _ (c .before .before .before .before .before .before .before .before .before .new-of .ensures) (c .before .before .before .before .before .before .before .before .rows-of .ensures) (c .new-to .result) (c .before .before .before .before .before .before .before .before .before .before .before .before .before .before .before .before .pre .1 .0) (c .before .before .before .before .before .before .before .if1 .taken) (c .new-to .ensures)), (came-fits _ _ _ (c .before .before .before .before .before .before .before .before .before .new-of .ensures) (c .before .before .before .before .before .before .before .before .rows-of .ensures) _ _ (c .before .before .before .before .before .step .result) (c .before .before .before .before .before .before .old-of .ensures) (c .before .before .before .before .before .step .ensures) (c .before .before .before .before .before .before .before .before .before .before .before .before .before .before .before .before .pre .0) (c .before .before .before .before .before .before .before .before .before .before .before .before .before .before .before .before .pre .1 .0) (c .before .before .before .before .before .before .before .before .before .before .before .before .before .before .before .before .pre .1 .1 .0 .0) (search needs) (c .before .before .before .before .before .before .before .if1 .taken), (c .before .before .before .before .before .before .before .before .before .before .before .before .before .before .before .before .pre .1 .1 .1)))
+process-requires c κs = (((c .before .before .before .before .before .before .before .before .before .before .before .before .before .before .before .before .pre .1 .1 .1 .0 .0), (c .before .before .before .before .before .before .before .before .before .before .before .before .before .before .before .before .pre .1 .1 .1 .0 .1), part-below _ _ _ (c .before .before .before .before .before .before .before .before .before .new-of .ensures) (c .before .before .before .before .before .before .before .before .rows-of .ensures) (c .new-to .result) (c .before .before .before .before .before .before .before .before .before .before .before .before .before .before .before .before .pre .1 .0) (c .before .before .before .before .before .before .before .if1 .taken) (c .new-to .ensures)), (came-fits _ _ _ (c .before .before .before .before .before .before .before .before .before .new-of .ensures) (c .before .before .before .before .before .before .before .before .rows-of .ensures) _ _ (c .before .before .before .before .before .step .result) (c .before .before .before .before .before .before .old-of .ensures) (c .before .before .before .before .before .step .ensures) (c .before .before .before .before .before .before .before .before .before .before .before .before .before .before .before .before .pre .0) (c .before .before .before .before .before .before .before .before .before .before .before .before .before .before .before .before .pre .1 .0) (c .before .before .before .before .before .before .before .before .before .before .before .before .before .before .before .before .pre .1 .1 .1 .0 .0) (search needs) (c .before .before .before .before .before .before .before .if1 .taken), (c .before .before .before .before .before .before .before .before .before .before .before .before .before .before .before .before .pre .1 .1 .1 .1)))
 
 same-length : tie.Need-same-length
 same-length c = search needs

@@ -8,7 +8,7 @@ set-now-requires : tie.Need-set-now-requires
 set-now-requires c κs = search needs
 
 row-requires : tie.Need-row-requires
-row-requires c κs = ((c .before .before .before .before .before .before .before .before .before .before .before .before .before .pre .0), ((c .before .before .before .before .before .before .before .before .before .before .before .before .before .pre .1 .0), (((c .before .before .before .before .before .before .before .before .before .before .before .before .before .pre .1 .1 .0), search needs), (c .before .before .before .before .before .before .before .before .before .before .before .before .before .pre .1 .1 .1))))
+row-requires c κs = ((c .before .before .before .before .before .before .before .before .before .before .before .before .before .pre .0), ((c .before .before .before .before .before .before .before .before .before .before .before .before .before .pre .1 .0), (c .before .before .before .before .before .before .before .before .before .before .before .before .before .pre .1 .1 .0, (((c .before .before .before .before .before .before .before .before .before .before .before .before .before .pre .1 .1 .1 .0), search needs), (c .before .before .before .before .before .before .before .before .before .before .before .before .before .pre .1 .1 .1 .1)))))
 
 same-length : tie.Need-same-length
 same-length c = search needs
