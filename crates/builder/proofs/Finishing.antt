@@ -3,7 +3,7 @@ use mathlib.Core.Path.{_≡_, refl, sym, ap, _∙_}
 use mathlib.Core.Bool.{Bool, true, false, not}
 use mathlib.Core.List.{List, [], _∷_, map}
 use mathlib.Core.Logic.{dite}
-use Prim.Native.Nat.{ℕ, _+_, _-_, _≤_, _<_}
+use Prim.Native.Nat.{ℕ, _+_, _*_, _-_, _≤_, _<_}
 use native.Mathlib.Numerals.{add-one}
 use native.Mathlib.Omega.{arith}
 use native.Mathlib.Decide.{ℕ-discrete}
@@ -100,14 +100,16 @@ module _ (old new : Head) (m : List ℕ) {b : Bool} (e : b ≡ alone old new m) 
   start-joint q c = c ∙ rw (sym e ∙ q, startOf)
 
 -- ---- counting
-pub record Counting (v : ℕ) (l : List ℕ) (n i : ℕ) : Type 0 where
+-- of the elements from a up to i, n are v
+pub record Counting (v : ℕ) (l : List ℕ) (a n i : ℕ) : Type 0 where
+  pub least : a ≤ i
   pub most : i ≤ length l
-  pub few : n ≤ i
-  pub same : count v l ≡ n + count v (drop i l)
+  pub few : n ≤ i - a
+  pub same : count v (drop a l) ≡ n + count v (drop i l)
 
 module _ (v : ℕ) (l : List ℕ) where
-  pub count-start : Counting v l 0 0
-  count-start = record { most = omega arith; few = omega arith; same = omega arith }
+  pub count-start : (a : ℕ) → a ≤ length l → Counting v l a 0 a
+  count-start a h = record { least = omega arith; most = h; few = omega arith; same = omega arith }
 
   at : (i : ℕ) → i < length l → drop i l ≡ getD l i 0 ∷ drop (i + 1) l
   at i b = rw (add-one i) (drop-cons l i 0 b)
@@ -120,23 +122,31 @@ module _ (v : ℕ) (l : List ℕ) where
   unfolding count
   count-no x r e = rw (ne-eqb x v e, count)
 
-  pub count-one : (n i : ℕ) → Counting v l n i → i < length l → getD l i 0 ≡ v → Counting v l (n + 1) (i + 1)
-  count-one n i C b e =
-      let z = C .same ∙ ap (λ (x : List ℕ). n + count v x) (at i b) in
-      record { most = omega arith; few = omega (arith, C .few); same = omega (arith, z, count-yes (getD l i 0) (drop (i + 1) l) e) }
+  -- a span more
+  pub count-span : {a n i r j : ℕ} → Counting v l a n i → i ≤ j → j ≤ length l → (count v (drop i l) ≡ r + count v (drop j l)) × (r ≤ j - i) → Counting v l a (n + r) j
+  count-span C p q e =
+      record { least = omega (arith, C .least); most = q; few = omega (arith, C .few, C .least, e .1); same = omega (arith, C .same, e .0) }
 
-  pub count-skip : (n i : ℕ) → Counting v l n i → i < length l → (getD l i 0 ≡ v → ⊥) → Counting v l n (i + 1)
-  count-skip n i C b e =
-      let z = C .same ∙ ap (λ (x : List ℕ). n + count v x) (at i b) in
-      record { most = omega arith; few = omega (arith, C .few); same = omega (arith, z, count-no (getD l i 0) (drop (i + 1) l) e) }
+  pub count-by : {a b n i r : ℕ} → Counting v l a n i → i < b → b ≤ length l → (getD l i 0 ≡ v → r ≡ n + 1) × ((getD l i 0 ≡ v → ⊥) → r ≡ n) → Counting v l a r (i + 1)
+  count-by {n = n} {i = i} C h k e =
+      let z = ap (count v) (at i (omega arith)) in
+      dite (ℕ-discrete (getD l i 0) v)
+      (λ y. rw (e .0 y) (count-span C (omega arith) (omega arith) (omega (arith, z, count-yes (getD l i 0) (drop (i + 1) l) y), omega arith)))
+      (λ y. let w : n ≡ n + 0 = omega arith in rw (e .1 y, w) (count-span C (omega arith) (omega arith) (omega (arith, z, count-no (getD l i 0) (drop (i + 1) l) y), omega arith)))
 
-  pub count-by : (n i : ℕ) {r : ℕ} → Counting v l n i → i < length l → (getD l i 0 ≡ v → r ≡ n + 1) × ((getD l i 0 ≡ v → ⊥) → r ≡ n) → Counting v l r (i + 1)
-  count-by n i C b e =
-      dite (ℕ-discrete (getD l i 0) v) (λ z. rw (e .0 z) (count-one n i C b z)) (λ z. rw (e .1 z) (count-skip n i C b z))
+  pub count-upto : {a n i : ℕ} (b : ℕ) → Counting v l a n i → i ≤ b → b ≤ i → (count v (drop a l) ≡ n + count v (drop b l)) × (n ≤ b - a)
+  count-upto {i = i} b C p q = let e : i ≡ b = omega arith in (rw e at (C .same), rw e at (C .few))
 
-  pub count-end : (n i : ℕ) → Counting v l n i → length l ≤ i → n ≡ count v l
+  -- a row of 64 more
+  pub count-row : {n r g : ℕ} → Counting v l 0 n (64 * g) → g < 65 → length l ≡ 4160
+      → (count v (drop (64 * g) l) ≡ r + count v (drop (64 * g + 64) l)) × (r ≤ 64 * g + 64 - 64 * g) → Counting v l 0 (n + r) (64 * (g + 1))
+  count-row {g = g} C h k e =
+      let z : 64 * (g + 1) ≡ 64 * g + 64 = omega arith in
+      rw z (count-span C (omega arith) (omega arith) e)
+
+  pub count-end : {n i : ℕ} → Counting v l 0 n i → length l ≤ i → n ≡ count v l
   unfolding count
-  count-end n i C b =
+  count-end {n} {i} C b =
       let z : drop i l ≡ [] = drop-of-length-le l {i = i} b in
       let y = C .same ∙ ap (λ (x : List ℕ). n + count v x) z in
       omega (arith, y)

@@ -1,8 +1,8 @@
 // The end of a build: targets of kept places, the lone kept start, and the marks of Algorithm 1.
 ghost use mathlib.Core.Path.{_≡_};
 ghost use mathlib.Core.List.{map};
-ghost use Prim.Native.Nat.{_+_, _<_};
-ghost use lib.ListN.{length};
+ghost use Prim.Native.Nat.{_+_, _-_, _≤_, _<_};
+ghost use lib.ListN.{length, drop};
 ghost use Rattle.base.specs.Walks.{count};
 ghost use Rattle.builder.specs.Graphs.{graph, Sized};
 ghost use Rattle.builder.specs.Builds.{redirected, alone, lone, finished, startOf};
@@ -99,8 +99,8 @@ pub fn finish(
 }
 
 // One more, if a mark is v.
-fn counted(n: usize, x: u8, v: u8) -> usize
-    requires { ⌜ n < 4294967295 ⌝ }
+fn counted(n: u8, x: u8, v: u8) -> u8
+    requires { ⌜ n < 255 ⌝ }
     ensures { λ r. ⌜ ((x ≡ v → r ≡ n + 1) × ((x ≡ v → ⊥) → r ≡ n)) ⌝ }
 {
     if x == v {
@@ -109,16 +109,31 @@ fn counted(n: usize, x: u8, v: u8) -> usize
     n
 }
 
-// How many marks are v.
+// How many marks of a span are v. Few enough for a small number, so that many are counted together.
+fn count_of(marks: &[u8], from: usize, to: usize, v: u8) -> u8
+    requires { ⌜ (from ≤ to) × (to ≤ length (now marks)) × (to ≤ from + 64) ⌝ }
+    ensures { λ r. ⌜ (count v (drop from (now (marks .entry))) ≡ r + count v (drop to (now (marks .entry)))) × (r ≤ to - from) ⌝ }
+{
+    let mut n = 0;
+    let mut i = from;
+    while i < to {
+        n = counted(n, marks[i], v);
+        i += 1;
+    }
+    n
+}
+
+// How many marks are v, row by row: 64 rows of pairs, and one of kept nodes.
 pub fn count(marks: &[u8], v: u8) -> usize
     requires { ⌜ length (now marks) ≡ 4160 ⌝ }
     ensures { λ r. ⌜ r ≡ count v (now (marks .entry)) ⌝ }
 {
     let mut n = 0;
-    let mut i = 0;
-    while i < marks.len() {
-        n = counted(n, marks[i], v);
-        i += 1;
+    let mut row = 0;
+    while row < 65 {
+        let from = 64 * row;
+        n += count_of(marks, from, from + 64, v) as usize;
+        row += 1;
     }
     n
 }
