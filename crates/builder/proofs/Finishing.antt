@@ -18,11 +18,13 @@ use Rattle.chart.specs.declared.places.NewPlace.{NewPlace}
 use Rattle.chart.specs.Places.{keptNumber, oldOf, newOf}
 use Rattle.align.specs.Steps.{fair}
 use Rattle.checker.specs.Rules.{startPair, startKept}
+use Rattle.builder.specs.Spans.{allAre, remade}
 use Rattle.builder.specs.Graphs.{Graph, graph, Sized, marked}
 use Rattle.builder.specs.Marks.{finalMarks}
 use Rattle.builder.specs.Builds.{redirected, finalTargets, alone, lone, finished, startOf}
 use Rattle.builder.proofs.Parts.{graph-eq}
 use Rattle.builder.proofs.Stores.{Passing, passing-all}
+use Rattle.builder.proofs.Spans.{all-at, remade-same, passing-span}
 
 -- ---- a target
 module _ (m : List ℕ) (x : ℕ) where
@@ -51,8 +53,24 @@ unfolding pass
 pass-map f i [] = refl
 pass-map f i (x ∷ l) = ap (λ (y : List ℕ). f x ∷ y) (pass-map f (i + 1) l)
 
-pub mapped : (f : ℕ → ℕ) {d₀ d : List ℕ} {i : ℕ} → Passing (λ j x. f x) d₀ d i → length d ≤ i → d ≡ map f d₀
+mapped : (f : ℕ → ℕ) {d₀ d : List ℕ} {i : ℕ} → Passing (λ j x. f x) d₀ d i → length d ≤ i → d ≡ map f d₀
 mapped f {d₀ = d₀} P l = passing-all (λ j x. f x) P l ∙ pass-map f 0 d₀
+
+module _ (m : List ℕ) where
+  -- unused targets stay unused
+  pub redirect-none : (a b : ℕ) {t : List ℕ} {r : Bool} → r ≡ allAre 65535 a b t → r ≡ true → t ≡ remade a b (redirected m) t
+  redirect-none a b {t} e h =
+      remade-same a b (redirected m) t (λ k p q. rw (all-at 65535 a b t (sym e ∙ h) k p q) (sym (redirect-far m 65535 (omega arith))))
+
+  module _ {t₀ t t′ : List ℕ} {i : ℕ} (P : Passing (λ j x. redirected m x) t₀ t i) where
+    redirect-span : {j : ℕ} → i ≤ j → j ≤ length t → t′ ≡ remade i j (redirected m) t → Passing (λ j x. redirected m x) t₀ t′ j
+    redirect-span a b e = passing-span (λ j x. redirected m x) (redirected m) P a b e (λ k x p q. refl)
+
+    pub redirect-group : {n : ℕ} → 16 ≤ n - i → n ≡ length t → t′ ≡ remade i (i + 16) (redirected m) t → Passing (λ j x. redirected m x) t₀ t′ (i + 16)
+    redirect-group a b e = redirect-span (omega arith) (omega arith) e
+
+    pub redirect-rest : {n : ℕ} → i ≤ n → n ≡ length t → t′ ≡ remade i n (redirected m) t → t′ ≡ map (redirected m) t₀
+    redirect-rest a b e = let Q = redirect-span a (omega arith) e in mapped (redirected m) Q (omega (arith, Q .long, P .long))
 
 -- ---- the lone kept start
 module _ (old new : Head) (m : List ℕ) {k : ℕ} {b : Bool} (a : k ≡ startKept new) (d : b ≡ marked m k) where

@@ -9,6 +9,7 @@ pub mod Marks
 pub mod Passes
 pub mod Demand3
 pub mod Stores
+pub mod Spans
 pub mod Parts
 pub mod Rows
 pub mod Exploring

@@ -4,10 +4,10 @@ use mathlib.Core.Bool.{Bool, true, false}
 use mathlib.Core.Logic.{_⊎_, inl, inr, ⊎-elim, dite}
 use mathlib.Core.List.{List, [], _∷_}
 use mathlib.Core.Option.{none, some}
-use Prim.Native.Nat.{ℕ, suc, _+_, _-_, _≤_, _<_}
+use Prim.Native.Nat.{ℕ, suc, _+_, _*_, _-_, _≤_, _<_}
 use native.Mathlib.Nat.{add-suc}
 use native.Mathlib.Omega.{arith}
-use native.Mathlib.Decide.{ℕ-discrete}
+use native.Mathlib.Decide.{ℕ-discrete, decLt}
 use borrow.Author.Tests.{eqb-true}
 use lib.Dec.{T, eqb, eqb→eq}
 use lib.ListN.{length, getD, set, take, length-set}
@@ -16,7 +16,9 @@ use Rattle.base.specs.Walks.{firstFrom}
 use Rattle.base.proofs.Repeat.{repeated-keeps}
 use Rattle.base.proofs.Tests.{T-or, T-true, and-true}
 use Rattle.checker.specs.Records.{index}
+use Rattle.builder.specs.Spans.{allAre}
 use Rattle.builder.specs.Marks.{inQ, opening, nextOpening, opened, allOpened, Opened, none-yet, one-more, Tried, Swept}
+use Rattle.builder.proofs.Spans.{all-at}
 use Rattle.builder.proofs.Marks.{opening-why, fours, open-less, left-beyond, all-rest}
 
 -- none is found where none passes
@@ -128,28 +130,65 @@ module _ (t : List ℕ) where
     pub tried-no : b ≡ false → Tried t x i 0 x
     tried-no h = record { did = none-yet; most = omega arith; else-not = λ z. (refl, sym e ∙ h) }
 
-  pub sweep-start : (x : List ℕ) → Swept t x 4096 0 x
-  sweep-start x = record { did = none-yet; long = refl; near = omega arith; most = omega arith; else-not = λ z. (refl, λ k a b. absurd (omega arith)) }
+  pub sweep-start : (x : List ℕ) (e : ℕ) → Swept t x e e 0 x
+  sweep-start x e = record { did = none-yet; long = refl; near = omega arith; most = omega arith; else-not = λ z. (refl, λ k a b. absurd (omega arith)) }
 
-  pub sweep-more : {x y z : List ℕ} {i n r : ℕ} → Swept t x i n y → 0 < i → Tried t y (i - 1) r z → Swept t x (i - 1) (n + r) z
-  sweep-more {x} {y} {z} {i} {n} {r} S l T =
+  -- lower pairs after higher ones
+  pub swept-then : {x y z : List ℕ} {i j e n r : ℕ} → Swept t x j e n y → Swept t y i j r z → Swept t x i e (n + r) z
+  swept-then {x} {y} {z} {i} {j} {e} {n} {r} S R =
       record {
-        did = opened-then t (S .did) (T .did);
-        long = opened-long t (T .did) ∙ S .long;
-        near = omega (arith, S .near);
-        most = omega (arith, S .most, S .near, T .most);
-        else-not = λ e. (
-          T .else-not (omega arith) .0 ∙ S .else-not (omega arith) .0,
-          λ k a b. dite (ℕ-discrete k (i - 1)) (λ q. rw q (subst (λ (w : List ℕ). opening t w (i - 1) (getD w (i - 1) 0) ≡ false) (S .else-not (omega arith) .0) (T .else-not (omega arith) .1)))
+        did = opened-then t (S .did) (R .did);
+        long = R .long ∙ S .long;
+        near = omega (arith, S .near, R .near);
+        most = omega (arith, S .most, S .near, R .most, R .near);
+        else-not = λ h. (
+          R .else-not (omega arith) .0 ∙ S .else-not (omega arith) .0,
+          λ k a b. dite (decLt k j)
+              (λ q. subst (λ (w : List ℕ). opening t w k (getD w k 0) ≡ false) (S .else-not (omega arith) .0) (R .else-not (omega arith) .1 k a q))
               (λ q. S .else-not (omega arith) .1 k (omega arith) b),
         );
       }
 
-  pub sweep-end : {x y : List ℕ} {i n : ℕ} → Swept t x i n y → i ≤ 0 → Swept t x 0 n y
-  sweep-end {x} {y} {i} {n} S l = let e : i ≡ 0 = omega arith in subst (λ (k : ℕ). Swept t x k n y) e S
+  tried-span : {x y : List ℕ} {i n : ℕ} → Tried t x i n y → Swept t x i (i + 1) n y
+  tried-span {i = i} T =
+      record {
+        did = T .did;
+        long = opened-long t (T .did);
+        near = omega arith;
+        most = omega (arith, T .most);
+        else-not = λ h. (T .else-not h .0, λ k a b. let e : k ≡ i = omega arith in rw e (T .else-not h .1));
+      }
+
+  pub sweep-more : {x y z : List ℕ} {a i e n r : ℕ} → Swept t x i e n y → a < i → Tried t y (i - 1) r z → Swept t x (i - 1) e (n + r) z
+  sweep-more {y = y} {z = z} {i = i} {r = r} S l T =
+      let e : i - 1 + 1 ≡ i = omega arith in
+      swept-then S (subst (λ (k : ℕ). Swept t y (i - 1) k r z) e (tried-span T))
+
+  pub sweep-end : {x y : List ℕ} {i n : ℕ} (a e : ℕ) → Swept t x i e n y → i ≤ a → a ≤ i → Swept t x a e n y
+  sweep-end {x} {y} {i} {n} a e S p q = let h : i ≡ a = omega arith in subst (λ (k : ℕ). Swept t x k e n y) h S
+
+  -- where no pair is there, none is opened
+  pub sweep-none : {x : List ℕ} (i : ℕ) {b : Bool} → b ≡ allAre 0 i (i + 16) x → b ≡ true → Swept t x i (i + 16) 0 x
+  unfolding opening
+  sweep-none {x} i a h =
+      record {
+        did = none-yet;
+        long = refl;
+        near = omega arith;
+        most = omega arith;
+        else-not = λ z. (refl, λ k p q. rw (all-at 0 i (i + 16) x (sym a ∙ h) k p q));
+      }
+
+  pub sweep-group : {x y z : List ℕ} {g n r : ℕ} → Swept t x (16 * g) 4096 n y → 0 < g → Swept t y (16 * (g - 1)) (16 * (g - 1) + 16) r z → Swept t x (16 * (g - 1)) 4096 (n + r) z
+  sweep-group {y = y} {z = z} {g = g} {r = r} S l R =
+      let e : 16 * (g - 1) + 16 ≡ 16 * g = omega arith in
+      swept-then S (subst (λ (k : ℕ). Swept t y (16 * (g - 1)) k r z) e R)
+
+  pub sweep-all : {x y : List ℕ} {g n : ℕ} → Swept t x (16 * g) 4096 n y → g ≤ 0 → Swept t x 0 4096 n y
+  sweep-all {g = g} S l = sweep-end 0 4096 S (omega arith) (omega arith)
 
   -- a pass that opened none leaves none to open
-  pub swept-rests : {x y : List ℕ} → length x ≡ 4160 → Swept t x 0 0 y → nextOpening t y ≡ none
+  pub swept-rests : {x y : List ℕ} → length x ≡ 4160 → Swept t x 0 4096 0 y → nextOpening t y ≡ none
   unfolding nextOpening
   swept-rests {x} {y} l S =
       let q = S .else-not refl in
@@ -169,7 +208,7 @@ module _ (t : List ℕ) where
   pub sweeping-start : (x : List ℕ) → length x ≡ 4160 → Sweeping t x x
   sweeping-start x l = record { long = l; same = refl; count = 0; did = none-yet }
 
-  module _ {x y z : List ℕ} {r : ℕ} (W : Sweeping t x y) (S : Swept t y 0 r z) where
+  module _ {x y z : List ℕ} {r : ℕ} (W : Sweeping t x y) (S : Swept t y 0 4096 r z) where
     pub sweeping-again : Sweeping t x z
     sweeping-again = record { long = W .long; same = S .long ∙ W .same; count = W .count + r; did = opened-then t (W .did) (S .did) }
 

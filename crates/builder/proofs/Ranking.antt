@@ -3,7 +3,7 @@ use mathlib.Core.Path.{_≡_, refl, sym, ap, _∙_}
 use mathlib.Core.Bool.{Bool, true, false}
 use mathlib.Core.List.{List, [], _∷_}
 use mathlib.Core.Logic.{dite}
-use Prim.Native.Nat.{ℕ, suc, _+_, _*_, _-_, _≤_, _<_}
+use Prim.Native.Nat.{ℕ, zero, suc, _+_, _*_, _-_, _≤_, _<_}
 use native.Mathlib.Numerals.{add-one}
 use native.Mathlib.Omega.{arith}
 use native.Mathlib.Decide.{ℕ-discrete, decLt}
@@ -11,23 +11,48 @@ use borrow.Author.Tests.{ne-eqb, lt-ltb, le-ltb}
 use lib.Dec.{eqb}
 use lib.ListN.{length, getD, set, drop, length-set, length-drop, drop-of-length-le, List·getD-eq-default}
 use lib.Seq.{drop-cons, getD-drop, getD-set-same, getD-set-other}
-use Rattle.align.specs.declared.spots.Found.the-variants as founds
 use Rattle.checker.specs.Records.{index}
-use Rattle.builder.specs.Marks.{plainMark, plainMarks, inQ, opening, allOpened, transitions, cover, covered, coverFrom, allCovered, finalMarks}
+use Rattle.builder.specs.Spans.{allAre, remade}
+use Rattle.builder.specs.Marks.{plainMark, plainAs, plainMarks, inQ, opening, allOpened, transitions, cover, covered, coverFrom, coverSpan, allCovered, finalMarks}
+use Rattle.builder.proofs.Stores.{passing-none, passing-all}
+use Rattle.builder.proofs.Spans.{all-at, passing-span}
 
 -- ---- plain marks
+module _ (v x : ℕ) where
+  pub plain-zero : x ≡ 0 → 0 ≡ plainAs v x
+  unfolding plainAs
+  plain-zero e = rw (e, plainAs)
+
+  pub plain-else : (x ≡ 0 → ⊥) → v ≡ plainAs v x
+  unfolding plainAs
+  plain-else e = rw (ne-eqb x 0 e, plainAs)
+
 module _ (i x : ℕ) where
-  pub plain-zero : x ≡ 0 → 0 ≡ plainMark i x
+  plain-pair : i < 4096 → plainAs 4 x ≡ plainMark i x
   unfolding plainMark
-  plain-zero e = rw (e, plainMark)
+  plain-pair l =
+      dite (ℕ-discrete x 0) (λ e. sym (plain-zero 4 x e) ∙ rw (e, plainMark))
+      (λ e. sym (plain-else 4 x e) ∙ rw (ne-eqb x 0 e, plainMark) (rw (lt-ltb i 4096 l, plainMark)))
 
-  pub plain-four : (x ≡ 0 → ⊥) → i < 4096 → 4 ≡ plainMark i x
+  plain-kept : 4096 ≤ i → plainAs 2 x ≡ plainMark i x
   unfolding plainMark
-  plain-four e l = rw (ne-eqb x 0 e, plainMark) (rw (lt-ltb i 4096 l, plainMark))
+  plain-kept l =
+      dite (ℕ-discrete x 0) (λ e. sym (plain-zero 2 x e) ∙ rw (e, plainMark))
+      (λ e. sym (plain-else 2 x e) ∙ rw (ne-eqb x 0 e, plainMark) (rw (le-ltb i 4096 l, plainMark)))
 
-  pub plain-two : (x ≡ 0 → ⊥) → 4096 ≤ i → 2 ≡ plainMark i x
-  unfolding plainMark
-  plain-two e l = rw (ne-eqb x 0 e, plainMark) (rw (le-ltb i 4096 l, plainMark))
+module _ (m : List ℕ) {m₁ : List ℕ} where
+  pub plain-few : length m < 4096 → m₁ ≡ remade 0 (length m) (plainAs 4) m → m₁ ≡ plainMarks m
+  unfolding plainMarks
+  plain-few l e =
+      let P = passing-span plainMark (plainAs 4) (passing-none plainMark m) (omega arith) (omega arith) e (λ k x p q. plain-pair k x (omega arith)) in
+      passing-all plainMark P (omega (arith, P .long))
+
+  pub plain-all : {m₂ : List ℕ} → 4096 ≤ length m → m₁ ≡ remade 0 4096 (plainAs 4) m → m₂ ≡ remade 4096 (length m) (plainAs 2) m₁ → m₂ ≡ plainMarks m
+  unfolding plainMarks
+  plain-all l e f =
+      let P = passing-span plainMark (plainAs 4) (passing-none plainMark m) (omega arith) l e (λ k x p q. plain-pair k x q) in
+      let Q = passing-span plainMark (plainAs 2) P l (omega (arith, P .long)) f (λ k x p q. plain-kept k x p) in
+      passing-all plainMark Q (omega (arith, Q .long))
 
 -- ---- open or kept
 module _ (m : List ℕ) (n : ℕ) where
@@ -159,7 +184,20 @@ module _ (t : List ℕ) (w : length t ≡ 8192) where
             (λ k. rw (getD-drop, getD-drop) (from-ones t m i (i + 1 + k)))));
       })
 
-  pub cover-done : {m₀ m : List ℕ} {i : ℕ} → Covering t m₀ m i → 4096 ≤ i → m ≡ allCovered t m₀
+  -- n pairs more
+  cover-span : {m₀ m : List ℕ} {i : ℕ} (n : ℕ) → Covering t m₀ m i → i + n ≤ 4096 → Covering t m₀ (coverSpan t i n m) (i + n)
+  unfolding coverSpan
+  cover-span {i = i} zero C l = let e : i + 0 ≡ i = omega arith in rw e C
+  cover-span {m = m} {i = i} (suc n) C l =
+      let e : i + suc n ≡ i + n + 1 = omega arith in
+      rw e (cover-more (cover-span n C (omega arith)) (omega arith) refl)
+
+  pub cover-group : {m₀ m m′ : List ℕ} {g : ℕ} → Covering t m₀ m (16 * g) → g < 256 → m′ ≡ coverSpan t (16 * g) 16 m → Covering t m₀ m′ (16 * (g + 1))
+  cover-group {g = g} C l e =
+      let z : 16 * (g + 1) ≡ 16 * g + 16 = omega arith in
+      rw (z, e) (cover-span 16 C (omega arith))
+
+  cover-done : {m₀ m : List ℕ} {i : ℕ} → Covering t m₀ m i → 4096 ≤ i → m ≡ allCovered t m₀
   unfolding covered transitions
   cover-done {m = m} {i = i} C l =
       let e : drop (2 * i) t ≡ [] = drop-of-length-le t {i = 2 * i} (omega arith) in
@@ -168,6 +206,51 @@ module _ (t : List ℕ) (w : length t ≡ 8192) where
       none-left : (x : List ℕ) → covered m (transitions x []) ≡ m
       none-left [] = refl
       none-left (a ∷ x) = refl
+
+  pub cover-end : {m₀ m : List ℕ} {g : ℕ} → Covering t m₀ m (16 * g) → 256 ≤ g → m ≡ allCovered t m₀
+  cover-end C l = cover-done C (omega arith)
+
+-- the loop over a span
+pub record Spanning (t : List ℕ) (a b : ℕ) (m₀ m : List ℕ) (i : ℕ) : Type 0 where
+  pub least : a ≤ i
+  pub most : i ≤ b
+  pub long : length m ≡ 4160
+  pub is : m ≡ coverSpan t a (i - a) m₀
+
+module _ (t : List ℕ) (a b : ℕ) where
+  pub span-start : {m : List ℕ} → length m ≡ 4160 → a ≤ b → Spanning t a b m m a
+  unfolding coverSpan
+  span-start l h = let z : a - a ≡ 0 = omega arith in record { least = omega arith; most = h; long = l; is = rw z }
+
+  pub span-more : {m₀ m m′ : List ℕ} {i : ℕ} → Spanning t a b m₀ m i → i < b → m′ ≡ coverFrom t m i → Spanning t a b m₀ m′ (i + 1)
+  unfolding coverSpan
+  span-more {m₀} {m} {i = i} S l e =
+      let z : i + 1 - a ≡ suc (i - a) = omega (arith, S .least) in
+      let w : a + (i - a) ≡ i = omega (arith, S .least) in
+      record {
+        least = omega (arith, S .least);
+        most = omega arith;
+        long = ap length e ∙ length-from t m i ∙ S .long;
+        is = e ∙ rw (z, coverSpan, w) (ap (λ (x : List ℕ). coverFrom t x i) (S .is));
+      }
+
+  pub span-end : {m₀ m : List ℕ} {i : ℕ} → Spanning t a b m₀ m i → b ≤ i → m ≡ coverSpan t a (b - a) m₀
+  span-end {m₀} {i = i} S l = let e : i ≡ b = omega (arith, S .most) in S .is ∙ ap (λ (x : ℕ). coverSpan t a (x - a) m₀) e
+
+module _ (t m : List ℕ) (i : ℕ) where
+  -- where no pair is there, none covers
+  span-none : (n : ℕ) → ((k : ℕ) → i ≤ k → k < i + n → getD m k 0 ≡ 0) → coverSpan t i n m ≡ m
+  unfolding coverSpan
+  span-none zero h = refl
+  span-none (suc n) h =
+      rw (span-none n (λ k p q. h k p (omega arith)))
+      (sym (from-not t m (i + n) (λ e. omega (arith, h (i + n) (omega arith) (omega arith)))))
+
+  pub group-none : {r : Bool} → r ≡ allAre 0 i (i + 16) m → r ≡ true → m ≡ coverSpan t i 16 m
+  group-none e h = sym (span-none 16 (all-at 0 i (i + 16) m (sym e ∙ h)))
+
+  pub group-some : {m′ : List ℕ} → m′ ≡ coverSpan t i (i + 16 - i) m → m′ ≡ coverSpan t i 16 m
+  group-some e = let z : i + 16 - i ≡ 16 = omega arith in e ∙ rw z
 
 -- ---- all of it
 pub rank-is : (n : ℕ) (t m : List ℕ) {m₁ m₂ m₃ m₄ : List ℕ} → m₁ ≡ plainMarks m → m₂ ≡ set m₁ n 1 → m₃ ≡ allOpened t m₂ → m₄ ≡ allCovered t m₃ → m₄ ≡ finalMarks n t m

@@ -3,7 +3,7 @@ use mathlib.Core.Path.{_≡_}
 use mathlib.Core.Bool.{Bool, true, false, _&&_, _||_}
 use mathlib.Core.List.{List, [], _∷_}
 use mathlib.Core.Option.{Option}
-use Prim.Native.Nat.{ℕ, suc, _-_, _≤_, _<_}
+use Prim.Native.Nat.{ℕ, zero, suc, _+_, _-_, _≤_, _<_}
 use lib.Dec.{eqb, ltb}
 use lib.ListN.{length, getD, set, take}
 use Rattle.base.specs.Walks.{pass, firstFrom}
@@ -13,6 +13,10 @@ use Rattle.checker.specs.Records.{index}
 -- "2 kept", and at first "4 beyond" for every pair
 unfoldable pub plainMark : ℕ → ℕ → ℕ
 plainMark i x = elim (eqb x 0) [ true ↦ 0 | false ↦ elim (ltb i 4096) [ true ↦ 4 | false ↦ 2 ] ]
+
+-- one of them, v, for what is not 0
+unfoldable pub plainAs : ℕ → ℕ → ℕ
+plainAs v x = elim (eqb x 0) [ true ↦ 0 | false ↦ v ]
 
 unfoldable pub plainMarks : List ℕ → List ℕ
 plainMarks m = pass plainMark 0 m
@@ -47,13 +51,13 @@ pub record Tried (t x : List ℕ) (i n : ℕ) (y : List ℕ) : Type 0 where
   pub most : n ≤ 1
   pub else-not : n ≡ 0 → (y ≡ x) × (opening t x i (getD x i 0) ≡ false)
 
--- so were the pairs from i on
-pub record Swept (t x : List ℕ) (i n : ℕ) (y : List ℕ) : Type 0 where
+-- so were the pairs from i up to e
+pub record Swept (t x : List ℕ) (i e n : ℕ) (y : List ℕ) : Type 0 where
   pub did : Opened t x n y
   pub long : length y ≡ length x
-  pub near : i ≤ 4096
-  pub most : n ≤ 4096 - i
-  pub else-not : n ≡ 0 → (y ≡ x) × ((k : ℕ) → i ≤ k → k < 4096 → opening t x k (getD x k 0) ≡ false)
+  pub near : i ≤ e
+  pub most : n ≤ e - i
+  pub else-not : n ≡ 0 → (y ≡ x) × ((k : ℕ) → i ≤ k → k < e → opening t x k (getD x k 0) ≡ false)
 
 -- ---- line 6: "3 covered: other pairs that are a target of an open one"
 -- "The condition's transitions are the targets of open pairs": these, in order, of the pairs with the marks m
@@ -73,6 +77,11 @@ covered m (n ∷ l) = covered (cover m n) l
 -- the same of pair i alone, over the targets t
 unfoldable pub coverFrom : List ℕ → List ℕ → ℕ → List ℕ
 coverFrom t m i = elim (eqb (getD m i 0) 1) [ true ↦ cover (cover m (getD t (index i 0) 0)) (getD t (index i 1) 0) | false ↦ m ]
+
+-- the same of n pairs from i on, one after another
+unfoldable pub coverSpan : List ℕ → ℕ → ℕ → List ℕ → List ℕ
+coverSpan t i zero m = m
+coverSpan t i (suc n) m = coverFrom t (coverSpan t i n m) (i + n)
 
 -- Algorithm 1 from the start pair n, the marks between turns and the final targets
 unfoldable pub allCovered : List ℕ → List ℕ → List ℕ

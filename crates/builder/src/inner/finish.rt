@@ -4,6 +4,7 @@ ghost use mathlib.Core.List.{map};
 ghost use Prim.Native.Nat.{_+_, _-_, _≤_, _<_};
 ghost use lib.ListN.{length, drop};
 ghost use Rattle.base.specs.Walks.{count};
+ghost use Rattle.builder.specs.Spans.{allAre, remade};
 ghost use Rattle.builder.specs.Graphs.{graph, Sized};
 ghost use Rattle.builder.specs.Builds.{redirected, alone, lone, finished, startOf};
 use crate::inner::buffers;
@@ -32,16 +33,54 @@ fn redirect(marks: &[u8], x: u16) -> u16
     x
 }
 
-fn redirect_all(marks: &[u8], targets: &mut [u16])
-    requires { ⌜ length (now marks) ≡ 4160 ⌝ }
-    ensures { λ _. ⌜ now (targets .exit) ≡ map (redirected (now (marks .entry))) (now (targets .entry)) ⌝ }
+// Whether the targets of a span are all unused. No early end, so that many are looked at together.
+fn all_unused(targets: &[u16], from: usize, to: usize) -> bool
+    requires { ⌜ (from ≤ to) × (to ≤ length (now targets)) ⌝ }
+    ensures { λ r. ⌜ r ≡ allAre 65535 from to (now (targets .entry)) ⌝ }
 {
-    let mut i = 0;
-    while i < targets.len() {
+    let mut all = true;
+    let mut i = from;
+    while i < to {
+        all = all & (targets[i] == 65535);
+        i += 1;
+    }
+    all
+}
+
+fn redirect_some(marks: &[u8], targets: &mut [u16], from: usize, to: usize)
+    requires { ⌜ (length (now marks) ≡ 4160) × (from ≤ to) × (to ≤ length (now targets)) ⌝ }
+    ensures { λ _. ⌜ now (targets .exit) ≡ remade from to (redirected (now (marks .entry))) (now (targets .entry)) ⌝ }
+{
+    let mut i = from;
+    while i < to {
         let x = targets[i];
         targets[i] = redirect(marks, x);
         i += 1;
     }
+}
+
+// 16 targets from i on; where all are unused, there is nothing to do.
+fn redirect_group(marks: &[u8], targets: &mut [u16], i: usize)
+    requires { ⌜ (length (now marks) ≡ 4160) × (i + 16 ≤ length (now targets)) ⌝ }
+    ensures { λ _. ⌜ now (targets .exit) ≡ remade i (i + 16) (redirected (now (marks .entry))) (now (targets .entry)) ⌝ }
+{
+    if all_unused(&*targets, i, i + 16) {
+        return;
+    }
+    redirect_some(marks, targets, i, i + 16);
+}
+
+fn redirect_all(marks: &[u8], targets: &mut [u16])
+    requires { ⌜ length (now marks) ≡ 4160 ⌝ }
+    ensures { λ _. ⌜ now (targets .exit) ≡ map (redirected (now (marks .entry))) (now (targets .entry)) ⌝ }
+{
+    let n = targets.len();
+    let mut i = 0;
+    while 16 <= n - i {
+        redirect_group(marks, targets, i);
+        i += 16;
+    }
+    redirect_some(marks, targets, i, n);
 }
 
 // Whether the new start is kept, or is the new alarm without the old one being the old alarm.

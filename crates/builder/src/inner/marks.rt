@@ -1,32 +1,45 @@
 // Algorithm 1: the final marks, from those between turns and the final targets.
 ghost use mathlib.Core.Path.{_≡_};
-ghost use Prim.Native.Nat.{_<_};
+ghost use Prim.Native.Nat.{_+_, _-_, _≤_, _<_};
 ghost use lib.ListN.{length, getD};
-ghost use Rattle.builder.specs.Marks.{plainMark, plainMarks, inQ, opening, Tried, Swept, allOpened, cover, coverFrom, allCovered, finalMarks};
+ghost use Rattle.builder.specs.Spans.{allAre, remade};
+ghost use Rattle.builder.specs.Marks.{plainAs, plainMarks, inQ, opening, Tried, Swept, allOpened};
+ghost use Rattle.builder.specs.Marks.{cover, coverFrom, coverSpan, allCovered, finalMarks};
 use crate::inner::buffers;
 
-fn plain_mark(i: usize, x: u8) -> u8
-    ensures { λ r. ⌜ r ≡ plainMark i x ⌝ }
+fn plain_mark(v: u8, x: u8) -> u8
+    ensures { λ r. ⌜ r ≡ plainAs v x ⌝ }
 {
     if x == 0 {
         return 0;
     }
-    if i < 4096 {
-        return 4;
+    v
+}
+
+// v for the marks of a span.
+fn plain_some(marks: &mut [u8], from: usize, to: usize, v: u8)
+    requires { ⌜ (from ≤ to) × (to ≤ length (now marks)) ⌝ }
+    ensures { λ _. ⌜ now (marks .exit) ≡ remade from to (plainAs v) (now (marks .entry)) ⌝ }
+{
+    let mut i = from;
+    while i < to {
+        let x = marks[i];
+        marks[i] = plain_mark(v, x);
+        i += 1;
     }
-    2
 }
 
 // Kept places 2, pairs 4.
 fn plain(marks: &mut [u8])
     ensures { λ _. ⌜ now (marks .exit) ≡ plainMarks (now (marks .entry)) ⌝ }
 {
-    let mut i = 0;
-    while i < marks.len() {
-        let x = marks[i];
-        marks[i] = plain_mark(i, x);
-        i += 1;
+    let n = marks.len();
+    if n < 4096 {
+        plain_some(marks, 0, n, 4);
+        return;
     }
+    plain_some(marks, 0, 4096, 4);
+    plain_some(marks, 4096, n, 2);
 }
 
 // Whether a target is an open or kept node.
@@ -71,17 +84,55 @@ fn open_if(marks: &mut [u8], targets: &[u16], i: usize) -> usize
     0
 }
 
-// Opens every pair that is to be opened when its turn comes, from the highest down, and says how many that were. Rows mostly lead to higher
-// nodes, so that few such passes are needed.
-fn sweep(marks: &mut [u8], targets: &[u16]) -> usize
-    requires { ⌜ (length (now marks) ≡ 4160) × (length (now targets) ≡ 8192) ⌝ }
-    ensures { λ r. ⌜ Swept (now (targets .entry)) (now (marks .entry)) 0 r (now (marks .exit)) ⌝ }
+// Whether the marks of a span are all 0. No early end, so that many are looked at together.
+fn none_of(marks: &[u8], from: usize, to: usize) -> bool
+    requires { ⌜ (from ≤ to) × (to ≤ length (now marks)) ⌝ }
+    ensures { λ r. ⌜ r ≡ allAre 0 from to (now (marks .entry)) ⌝ }
+{
+    let mut none = true;
+    let mut i = from;
+    while i < to {
+        none = none & (marks[i] == 0);
+        i += 1;
+    }
+    none
+}
+
+// Opens every pair of a span that is to be opened when its turn comes, from the highest down, and says how many that were.
+fn sweep_some(marks: &mut [u8], targets: &[u16], from: usize, to: usize) -> usize
+    requires { ⌜ (length (now marks) ≡ 4160) × (length (now targets) ≡ 8192) × (from ≤ to) × (to ≤ 4096) ⌝ }
+    ensures { λ r. ⌜ Swept (now (targets .entry)) (now (marks .entry)) from to r (now (marks .exit)) ⌝ }
 {
     let mut n = 0;
-    let mut i = 4096;
-    while 0 < i {
+    let mut i = to;
+    while from < i {
         i -= 1;
         n += open_if(marks, targets, i);
+    }
+    n
+}
+
+// 16 pairs from i on; where none is there, none is opened.
+fn sweep_group(marks: &mut [u8], targets: &[u16], i: usize) -> usize
+    requires { ⌜ (length (now marks) ≡ 4160) × (length (now targets) ≡ 8192) × (i + 16 ≤ 4096) ⌝ }
+    ensures { λ r. ⌜ Swept (now (targets .entry)) (now (marks .entry)) i (i + 16) r (now (marks .exit)) ⌝ }
+{
+    if none_of(&*marks, i, i + 16) {
+        return 0;
+    }
+    sweep_some(marks, targets, i, i + 16)
+}
+
+// All pairs, from the highest group down. Rows mostly lead to higher nodes, so that few such passes are needed.
+fn sweep(marks: &mut [u8], targets: &[u16]) -> usize
+    requires { ⌜ (length (now marks) ≡ 4160) × (length (now targets) ≡ 8192) ⌝ }
+    ensures { λ r. ⌜ Swept (now (targets .entry)) (now (marks .entry)) 0 4096 r (now (marks .exit)) ⌝ }
+{
+    let mut n = 0;
+    let mut group = 256;
+    while 0 < group {
+        group -= 1;
+        n += sweep_group(marks, targets, 16 * group);
     }
     n
 }
@@ -122,15 +173,38 @@ fn cover_from(marks: &mut [u8], targets: &[u16], i: usize)
     }
 }
 
+// Those of the pairs of a span.
+fn cover_some(marks: &mut [u8], targets: &[u16], from: usize, to: usize)
+    requires { ⌜ (length (now marks) ≡ 4160) × (length (now targets) ≡ 8192) × (from ≤ to) × (to ≤ 4096) ⌝ }
+    ensures { λ _. ⌜ now (marks .exit) ≡ coverSpan (now (targets .entry)) from (to - from) (now (marks .entry)) ⌝ }
+{
+    let mut i = from;
+    while i < to {
+        cover_from(marks, targets, i);
+        i += 1;
+    }
+}
+
+// 16 pairs from i on; where none is there, none covers.
+fn cover_group(marks: &mut [u8], targets: &[u16], i: usize)
+    requires { ⌜ (length (now marks) ≡ 4160) × (length (now targets) ≡ 8192) × (i + 16 ≤ 4096) ⌝ }
+    ensures { λ _. ⌜ now (marks .exit) ≡ coverSpan (now (targets .entry)) i 16 (now (marks .entry)) ⌝ }
+{
+    if none_of(&*marks, i, i + 16) {
+        return;
+    }
+    cover_some(marks, targets, i, i + 16);
+}
+
 // The other targets of open pairs.
 fn cover_all(marks: &mut [u8], targets: &[u16])
     requires { ⌜ (length (now marks) ≡ 4160) × (length (now targets) ≡ 8192) ⌝ }
     ensures { λ _. ⌜ now (marks .exit) ≡ allCovered (now (targets .entry)) (now (marks .entry)) ⌝ }
 {
-    let mut i = 0;
-    while i < 4096 {
-        cover_from(marks, targets, i);
-        i += 1;
+    let mut group = 0;
+    while group < 256 {
+        cover_group(marks, targets, 16 * group);
+        group += 1;
     }
 }
 

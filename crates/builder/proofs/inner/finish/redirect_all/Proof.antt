@@ -1,53 +1,46 @@
 -- `builder::inner::finish::redirect_all` meets its contract. Assumes nothing.
-use Rattle.builder.proofs.Finishing.{mapped}
-use Rattle.builder.proofs.Stores.{Passing, passing-none, passing-more}
-use Prim.Native.Nat.{_-_}
-use lib.ListN.{length, length-set}
+use mathlib.Core.Path.{_≡_}
+use Prim.Native.Nat.{_-_, _≤_}
+use lib.ListN.{length}
 use Rattle.builder.specs.Builds.{redirected}
-use Rattle.builder.proofs.Stores.{Passing, passing-none, passing-more}
+use Rattle.builder.proofs.Stores.{Passing, passing-none}
+use Rattle.builder.proofs.Finishing.{redirect-group, redirect-rest}
 use borrow.Author.Needs.{needs}
-use native.Mathlib.Omega.{arith}
 use Rattle.builder.proofs.inner.finish.redirect_all.Statement.{statement}
 use Rattle.builder.proofs.inner.finish.redirect_all.Tie as tie
 
 abbrev Inv-loop : tie.InvT-loop
-Inv-loop marks targets₀ i₀ targets i = Passing (λ j x. redirected marks x) targets₀ targets i
+Inv-loop marks targets₀ n i₀ targets i = Passing (λ j x. redirected marks x) targets₀ targets i × (i ≤ n) × (n ≡ length targets)
 
 abbrev μ-loop : tie.MeasureT-loop
-μ-loop marks targets₀ i₀ targets i = length targets - i
+μ-loop marks targets₀ n i₀ targets i = n - i
 
 loop-holds : tie.Need-loop-holds Inv-loop μ-loop
-loop-holds c = passing-none _ _
+loop-holds c = (passing-none _ _, search needs, search needs)
 
-mul-x : tie.Need-mul-x Inv-loop μ-loop
-mul-x c = search needs
+sub-loop : tie.Need-sub-loop Inv-loop μ-loop
+sub-loop c = search needs
 
-slice-read-x : tie.Need-slice-read-x Inv-loop μ-loop
-slice-read-x c = search needs
-
-redirect-requires : tie.Need-redirect-requires Inv-loop μ-loop
-redirect-requires c κs = search needs
-
-mul-targets : tie.Need-mul-targets Inv-loop μ-loop
-mul-targets c = search needs
-
-slice-write-targets : tie.Need-slice-write-targets Inv-loop μ-loop
-slice-write-targets c = search needs
+redirect-group-requires : tie.Need-redirect-group-requires Inv-loop μ-loop
+redirect-group-requires c κs = search needs
 
 add-i : tie.Need-add-i Inv-loop μ-loop
 add-i c = search needs
 
 loop-less : tie.Need-loop-less Inv-loop μ-loop
-loop-less c = simp length-set (omega arith)
+loop-less c = search needs
 
 loop-again : tie.Need-loop-again Inv-loop μ-loop
-loop-again c = search passing-more
+loop-again c = (redirect-group _ (c .before .before .before .before .before .loop .inv .0) (c .before .before .before .before .loop-test .taken) (c .before .before .before .before .before .loop .inv .2) (c .before .before .redirect-group .ensures), search needs, search needs)
+
+redirect-some-requires : tie.Need-redirect-some-requires Inv-loop μ-loop
+redirect-some-requires c κs = search needs
 
 same-length : tie.Need-same-length Inv-loop μ-loop
 same-length c = search needs
 
 returns : tie.Need-returns Inv-loop μ-loop
-returns c = search mapped
+returns c = search redirect-rest
 
 pub redirect-all-spec : {M : Type 1} → statement M
 redirect-all-spec =
@@ -56,13 +49,11 @@ redirect-all-spec =
     Inv-loop
     μ-loop
     loop-holds
-    mul-x
-    slice-read-x
-    redirect-requires
-    mul-targets
-    slice-write-targets
+    sub-loop
+    redirect-group-requires
     add-i
     loop-less
     loop-again
+    redirect-some-requires
     same-length
     returns)

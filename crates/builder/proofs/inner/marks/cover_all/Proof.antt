@@ -1,36 +1,39 @@
 -- `builder::inner::marks::cover_all` meets its contract. Assumes nothing.
-use Prim.Native.Nat.{_-_}
-use Rattle.builder.proofs.Ranking.{Covering, cover-start, cover-more, cover-done}
+use Prim.Native.Nat.{_*_, _-_}
+use Rattle.builder.proofs.Ranking.{Covering, cover-start, cover-group, cover-end}
 use borrow.Author.Needs.{needs}
 use Rattle.builder.proofs.inner.marks.cover_all.Statement.{statement}
 use Rattle.builder.proofs.inner.marks.cover_all.Tie as tie
 
 abbrev Inv-loop : tie.InvT-loop
-Inv-loop marks₀ targets i₀ marks i = Covering targets marks₀ marks i
+Inv-loop marks₀ targets group₀ marks group = Covering targets marks₀ marks (16 * group)
 
 abbrev μ-loop : tie.MeasureT-loop
-μ-loop marks₀ targets i₀ marks i = 4096 - i
+μ-loop marks₀ targets group₀ marks group = 256 - group
 
 loop-holds : tie.Need-loop-holds Inv-loop μ-loop
 loop-holds c = search cover-start
 
-cover-from-requires : tie.Need-cover-from-requires Inv-loop μ-loop
-cover-from-requires c κs = search needs
+mul-cover-group : tie.Need-mul-cover-group Inv-loop μ-loop
+mul-cover-group c = search needs
 
-add-i : tie.Need-add-i Inv-loop μ-loop
-add-i c = search needs
+cover-group-requires : tie.Need-cover-group-requires Inv-loop μ-loop
+cover-group-requires c κs = search needs
+
+add-group : tie.Need-add-group Inv-loop μ-loop
+add-group c = search needs
 
 loop-less : tie.Need-loop-less Inv-loop μ-loop
 loop-less c = search needs
 
 loop-again : tie.Need-loop-again Inv-loop μ-loop
-loop-again c = search cover-more
+loop-again c = search cover-group
 
 same-length : tie.Need-same-length Inv-loop μ-loop
 same-length c = search needs
 
 returns : tie.Need-returns Inv-loop μ-loop
-returns c = search cover-done
+returns c = search cover-end
 
 pub cover-all-spec : {M : Type 1} → statement M
 cover-all-spec =
@@ -39,8 +42,9 @@ cover-all-spec =
     Inv-loop
     μ-loop
     loop-holds
-    cover-from-requires
-    add-i
+    mul-cover-group
+    cover-group-requires
+    add-group
     loop-less
     loop-again
     same-length

@@ -1,5 +1,5 @@
 -- `builder::inner::marks::plain_mark` meets its contract. Assumes nothing.
-use Rattle.builder.proofs.Ranking.{plain-zero, plain-four, plain-two}
+use Rattle.builder.proofs.Ranking.{plain-zero, plain-else}
 use Rattle.builder.proofs.inner.marks.plain_mark.Statement.{statement}
 use Rattle.builder.proofs.inner.marks.plain_mark.Tie as tie
 
@@ -7,10 +7,7 @@ returns : tie.Need-returns
 returns c = search plain-zero
 
 returns-2 : tie.Need-returns-2
-returns-2 c = search plain-four
-
-returns-3 : tie.Need-returns-3
-returns-3 c = search plain-two
+returns-2 c = search plain-else
 
 pub plain-mark-spec : {M : Type 1} → statement M
-plain-mark-spec = tie.close (tie.spec returns returns-2 returns-3)
+plain-mark-spec = tie.close (tie.spec returns returns-2)

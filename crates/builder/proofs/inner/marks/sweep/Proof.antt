@@ -1,25 +1,28 @@
 -- `builder::inner::marks::sweep` meets its contract. Assumes nothing.
-use Rattle.builder.proofs.Orders.{sweep-start, sweep-more, sweep-end}
+use Prim.Native.Nat.{_*_}
 use Rattle.builder.specs.Marks.{Swept}
-use Rattle.builder.proofs.Orders.{sweep-start, sweep-more}
+use Rattle.builder.proofs.Orders.{sweep-start, sweep-group, sweep-all}
 use borrow.Author.Needs.{needs}
 use Rattle.builder.proofs.inner.marks.sweep.Statement.{statement}
 use Rattle.builder.proofs.inner.marks.sweep.Tie as tie
 
 abbrev Inv-loop : tie.InvT-loop
-Inv-loop marks₀ targets n₀ i₀ marks n i = Swept targets marks₀ i n marks
+Inv-loop marks₀ targets n₀ group₀ marks n group = Swept targets marks₀ (16 * group) 4096 n marks
 
 abbrev μ-loop : tie.MeasureT-loop
-μ-loop marks₀ targets n₀ i₀ marks n i = i
+μ-loop marks₀ targets n₀ group₀ marks n group = group
 
 loop-holds : tie.Need-loop-holds Inv-loop μ-loop
-loop-holds c = sweep-start _ _
+loop-holds c = sweep-start _ _ 4096
 
-sub-i : tie.Need-sub-i Inv-loop μ-loop
-sub-i c = search needs
+sub-group : tie.Need-sub-group Inv-loop μ-loop
+sub-group c = search needs
 
-open-if-requires : tie.Need-open-if-requires Inv-loop μ-loop
-open-if-requires c κs = search needs
+mul-sweep-group : tie.Need-mul-sweep-group Inv-loop μ-loop
+mul-sweep-group c = search needs
+
+sweep-group-requires : tie.Need-sweep-group-requires Inv-loop μ-loop
+sweep-group-requires c κs = search needs
 
 add-n : tie.Need-add-n Inv-loop μ-loop
 add-n c = search needs
@@ -28,13 +31,13 @@ loop-less : tie.Need-loop-less Inv-loop μ-loop
 loop-less c = search needs
 
 loop-again : tie.Need-loop-again Inv-loop μ-loop
-loop-again c = search sweep-more
+loop-again c = search sweep-group
 
 same-length : tie.Need-same-length Inv-loop μ-loop
 same-length c = search needs
 
 returns : tie.Need-returns Inv-loop μ-loop
-returns c = search sweep-end
+returns c = search sweep-all
 
 pub sweep-spec : {M : Type 1} → statement M
 sweep-spec =
@@ -43,8 +46,9 @@ sweep-spec =
     Inv-loop
     μ-loop
     loop-holds
-    sub-i
-    open-if-requires
+    sub-group
+    mul-sweep-group
+    sweep-group-requires
     add-n
     loop-less
     loop-again

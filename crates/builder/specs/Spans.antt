@@ -1,0 +1,20 @@
+-- Spans of a list: the elements from one index up to another.
+use mathlib.Core.Bool.{Bool, true, false}
+use mathlib.Core.List.{List}
+use Prim.Native.Nat.{ℕ, _+_, _-_}
+use lib.Dec.{eqb, ltb}
+use lib.ListN.{getD}
+use Rattle.base.specs.Says.{every}
+use Rattle.base.specs.Walks.{pass}
+
+-- all elements from a up to b are v
+unfoldable pub allAre : ℕ → ℕ → ℕ → List ℕ → Bool
+allAre v a b l = every (b - a) (λ k. eqb (getD l (a + k) 0) v)
+
+-- f x for the element x at i, if i is from a up to b
+unfoldable pub among : ℕ → ℕ → (ℕ → ℕ) → ℕ → ℕ → ℕ
+among a b f i x = elim (ltb i a) [ true ↦ x | false ↦ elim (ltb i b) [ true ↦ f x | false ↦ x ] ]
+
+-- these elements made anew, the others as they were
+unfoldable pub remade : ℕ → ℕ → (ℕ → ℕ) → List ℕ → List ℕ
+remade a b f l = pass (among a b f) 0 l
