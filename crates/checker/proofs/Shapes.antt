@@ -98,9 +98,6 @@ module _ (marks : List ℕ) (from : ℕ) where
       → eqb r 0 ≡ every n (λ j. eqb (getD marks (from + j) 0) 0)
   all-blank n r e = sym (at-most-0 r) ∙ e ∙ all-same _ _ n (λ j l. rated-0 (getD marks (from + j) 0))
 
-  pub blank-at : (n : ℕ) {b : Bool} → b ≡ every n (λ j. eqb (getD marks (from + j) 0) 0) → b ≡ true → (j : ℕ) → j < n → getD marks (from + j) 0 ≡ 0
-  blank-at n e t j l = eqb→eq (getD marks (from + j) 0) 0 (every-at (λ j. eqb (getD marks (from + j) 0) 0) n j (T-true (sym e ∙ t)) l)
-
   -- 64 marks: the first n, and the others
   module _ (n most never : ℕ) (l : n ≤ 64) (z : 0 < never) where
     abbrev inFront : ℕ → Bool
@@ -131,6 +128,17 @@ module _ (marks : List ℕ) (from : ℕ) where
     pub line-within : {r : ℕ} {b : Bool} → leb r most ≡ every n inFront → r ≤ most
         → b ≡ every (64 - n) (λ j. eqb (getD marks (from + n + j) 0) 0) → b ≡ every 64 inLine
     line-within {r} e u h = h ∙ sym (in-parts ∙ rw (sym e ∙ le-leb r most u))
+
+-- the loop that goes on while 16 marks are 0: those of nodes after m are, and 16 more
+pub blank-more : (marks : List ℕ) (m n : ℕ) {b : Bool} → ((i : ℕ) → m < i → i < n → getD marks i 0 ≡ 0)
+    → b ≡ every 16 (λ j. eqb (getD marks (n + j) 0) 0) → b ≡ true → (i : ℕ) → m < i → i < n + 16 → getD marks i 0 ≡ 0
+blank-more marks m n h e t i u v = go (decLt i n)
+  where
+    go : Dec (i < n) → getD marks i 0 ≡ 0
+    go (yes l) = h i u l
+    go (no l) =
+        let q : n + (i - n) ≡ i = omega arith in
+        eqb→eq (getD marks i 0) 0 (rw q at (every-at (λ j. eqb (getD marks (n + j) 0) 0) 16 (i - n) (T-true (sym e ∙ t)) (omega arith)))
 
 -- what a mark other than 0 is, on a pair and on a kept node
 pair-mark : (x : ℕ) → (x ≡ 0 → ⊥) → not (eqb x 2) && leb x 4 ≡ eqb x 1 || (eqb x 3 || eqb x 4)

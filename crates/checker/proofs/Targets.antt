@@ -4,7 +4,7 @@ use mathlib.Core.Bool.{Bool, true, false, not}
 use mathlib.Core.Logic.{inl, inr}
 use mathlib.Core.List.{List}
 use mathlib.Core.Option.{Option, none, some}
-use Prim.Native.Nat.{ℕ, _+_, _-_, _*_, _/_, _%_, _≤_, _<_}
+use Prim.Native.Nat.{ℕ, _+_, _*_, _/_, _%_, _≤_, _<_}
 use native.Mathlib.Decide.{ℕ-discrete, decLt}
 use native.Mathlib.Omega.{arith}
 use borrow.Author.Tests.{eq-eqb, ne-eqb, lt-ltb, le-ltb}
@@ -201,12 +201,10 @@ node-below t (inr e) n = absurd (n e)
 
 -- the walk over the pairs: one that has no fault, and absent ones after it
 pub passed-over : (old new : Chart) (G : Graph) (m r : ℕ) {o : Option Refusal} → firstOf m (pairFault old new G) ≡ none → o ≡ pairFault old new G m
-    → missing o ≡ true → ((j : ℕ) → 0 < j → j < r → mark G (m + j) ≡ 0) → firstOf (m + r) (pairFault old new G) ≡ none
-passed-over old new G m r {o} e h t a = none-everywhere (pairFault old new G) (m + r) (λ i l. go i l (decLt i m) (ℕ-discrete i m))
+    → missing o ≡ true → ((i : ℕ) → m < i → i < r → mark G i ≡ 0) → firstOf r (pairFault old new G) ≡ none
+passed-over old new G m r {o} e h t a = none-everywhere (pairFault old new G) r (λ i l. go i l (decLt i m) (ℕ-discrete i m))
   where
-    go : (i : ℕ) → i < m + r → Dec (i < m) → Dec (i ≡ m) → pairFault old new G i ≡ none
+    go : (i : ℕ) → i < r → Dec (i < m) → Dec (i ≡ m) → pairFault old new G i ≡ none
     go i l (yes u) d = none-of (pairFault old new G) m i e u
     go i l (no n) (yes q) = rw q (sym h ∙ missing-none o t)
-    go i l (no n) (no d) =
-        let q : m + (i - m) ≡ i = omega arith in
-        sym (absent old new G i (rw q at (a (i - m) (omega arith) (omega arith))))
+    go i l (no n) (no d) = sym (absent old new G i (a i (omega arith) l))

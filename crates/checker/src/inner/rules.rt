@@ -1,6 +1,6 @@
 // All rules of refusal 32, in order: the start, then the targets by index.
 ghost use mathlib.Core.Path.{_≡_};
-ghost use Prim.Native.Nat.{ℕ, _+_, _<_, _≤_};
+ghost use Prim.Native.Nat.{ℕ, _<_, _≤_};
 ghost use lib.ListN.{length, getD};
 ghost use Rattle.base.specs.Options.{missing, firstOf};
 ghost use Rattle.base.specs.Says.{bool};
@@ -182,18 +182,22 @@ fn pair_fault<'a>(
     )
 }
 
-// How far the walk over the pairs goes on from pair m: 16 where a group of 16 is absent, as most are in most records, else 1.
-fn stride(marks: &[u8], m: usize) -> usize
+// A later pair up to which all are absent: groups of 16 absent pairs, most of most records, are passed over at once.
+fn next_pair(marks: &[u8], m: usize) -> usize
     requires { ⌜ (m < 4096) × (length (now marks) ≡ 4160) ⌝ }
-    ensures { λ r. ⌜ (0 < r) × (m + r ≤ 4096) × ((j : ℕ) → 0 < j → j < r → getD (now (marks .entry)) (m + j) 0 ≡ 0) ⌝ }
+    ensures { λ r. ⌜ (m < r) × (r ≤ 4096) × ((i : ℕ) → m < i → i < r → getD (now (marks .entry)) i 0 ≡ 0) ⌝ }
 {
-    if m % 16 != 0 {
-        return 1;
+    let mut n = m + 1;
+    while n % 16 == 0 {
+        if 4096 <= n {
+            return n;
+        }
+        if !blank(marks, n, 16) {
+            return n;
+        }
+        n += 16;
     }
-    if blank(marks, m, 16) {
-        return 16;
-    }
-    1
+    n
 }
 
 // The lowest target index at fault.
@@ -217,7 +221,7 @@ fn first_fault<'a>(
         if !is_passed(f) {
             return f;
         }
-        m += stride(marks, m);
+        m = next_pair(marks, m);
     }
     Checked::Passed
 }
