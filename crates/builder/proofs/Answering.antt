@@ -28,8 +28,8 @@ use Rattle.builder.specs.declared.answers.Summary.{Summary}
 use Rattle.builder.specs.declared.answers.Built.the-variants as builts
 use Rattle.builder.specs.declared.answers.Verdict.{Verdict}
 use Rattle.builder.specs.declared.answers.Verdict.the-variants as verdicts
-use Rattle.builder.specs.Graphs.{Graph, graph, Sized}
-use Rattle.builder.specs.Turns.{explored}
+use Rattle.graph.specs.Graphs.{Graph, graph, Sized}
+use Rattle.detector.specs.Turns.{explored}
 use Rattle.builder.specs.Builds.{finished, startOf, built, recorded}
 use Rattle.builder.specs.Answers.{toldVerdict, lent, summary, refusal, answered, left}
 use Rattle.builder.proofs.Demand3.{record-passes}

@@ -24,16 +24,16 @@ use Rattle.checker.specs.Records.{recordOf, graphOf, mark, index, target, spot}
 use Rattle.checker.specs.Records as records
 use Rattle.checker.specs.Rules.{headOf, oldStart, newStart, markFits, targetFits, marksFit, targetsFit, shaped, startFits, keeps, joins, joinsStep, restsAt, ranked, leads, rowFits}
 use Rattle.checker.specs.Checks.{sized, refusal}
-use Rattle.builder.specs.Graphs.{Graph, firstPair, firstKept, marked}
-use Rattle.builder.specs.Turns.{rowsOf, leadsTo, stepOf, explored}
-use Rattle.builder.specs.Marks.{finalMarks}
+use Rattle.graph.specs.Graphs.{Graph, firstPair, firstKept, marked}
+use Rattle.detector.specs.Turns.{rowsOf, leadsTo, stepOf, explored}
+use Rattle.marker.specs.Marks.{finalMarks}
 use Rattle.builder.specs.Builds.{redirected, finalTargets, alone, lone, finished, built, startOf, recorded}
-use Rattle.builder.proofs.Ones.{one-there, one-only}
-use Rattle.builder.proofs.Graphs.{markAt, targetAt, marked-yes, marked-no, not-marked}
-use Rattle.builder.proofs.Turns.{leads-below}
-use Rattle.builder.proofs.Measure.{nothing-waits}
-use Rattle.builder.proofs.Invariant.{ToKept, ToPair, ToStep, Led, Stepped, explored-inv}
-use Rattle.builder.proofs.Marks.{rank-there, Final, final-marks}
+use Rattle.detector.proofs.Ones.{one-there, one-only}
+use Rattle.graph.proofs.Graphs.{markAt, targetAt, marked-yes, marked-no, not-marked}
+use Rattle.detector.proofs.Turns.{leads-below}
+use Rattle.detector.proofs.Measure.{nothing-waits}
+use Rattle.detector.proofs.Invariant.{ToKept, ToPair, ToStep, Led, Stepped, explored-inv}
+use Rattle.marker.proofs.Marks.{rank-there, Final, final-marks}
 use Rattle.builder.proofs.Passes.{Rules, passes}
 
 -- ---- the final targets

@@ -18,13 +18,13 @@ use Rattle.chart.specs.declared.places.NewPlace.{NewPlace}
 use Rattle.chart.specs.Places.{keptNumber, oldOf, newOf}
 use Rattle.align.specs.Steps.{fair}
 use Rattle.checker.specs.Rules.{startPair, startKept}
-use Rattle.builder.specs.Spans.{allAre, remade}
-use Rattle.builder.specs.Graphs.{Graph, graph, Sized, marked}
-use Rattle.builder.specs.Marks.{finalMarks}
+use Rattle.marker.specs.Spans.{allAre, remade}
+use Rattle.graph.specs.Graphs.{Graph, graph, Sized, marked}
+use Rattle.marker.specs.Marks.{finalMarks}
 use Rattle.builder.specs.Builds.{redirected, finalTargets, alone, lone, finished, startOf}
-use Rattle.builder.proofs.Parts.{graph-eq}
-use Rattle.builder.proofs.Stores.{Passing, passing-all}
-use Rattle.builder.proofs.Spans.{all-at, remade-same, passing-span}
+use Rattle.graph.proofs.Parts.{graph-eq}
+use Rattle.graph.proofs.Stores.{Passing, passing-all}
+use Rattle.marker.proofs.Spans.{all-at, remade-same, passing-span}
 
 -- ---- a target
 module _ (m : List ℕ) (x : ℕ) where

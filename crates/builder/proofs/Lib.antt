@@ -1,23 +1,7 @@
 -- Laws of builds.
-pub mod Steps
-pub mod Graphs
-pub mod Turns
-pub mod Measure
-pub mod Ones
-pub mod Invariant
-pub mod Marks
 pub mod Passes
 pub mod Demand3
-pub mod Stores
-pub mod Spans
-pub mod Parts
-pub mod Rows
-pub mod Exploring
-pub mod Ranking
 pub mod Finishing
 pub mod Answering
 pub mod Demands
-pub mod Least
 pub mod Right
-pub mod Quiet
-pub mod Orders

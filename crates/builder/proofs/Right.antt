@@ -12,14 +12,14 @@ use Rattle.chart.specs.Places.{pairNumber, keptNumber, oldOf, newOf}
 use Rattle.align.specs.declared.spots.Spot.{Spot}
 use Rattle.checker.specs.Records.{mark, target}
 use Rattle.checker.specs.Rules.{headOf}
-use Rattle.builder.specs.Graphs.{firstPair}
-use Rattle.builder.specs.Turns.{rowsOf, leadsTo, stepOf, explored}
+use Rattle.graph.specs.Graphs.{firstPair}
+use Rattle.detector.specs.Turns.{rowsOf, leadsTo, stepOf, explored}
 use Rattle.builder.specs.Builds.{finalTargets, alone}
-use Rattle.builder.proofs.Graphs.{markAt, setAt}
-use Rattle.builder.proofs.Invariant.{ToStep, explored-inv}
-use Rattle.builder.proofs.Turns.{leads-below}
-use Rattle.builder.proofs.Marks.{rank-there, Final}
-use Rattle.builder.proofs.Least.{Closed, least-open, Reached, covered-reached}
+use Rattle.graph.proofs.Graphs.{markAt, setAt}
+use Rattle.detector.proofs.Invariant.{ToStep, explored-inv}
+use Rattle.detector.proofs.Turns.{leads-below}
+use Rattle.marker.proofs.Marks.{rank-there, Final}
+use Rattle.marker.proofs.Least.{Closed, least-open, Reached, covered-reached}
 use Rattle.builder.proofs.Demand3.{starts, targets-length, marks, left, final, steps}
 
 -- unless the start is the lone kept node

@@ -18,7 +18,7 @@ use Rattle.builder.specs.declared.answers.Built.{Built}
 use Rattle.builder.specs.declared.answers.Built.the-variants as builts
 use Rattle.builder.specs.declared.answers.Verdict.{Verdict}
 use Rattle.builder.specs.declared.answers.Verdict.the-variants as verdicts
-use Rattle.builder.specs.Graphs.{Graph}
+use Rattle.graph.specs.Graphs.{Graph}
 use Rattle.builder.specs.Builds.{built, recorded}
 
 -- what the code's answers say

@@ -11,9 +11,9 @@ use Rattle.chart.specs.Places.{keptNumber, newOf}
 use Rattle.align.specs.Steps.{fair}
 use Rattle.checker.specs.Records.{Record, recordOf}
 use Rattle.checker.specs.Rules.{headOf, oldStart, newStart, startPair, startKept}
-use Rattle.builder.specs.Graphs.{Graph, graph, marked}
-use Rattle.builder.specs.Turns.{explored}
-use Rattle.builder.specs.Marks.{finalMarks}
+use Rattle.graph.specs.Graphs.{Graph, graph, marked}
+use Rattle.detector.specs.Turns.{explored}
+use Rattle.marker.specs.Marks.{finalMarks}
 
 -- lines 20 and 21: "At the end a target whose new place is kept becomes that kept node."
 unfoldable pub redirected : List ℕ → ℕ → ℕ

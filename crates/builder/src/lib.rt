@@ -11,7 +11,7 @@ ghost use Rattle.checker.specs.Records.{recordOf};
 ghost use Rattle.checker.specs.Checks.{inChart, refusal as checkRefusal};
 ghost use Rattle.builder.specs.declared.answers.Built.the-variants.{Done};
 ghost use Rattle.builder.specs.declared.answers.Summary.{Summary};
-ghost use Rattle.builder.specs.Graphs.{graph};
+ghost use Rattle.graph.specs.Graphs.{graph};
 ghost use Rattle.builder.specs.Answers.{told, toldVerdict, lent, summary, refusal, answered, left};
 use answers::Built;
 use answers::Summary;
@@ -20,7 +20,7 @@ use chart::charts::Head;
 use chart::charts::Judged;
 use chart::inner::faults::fault;
 use chart::inner::rows;
-use inner::explore::explore;
+use detector::inner::explore::explore;
 use inner::finish::count;
 use inner::finish::finish;
 

@@ -31,7 +31,7 @@ use Rattle.builder.specs.declared.answers.Summary.{Summary}
 use Rattle.builder.specs.declared.answers.Built.{Built}
 use Rattle.builder.specs.declared.answers.Built.the-variants as builts
 use Rattle.builder.specs.declared.answers.Verdict.the-variants as verdicts
-use Rattle.builder.specs.Graphs.{graph}
+use Rattle.graph.specs.Graphs.{graph}
 use Rattle.builder.specs.Builds.{recorded}
 use Rattle.builder.specs.Answers.{told, lent, summary, refusal, answered}
 use Rattle.builder.proofs.Demand3.{record-passes}

@@ -9,7 +9,7 @@ ghost use Rattle.text.specs.Written.{writing, printed};
 ghost use Rattle.checker.specs.Records.{recordOf};
 ghost use Rattle.checker.specs.Checks.{refusal};
 ghost use Rattle.checker.specs.Promise.{Promise};
-ghost use Rattle.builder.specs.Graphs.{graph};
+ghost use Rattle.graph.specs.Graphs.{graph};
 ghost use Rattle.builder.specs.Answers.{answered, left};
 ghost use Rattle.capi.specs.Lookups.{lookedUp, handed, ofRows};
 ghost use Rattle.capi.specs.Numbers.{chartOf, number, ofChart, ofText, unlessDue, ofBuild};

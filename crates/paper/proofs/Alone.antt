@@ -9,8 +9,8 @@ use Rattle.base.proofs.Walks.{zeros-at, same-at}
 use Rattle.chart.specs.Places.{keptNumber}
 use Rattle.chart.specs.Charts.{Chart}
 use Rattle.checker.specs.Records.{Record, recordOf, mark, index}
-use Rattle.builder.specs.Graphs.{firstKept}
-use Rattle.builder.proofs.Ones.{one-there, one-only}
+use Rattle.graph.specs.Graphs.{firstKept}
+use Rattle.detector.proofs.Ones.{one-there, one-only}
 use Rattle.paper.specs.Nodes.{Set, _∈_, Pair, Node, aligned, indicator, Edge, onlyNode, number, nodeNumber, NodeNumbered}
 use Rattle.paper.specs.Algorithm2.{lone}
 use Rattle.paper.specs.Algorithm1.{Search}

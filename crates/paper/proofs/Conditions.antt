@@ -13,13 +13,13 @@ use Rattle.chart.specs.Faultless.{FaultlessChart}
 use Rattle.checker.specs.Records.{mark, target}
 use Rattle.checker.specs.Rules.{headOf}
 use Rattle.checker.specs.Promise.{Words}
-use Rattle.builder.specs.Graphs.{firstPair}
-use Rattle.builder.specs.Turns.{explored}
+use Rattle.graph.specs.Graphs.{firstPair}
+use Rattle.detector.specs.Turns.{explored}
 use Rattle.builder.specs.Builds.{finalTargets, alone}
-use Rattle.builder.proofs.Graphs.{markAt}
-use Rattle.builder.proofs.Invariant.{explored-inv}
-use Rattle.builder.proofs.Least.{Closed}
-use Rattle.builder.proofs.Marks.{rank-pair}
+use Rattle.graph.proofs.Graphs.{markAt}
+use Rattle.detector.proofs.Invariant.{explored-inv}
+use Rattle.marker.proofs.Least.{Closed}
+use Rattle.marker.proofs.Marks.{rank-pair}
 use Rattle.builder.proofs.Demand3.{marks, left, final}
 use Rattle.builder.proofs.Right.{open-closed, open-least, covered-only, covered-all}
 use Rattle.paper.specs.Nodes.{Set, _∈_, _∉_, Pair, Node, aligned, indicator, Edge, edge, onlyNode, number, nodeNumber, pairOf, Numbered, NodeNumbered}

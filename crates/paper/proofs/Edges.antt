@@ -16,9 +16,9 @@ use Rattle.chart.specs.declared.places.NewPlace.{NewPlace}
 use Rattle.chart.specs.Places.{keptNumber, newOf}
 use Rattle.chart.specs.Charts.{Chart, size, to, operation, leaving}
 use Rattle.checker.specs.Records.{index}
-use Rattle.builder.specs.Graphs.{Graph, Sized, keep, aim}
-use Rattle.builder.specs.Turns.{leadsTo}
-use Rattle.builder.proofs.Graphs.{markAt, keep-target-other, by-aim}
+use Rattle.graph.specs.Graphs.{Graph, Sized, keep, aim}
+use Rattle.detector.specs.Turns.{leadsTo}
+use Rattle.graph.proofs.Graphs.{markAt, keep-target-other, by-aim}
 use Rattle.paper.specs.Nodes.{Set, _∈_, _∉_, _∪_, Pair, Node, aligned, indicator, Edge, edge, onlyPlace, onlyEdge, pairOf}
 use Rattle.paper.proofs.Successors.{successor}
 use Rattle.paper.proofs.Members.{in-either, in-first, in-neither, only-edge, the-edge, other-edge, other-pair}

@@ -15,8 +15,8 @@ use Rattle.chart.specs.declared.places.NewPlace.{NewPlace}
 use Rattle.chart.specs.Places.{keptNumber, newOf}
 use Rattle.chart.specs.Charts.{Chart}
 use Rattle.align.specs.Sets.{joined}
-use Rattle.builder.specs.Graphs.{Graph, Sized, marked, keep, due, join, unwait}
-use Rattle.builder.proofs.Graphs.{setAt, marked-yes, marked-no, marked-same, keep-node, keep-nodes, keep-mark, keep-wait, keep-mark-other, keep-set-other, keep-wait-other, join-mark, join-set, join-due, join-not-due, join-mark-other, join-set-other, join-wait-other}
+use Rattle.graph.specs.Graphs.{Graph, Sized, marked, keep, due, join, unwait}
+use Rattle.graph.proofs.Graphs.{setAt, marked-yes, marked-no, marked-same, keep-node, keep-nodes, keep-mark, keep-wait, keep-mark-other, keep-set-other, keep-wait-other, join-mark, join-set, join-due, join-not-due, join-mark-other, join-set-other, join-wait-other}
 use Rattle.paper.specs.Nodes.{Set, _∈_, _∉_, _∪_, Pair, onlyPlace, onlyPair, withPlace, pairOf, Numbered}
 use Rattle.paper.specs.Algorithm2.{State, toPlace, line29, toPair, popped}
 use Rattle.paper.proofs.Members.{in-either, only-pair, numbered, same-pair, other-pair}

@@ -19,12 +19,12 @@ use Rattle.align.proofs.Parts.{two-at-most}
 use Rattle.checker.specs.Records.{Record, recordOf, mark, target, index}
 use Rattle.checker.specs.Rules.{headOf}
 use Rattle.checker.specs.Promise.{Words}
-use Rattle.builder.specs.Graphs.{firstPair, firstKept, marked}
-use Rattle.builder.specs.Turns.{rowsOf, leadsTo, explored}
+use Rattle.graph.specs.Graphs.{firstPair, firstKept, marked}
+use Rattle.detector.specs.Turns.{rowsOf, leadsTo, explored}
 use Rattle.builder.specs.Builds.{redirected, finalTargets, alone}
-use Rattle.builder.proofs.Graphs.{markAt, targetAt, marked-yes, marked-no, is-marked, not-marked}
-use Rattle.builder.proofs.Invariant.{Inv, Every, ToKept, ToPair}
-use Rattle.builder.proofs.Marks.{rank-there}
+use Rattle.graph.proofs.Graphs.{markAt, targetAt, marked-yes, marked-no, is-marked, not-marked}
+use Rattle.detector.proofs.Invariant.{Inv, Every, ToKept, ToPair}
+use Rattle.marker.proofs.Marks.{rank-there}
 use Rattle.builder.proofs.Demand3.{marks, left, final}
 use Rattle.paper.specs.Nodes.{_∈_, _∉_, Pair, pair, Node, aligned, indicator, Edge, edge, number, nodeNumber, pairOf, Numbered, NodeNumbered}
 use Rattle.paper.specs.Algorithm2.{State, nodes, indicators, Replaced, Line20, whole}

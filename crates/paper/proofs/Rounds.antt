@@ -16,13 +16,13 @@ use Rattle.chart.specs.Faultless.{FaultlessChart}
 use Rattle.align.proofs.Parts.{two-at-most}
 use Rattle.checker.specs.Records.{index}
 use Rattle.checker.specs.Promise.{Words}
-use Rattle.builder.specs.Graphs.{Graph, marked, unwait}
-use Rattle.builder.specs.Turns.{rowsOf, next, setNow, begun, rowDone, secondDone, taken, explored}
-use Rattle.builder.proofs.Ones.{one-there, one-other}
-use Rattle.builder.proofs.Graphs.{markAt, setAt, Shaped, marked-yes, marked-no, unwait-shaped}
-use Rattle.builder.proofs.Turns.{set-now, set-had, set-now-small, next-lowest}
-use Rattle.builder.proofs.Measure.{row-lighter}
-use Rattle.builder.proofs.Invariant.{Inv, Every, turn-inv, begun-inv}
+use Rattle.graph.specs.Graphs.{Graph, marked, unwait}
+use Rattle.detector.specs.Turns.{rowsOf, next, setNow, begun, rowDone, secondDone, taken, explored}
+use Rattle.detector.proofs.Ones.{one-there, one-other}
+use Rattle.graph.proofs.Graphs.{markAt, setAt, Shaped, marked-yes, marked-no, unwait-shaped}
+use Rattle.detector.proofs.Turns.{set-now, set-had, set-now-small, next-lowest}
+use Rattle.detector.proofs.Measure.{row-lighter}
+use Rattle.detector.proofs.Invariant.{Inv, Every, turn-inv, begun-inv}
 use Rattle.paper.specs.Nodes.{_∈_, _∉_, onlyPair, pairOf, Numbered}
 use Rattle.paper.specs.Lines5to18.{Lines5to18}
 use Rattle.paper.specs.Algorithm2.{State, called, popped, ForEach, none-yet, one-more, Run, line1, lines3to18}

@@ -19,12 +19,12 @@ use Rattle.align.specs.declared.spots.Spot.{Spot}
 use Rattle.align.specs.Steps.{moved, arrived, step}
 use Rattle.align.proofs.Parts.{row-of, row-same, operands}
 use Rattle.checker.specs.Promise.{Words}
-use Rattle.builder.specs.Graphs.{Graph, marked, keep, aim, join, unwait}
-use Rattle.builder.specs.Turns.{rowsOf, leadsTo, stepOf, processed, rowDone}
-use Rattle.builder.specs.Turns as turns
-use Rattle.builder.proofs.Steps.{Fits}
-use Rattle.builder.proofs.Graphs.{markAt, Shaped, not-marked, keep-node, keep-nodes, keep-mark, keep-mark-other, keep-shaped, by-aim, join-mark, join-mark-other, join-target, join-shaped}
-use Rattle.builder.proofs.Turns.{leads-below, step-of-fits}
+use Rattle.graph.specs.Graphs.{Graph, marked, keep, aim, join, unwait}
+use Rattle.detector.specs.Turns.{rowsOf, leadsTo, stepOf, processed, rowDone}
+use Rattle.detector.specs.Turns as turns
+use Rattle.detector.proofs.Steps.{Fits}
+use Rattle.graph.proofs.Graphs.{markAt, Shaped, not-marked, keep-node, keep-nodes, keep-mark, keep-mark-other, keep-shaped, by-aim, join-mark, join-mark-other, join-target, join-shaped}
+use Rattle.detector.proofs.Turns.{leads-below, step-of-fits}
 use Rattle.paper.specs.Nodes.{_∈_, _∉_, _∪_, Pair, pair, aligned, indicator, edge, onlyPlace, pairOf}
 use Rattle.paper.specs.Lines5to18.{Lines5to18}
 use Rattle.paper.specs.Algorithm2.{State, toPlace, line27, toPair, process, called}

@@ -34,8 +34,8 @@ use Rattle.align.proofs.Onto.{same→eq, found}
 use Rattle.align.proofs.Moves.{onward-below}
 use Rattle.align.proofs.Parts.{before, stands, same-row, row-of, row-same, operands}
 use Rattle.checker.specs.Promise.{Words}
-use Rattle.builder.proofs.Steps.{row-a}
-use Rattle.builder.proofs.Graphs.{join-small}
+use Rattle.detector.proofs.Steps.{row-a}
+use Rattle.graph.proofs.Graphs.{join-small}
 use Rattle.paper.specs.Nodes.{Set, _∈_, ∅, _∪_}
 use Rattle.paper.specs.Lines5to18.{Meet, IsWith, IsWithout, onlyOld, InG, Line13, Loop, line12, line14, Lines11to14, Line15, Lines5to18, line7, line8, line10, line16, line17, line18, line13-cut}
 use Rattle.paper.proofs.Members.{in-first, in-second}

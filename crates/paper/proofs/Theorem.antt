@@ -13,13 +13,13 @@ use Rattle.chart.specs.Faultless.{FaultlessChart}
 use Rattle.checker.specs.Records.{Record, recordOf}
 use Rattle.checker.specs.Rules.{headOf}
 use Rattle.checker.specs.Promise.{Words}
-use Rattle.builder.specs.Graphs.{Graph, graph, firstPair, firstKept, marked}
-use Rattle.builder.specs.Turns.{explored}
-use Rattle.builder.specs.Marks.{finalMarks}
+use Rattle.graph.specs.Graphs.{Graph, graph, firstPair, firstKept, marked}
+use Rattle.detector.specs.Turns.{explored}
+use Rattle.marker.specs.Marks.{finalMarks}
 use Rattle.builder.specs.Builds.{finalTargets, alone, finished, built, startOf, recorded}
 use Rattle.builder.specs.Builds as builds
-use Rattle.builder.proofs.Graphs.{marked-no}
-use Rattle.builder.proofs.Measure.{nothing-waits}
+use Rattle.graph.proofs.Graphs.{marked-no}
+use Rattle.detector.proofs.Measure.{nothing-waits}
 use Rattle.paper.specs.Nodes.{Set, _∉_, Pair, Node, edge, number, NodeNumbered}
 use Rattle.paper.specs.Algorithm2.{DifferenceGraph, Ended, line19, lone, whole, returned}
 use Rattle.paper.specs.Algorithm1.{Search}

@@ -23,8 +23,8 @@ use Rattle.checker.specs.Rules.{headOf, startPair, startKept}
 use Rattle.builder.specs.declared.answers.Summary.{Summary}
 use Rattle.builder.specs.declared.answers.Built.{Built}
 use Rattle.builder.specs.declared.answers.Built.the-variants as builts
-use Rattle.builder.specs.Graphs.{Graph, graph}
-use Rattle.builder.specs.Turns.{explored}
+use Rattle.graph.specs.Graphs.{Graph, graph}
+use Rattle.detector.specs.Turns.{explored}
 use Rattle.builder.specs.Builds.{alone, built, startOf, recorded}
 use Rattle.builder.specs.Answers.{told, lent, summary, refusal, answered, left}
 use Rattle.report.specs.Printed.{Small}

@@ -27,9 +27,9 @@ use Rattle.text.specs.Texts as text-texts
 use Rattle.text.specs.Written as text-written
 use Rattle.align.specs.Sets as align-sets
 use Rattle.align.specs.Steps as align-steps
-use Rattle.builder.specs.Graphs as builder-graphs
-use Rattle.builder.specs.Turns as builder-turns
-use Rattle.builder.specs.Marks as builder-marks
+use Rattle.graph.specs.Graphs as builder-graphs
+use Rattle.detector.specs.Turns as builder-turns
+use Rattle.marker.specs.Marks as builder-marks
 use Rattle.builder.specs.Answers as builder-answers
 use Rattle.builder.specs.Builds as builder-builds
 use Rattle.report.specs.Lines as report-lines

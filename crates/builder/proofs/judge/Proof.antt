@@ -1,6 +1,6 @@
 -- `builder::judge` meets its contract: the lengths, the old chart, the new one. Assumes nothing.
 use borrow.Author.Tests.{not-true, not-false}
-use Rattle.builder.specs.Graphs.{graph}
+use Rattle.graph.specs.Graphs.{graph}
 use Rattle.builder.proofs.Answering.{judge-lengths, judge-old, judge-new}
 use borrow.Author.Needs.{needs}
 use Rattle.builder.proofs.judge.Statement.{statement}

@@ -4,19 +4,19 @@ ghost use mathlib.Core.List.{map};
 ghost use Prim.Native.Nat.{_+_, _-_, _≤_, _<_};
 ghost use lib.ListN.{length, drop};
 ghost use Rattle.base.specs.Walks.{count};
-ghost use Rattle.builder.specs.Spans.{allAre, remade};
-ghost use Rattle.builder.specs.Graphs.{graph, Sized};
+ghost use Rattle.marker.specs.Spans.{allAre, remade};
+ghost use Rattle.graph.specs.Graphs.{graph, Sized};
 ghost use Rattle.builder.specs.Builds.{redirected, alone, lone, finished, startOf};
-use crate::inner::buffers;
-use crate::inner::explore::first_kept;
-use crate::inner::explore::first_pair;
-use crate::inner::graphs::is_marked;
-use crate::inner::marks::rank;
 use align::inner::step::fair;
 use chart::charts::Head;
 use chart::inner::pairs::kept;
 use chart::inner::pairs::new_of;
 use chart::inner::pairs::old_of;
+use detector::inner::explore::first_kept;
+use detector::inner::explore::first_pair;
+use graph::inner::buffers;
+use graph::inner::graphs::is_marked;
+use marker::inner::marks::rank;
 
 // A target whose new place is kept becomes that kept node.
 fn redirect(marks: &[u8], x: u16) -> u16

@@ -1,6 +1,6 @@
 -- `builder::inner::finish::all_unused` meets its contract. Assumes nothing.
 use Prim.Native.Nat.{_-_}
-use Rattle.builder.proofs.Spans.{Alike, alike-start, alike-more, alike-end}
+use Rattle.marker.proofs.Spans.{Alike, alike-start, alike-more, alike-end}
 use borrow.Author.Needs.{needs}
 use Rattle.builder.proofs.inner.finish.all_unused.Statement.{statement}
 use Rattle.builder.proofs.inner.finish.all_unused.Tie as tie

@@ -3,7 +3,7 @@ use mathlib.Core.Path.{_≡_}
 use Prim.Native.Nat.{_-_, _≤_}
 use lib.ListN.{length}
 use Rattle.builder.specs.Builds.{redirected}
-use Rattle.builder.proofs.Stores.{Passing, passing-none}
+use Rattle.graph.proofs.Stores.{Passing, passing-none}
 use Rattle.builder.proofs.Finishing.{redirect-group, redirect-rest}
 use borrow.Author.Needs.{needs}
 use Rattle.builder.proofs.inner.finish.redirect_all.Statement.{statement}

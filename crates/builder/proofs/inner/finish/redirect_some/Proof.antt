@@ -1,7 +1,7 @@
 -- `builder::inner::finish::redirect_some` meets its contract. Assumes nothing.
 use Prim.Native.Nat.{_-_}
 use Rattle.builder.specs.Builds.{redirected}
-use Rattle.builder.proofs.Spans.{Remaking, remaking-start, remaking-more, remaking-end}
+use Rattle.marker.proofs.Spans.{Remaking, remaking-start, remaking-more, remaking-end}
 use borrow.Author.Needs.{needs}
 use Rattle.builder.proofs.inner.finish.redirect_some.Statement.{statement}
 use Rattle.builder.proofs.inner.finish.redirect_some.Tie as tie

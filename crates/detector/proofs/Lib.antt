@@ -1,0 +1,10 @@
+-- Laws of Algorithm 2.
+pub mod Steps
+pub mod Turns
+pub mod Measure
+pub mod Ones
+pub mod Invariant
+pub mod Processing
+pub mod Rows
+pub mod Exploring
+pub mod Quiet

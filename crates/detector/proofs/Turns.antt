@@ -1,0 +1,113 @@
+-- What a row comes to, case by case, and the pair that a turn takes. Assumes nothing.
+use mathlib.Core.Path.{_≡_, refl, ap, _∙_}
+use mathlib.Core.Bool.{Bool, true, false, not}
+use mathlib.Core.Option.{Option, none, some}
+use Prim.Native.Nat.{ℕ, _^_, _≤_, _<_}
+use native.Mathlib.Omega.{arith}
+use native.Mathlib.Decide.{decLt}
+use borrow.Author.Tests.{lt-ltb, le-ltb, eqb-false, eqb-true, not-true, not-false}
+use lib.Dec.{eqb}
+use lib.ListN.{length, getD}
+use Rattle.base.proofs.Walks.{first-is, none-passes}
+use Rattle.chart.specs.Charts.{Chart, size, operation}
+use Rattle.chart.specs.Faultless.{FaultlessChart}
+use Rattle.chart.specs.Places.{pairNumber, keptNumber, oldOf, newOf}
+use Rattle.align.specs.declared.spots.Spot.{Spot}
+use Rattle.graph.specs.Graphs.{Graph, marked, keep, aim, join}
+use Rattle.detector.specs.Turns.{rowsOf, leadsTo, lowest, next, setNow, stepOf, arrived, processed, rowDone}
+use Rattle.detector.proofs.Steps.{Fits, row-to, row-a, step-fits}
+use Rattle.graph.proofs.Graphs.{markAt, setAt, waitAt, marked-yes, marked-no, is-marked, not-marked, Shaped}
+
+module _ (old new : Chart) (g : Graph) (n v r : ℕ) where
+  no-row : size (rowsOf new n) ≤ r → rowDone old new g n v r ≡ g
+  unfolding rowDone
+  no-row l = rw (le-ltb r (size (rowsOf new n)) l, rowDone)
+
+  a-row : r < size (rowsOf new n) → {o : Option Spot} → stepOf old new n v r ≡ o → rowDone old new g n v r ≡ processed (old .alarm) g n r (leadsTo new n r) o
+  unfolding rowDone
+  a-row l e = rw (lt-ltb r (size (rowsOf new n)) l, rowDone) (ap (processed (old .alarm) g n r (leadsTo new n r)) e)
+
+  fails-is : processed (old .alarm) g n r (leadsTo new n r) none ≡ aim (keep g (leadsTo new n r)) n r (keptNumber (leadsTo new n r))
+  unfolding processed
+  fails-is = refl
+
+  kept-is : (h : Spot) → marked (g .marks) (keptNumber (leadsTo new n r)) ≡ true
+      → processed (old .alarm) g n r (leadsTo new n r) (some h) ≡ aim g n r (keptNumber (leadsTo new n r))
+  unfolding processed arrived
+  kept-is h e = rw (e, arrived)
+
+  joins-is : (h : Spot) → marked (g .marks) (keptNumber (leadsTo new n r)) ≡ false
+      → processed (old .alarm) g n r (leadsTo new n r) (some h)
+      ≡ aim (join (old .alarm) g (pairNumber (h .place) (leadsTo new n r)) (h .set)) n r (pairNumber (h .place) (leadsTo new n r))
+  unfolding processed arrived
+  joins-is h e = rw (e, arrived)
+
+  -- there is no such row; or its step fails; or it leads to a place that is kept already; or to a pair
+  pub by-row : (P : Graph → Type 0)
+      → (size (rowsOf new n) ≤ r → P g)
+      → (r < size (rowsOf new n) → stepOf old new n v r ≡ none → P (aim (keep g (leadsTo new n r)) n r (keptNumber (leadsTo new n r))))
+      → (r < size (rowsOf new n) → 0 < markAt g (keptNumber (leadsTo new n r)) → P (aim g n r (keptNumber (leadsTo new n r))))
+      → (r < size (rowsOf new n) → (h : Spot) → stepOf old new n v r ≡ some h → markAt g (keptNumber (leadsTo new n r)) ≡ 0
+      → P (aim (join (old .alarm) g (pairNumber (h .place) (leadsTo new n r)) (h .set)) n r (pairNumber (h .place) (leadsTo new n r))))
+      → P (rowDone old new g n v r)
+  by-row P a b c d = go (decLt r (size (rowsOf new n))) (stepOf old new n v r) refl
+    where
+      there : r < size (rowsOf new n) → (h : Spot) → stepOf old new n v r ≡ some h → (k : Bool) → marked (g .marks) (keptNumber (leadsTo new n r)) ≡ k → P (rowDone old new g n v r)
+      there l h e true t = rw (a-row l e ∙ kept-is h t) (c l (is-marked (g .marks) (keptNumber (leadsTo new n r)) t))
+      there l h e false t = rw (a-row l e ∙ joins-is h t) (d l h e (not-marked (g .marks) (keptNumber (leadsTo new n r)) t))
+
+      go : Dec (r < size (rowsOf new n)) → (o : Option Spot) → stepOf old new n v r ≡ o → P (rowDone old new g n v r)
+      go (no l) o e = rw (no-row (omega arith)) (a (omega arith))
+      go (yes l) none e = rw (a-row l e ∙ fails-is) (b l e)
+      go (yes l) (some h) e = there l h e (marked (g .marks) (keptNumber (leadsTo new n r))) refl
+
+-- ---- the pair in hand's set
+module _ (g : Graph) (n v : ℕ) where
+  pub set-now : 0 < markAt g n → setNow (g .marks) (g .sets) n v ≡ setAt g n
+  unfolding setNow
+  set-now l = rw (marked-yes (g .marks) n l, setNow)
+
+  pub set-had : markAt g n ≡ 0 → setNow (g .marks) (g .sets) n v ≡ v
+  unfolding setNow
+  set-had e = rw (marked-no (g .marks) n e, setNow)
+
+  pub set-now-small : v < 2 ^ 64 → Shaped g → setNow (g .marks) (g .sets) n v < 2 ^ 64
+  unfolding setNow
+  set-now-small l S = go (marked (g .marks) n)
+    where
+      go : (b : Bool) → (elim b as (λ _. ℕ) [ true ↦ getD (g .sets) n 0 | false ↦ v ]) < 2 ^ 64
+      go true = S .small n
+      go false = l
+
+-- ---- what a step comes to
+module _ (old new : Chart) (F : FaultlessChart old) (G : FaultlessChart new) (n v r : ℕ) (there : r < size (rowsOf new n)) where
+  pub leads-below : leadsTo new n r .0 < new .places
+  leads-below = row-to new G (newOf n .0) r there
+
+  pub step-of-fits : (b : ℕ) → old .places ≤ b → oldOf n .0 < b → v < 2 ^ 64 → (h : Spot) → stepOf old new n v r ≡ some h → Fits b h
+  unfolding stepOf
+  step-of-fits b w l k h e =
+      step-fits old F b w new (record { place = oldOf n; set = v }) (operation (rowsOf new n) r) (leadsTo new n r) (row-a new G (newOf n .0) r there)
+      (record { place = l; set = k }) .of h e
+
+-- ---- the lowest waiting pair
+pub record Lowest (g : Graph) (n : ℕ) : Type 0 where
+  pub below : n < length (g .waiting)
+  pub waits : 0 < waitAt g n
+  pub none-lower : (k : ℕ) → k < n → waitAt g k ≡ 0
+
+-- a turn takes the lowest waiting pair
+pub next-lowest : (g : Graph) (n : ℕ) → next g ≡ some n → Lowest g n
+unfolding next lowest
+next-lowest g n e =
+    let f = first-is (λ i x. not (eqb x 0)) (g .waiting) n e in
+    record {
+      below = f .below;
+      waits = (let z = eqb-false (waitAt g n) 0 (not-true _ (f .passes)) in omega arith);
+      none-lower = λ k l. eqb-true (waitAt g k) 0 (not-false _ (f .lowest k l));
+    }
+
+-- where there is no such pair, none waits
+pub none-waits : (g : Graph) → next g ≡ none → (k : ℕ) → k < length (g .waiting) → waitAt g k ≡ 0
+unfolding next lowest
+none-waits g e k l = eqb-true (waitAt g k) 0 (not-false _ (none-passes (λ i x. not (eqb x 0)) (g .waiting) e k l))

@@ -1,0 +1,2 @@
+-- Algorithm 2 over the buffers.
+pub mod Turns

@@ -1,0 +1,88 @@
+-- Algorithm 2 ("The builder"): begin, take the lowest waiting pair and its rows, until none waits.
+use mathlib.Core.Bool.{true, false, _&&_, not}
+use mathlib.Core.List.{List}
+use mathlib.Core.Option.{Option, none, some}
+use Prim.Native.Nat.{ℕ, _^_, min}
+use lib.Dec.{eqb, ltb}
+use lib.ListN.{getD, set, replicate}
+use Rattle.base.specs.Walks.{firstFrom}
+use Rattle.base.specs.Repeat.{repeated}
+use Rattle.chart.specs.declared.places.NewPlace.{NewPlace}
+use Rattle.chart.specs.Places.{pairNumber, keptNumber, oldOf, newOf}
+use Rattle.chart.specs.Charts.{Chart, size, to, operation, leaving}
+use Rattle.align.specs.declared.spots.Spot.{Spot}
+use Rattle.align.specs.Steps.{step}
+use Rattle.checker.specs.Records.{index}
+use Rattle.graph.specs.Graphs.{Graph, graph, firstPair, marked, keep, aim, join, unwait}
+
+-- the new rows that leave the new place of pair n (line 4), and where the r-th of them leads
+abbrev pub rowsOf : Chart → ℕ → List ℕ
+rowsOf new n = leaving (new .table) (newOf n .0)
+
+abbrev pub leadsTo : Chart → ℕ → ℕ → NewPlace
+leadsTo new n r = record { 0 = to (rowsOf new n) r }
+
+-- "Take the lowest waiting pair" (line 3): any byte other than 0 waits
+unfoldable pub lowest : List ℕ → Option ℕ
+lowest w = firstFrom (λ i x. not (eqb x 0)) 0 w
+
+unfoldable pub next : Graph → Option ℕ
+next g = lowest (g .waiting)
+
+-- pair t, where it waits and comes before n; else n
+unfoldable pub lowOf : List ℕ → ℕ → ℕ → ℕ
+lowOf w n t = elim (ltb t n && marked w t) [ true ↦ t | false ↦ n ]
+
+-- where to look on after the turn of pair n: no pair below this number waits, which is proved. Where n's place is kept, at 0; else at the
+-- lowest of n and those targets of its rows that wait
+unfoldable pub lowAfter : List ℕ → List ℕ → List ℕ → ℕ → ℕ
+lowAfter m t w n =
+    elim (marked m (keptNumber (newOf n))) [
+      | true ↦ 0
+      | false ↦ min (lowOf w n (getD t (index n 0) 0)) (lowOf w n (getD t (index n 1) 0))
+    ]
+
+-- "reading its set afresh for each": its own set; "Rows of the pair in hand are finished, under the set it had, even if it left the graph."
+unfoldable pub setNow : List ℕ → List ℕ → ℕ → ℕ → ℕ
+setNow m s n v = elim (marked m n) [ true ↦ getD s n 0 | false ↦ v ]
+
+-- "if q2 is kept, the target is kept q2. If not, the target is the pair; it joins the graph and its set gains the step's set." (lines 28
+-- to 33)
+unfoldable pub arrived : ℕ → Graph → ℕ → ℕ → NewPlace → Spot → Graph
+arrived alarm g n r q h =
+    elim (marked (g .marks) (keptNumber q)) [
+      | true ↦ aim g n r (keptNumber q)
+      | false ↦ aim (join alarm g (pairNumber (h .place) q) (h .set)) n r (pairNumber (h .place) q)
+    ]
+
+-- PROCESS, lines 22 to 33. "Failed step: q2 becomes kept, all pairs with new place q2 leave the graph and the waiting list; the row's
+-- target is kept q2." (lines 23 to 25)
+unfoldable pub processed : ℕ → Graph → ℕ → ℕ → NewPlace → Option Spot → Graph
+processed alarm g n r q none = aim (keep g q) n r (keptNumber q)
+processed alarm g n r q (some h) = arrived alarm g n r q h
+
+module _ (old new : Chart) where
+  -- line 1: "Waiting: node 0, set empty, in the graph, even where place 0 is the old alarm." "What these held before has no effect."
+  unfoldable pub begun : Graph
+  begun =
+      graph (set (replicate 4160 0) (firstPair old new) 1) (replicate 8192 65535) (replicate 4096 0)
+      (set (replicate 4096 0) (firstPair old new) 1)
+
+  -- the aligned step from pair n under the set v by the r-th row of its new place (lines 5 to 18 and 27)
+  unfoldable pub stepOf : ℕ → ℕ → ℕ → Option Spot
+  stepOf n v r = step old new (record { place = oldOf n; set = v }) (operation (rowsOf new n) r) (leadsTo new n r)
+
+  -- row r of pair n, under the set v, if there is such a row
+  unfoldable pub rowDone : Graph → ℕ → ℕ → ℕ → Graph
+  rowDone g n v r = elim (ltb r (size (rowsOf new n))) [ true ↦ processed (old .alarm) g n r (leadsTo new n r) (stepOf n v r) | false ↦ g ]
+
+  -- lines 3 to 18: pair n is taken, "then its rows in table order": a place has two at most
+  unfoldable pub secondDone : Graph → ℕ → ℕ → Graph
+  secondDone g n v = rowDone g n (setNow (g .marks) (g .sets) n v) 1
+
+  unfoldable pub taken : Graph → ℕ → Graph
+  taken g n = secondDone (rowDone (unwait g n) n (getD (g .sets) n 0) 0) n (getD (g .sets) n 0)
+
+  -- line 2: as long as a pair waits. No build takes as many as 2 ^ 80 turns: nothing waits where these end, which is proved.
+  unfoldable pub explored : Graph
+  explored = repeated next taken (2 ^ 80) begun

@@ -1,0 +1,94 @@
+// Algorithm 2 from its beginning until no pair waits.
+ghost use mathlib.Core.Path.{_≡_};
+ghost use mathlib.Core.List.{List};
+ghost use Prim.Native.Nat.{ℕ};
+ghost use Rattle.chart.specs.Charts.{charted};
+ghost use Rattle.chart.specs.Faultless.{FaultlessChart};
+ghost use Rattle.chart.specs.Lookup.{Indexed};
+ghost use Rattle.checker.specs.Rules.{startPair, startKept};
+ghost use Rattle.graph.specs.Graphs.{graph, Sized};
+ghost use Rattle.detector.specs.Turns.{begun, explored};
+use crate::inner::turns;
+use align::spots::Found;
+use chart::charts::Head;
+use graph::inner::buffers;
+
+// The pair of both starts.
+pub fn first_pair(old: Head, new: Head) -> usize
+    ensures { λ r. ⌜ r ≡ startPair old new ⌝ }
+{
+    0
+}
+
+// The new start, kept.
+pub fn first_kept(new: Head) -> usize
+    ensures { λ r. ⌜ r ≡ startKept new ⌝ }
+{
+    4096
+}
+
+// The start pair alone is in the graph, and waits.
+fn begin(
+    old: Head,
+    new: Head,
+    marks: &mut [u8],
+    targets: &mut [u16],
+    sets: &mut [u64],
+    waiting: &mut [u8],
+)
+    requires { ⌜ Sized (graph (now marks) (now targets) (now sets) (now waiting)) ⌝ }
+    ensures { λ _. ⌜ ((o n : List ℕ) → graph (now (marks .exit)) (now (targets .exit)) (now (sets .exit)) (now (waiting .exit)) ≡ begun (charted old o) (charted new n)) ⌝ }
+{
+    let first = first_pair(old, new);
+    buffers::fill8(marks, 0);
+    buffers::put8(marks, first, 1);
+    buffers::fill16(targets, 65535);
+    buffers::fill64(sets, 0);
+    buffers::fill8(waiting, 0);
+    buffers::put8(waiting, first, 1);
+}
+
+// Takes the lowest waiting pair up, as long as one waits.
+pub fn explore<'a>(
+    old: Head,
+    old_rows: &'a [u32],
+    new: Head,
+    new_rows: &'a [u32],
+    index: &[u8; 130],
+    marks: &mut [u8],
+    targets: &mut [u16],
+    sets: &mut [u64],
+    waiting: &mut [u8],
+)
+    requires { ⌜ FaultlessChart (charted old (now «old_rows»)) ⌝ }
+    requires { ⌜ FaultlessChart (charted new (now «new_rows»)) ⌝ }
+    requires { ⌜ Indexed (now «old_rows») (now «new_rows») (now index) ⌝ }
+    requires { ⌜ Sized (graph (now marks) (now targets) (now sets) (now waiting)) ⌝ }
+    ensures { λ _. ⌜ graph (now (marks .exit)) (now (targets .exit)) (now (sets .exit)) (now (waiting .exit))
+        ≡ explored (charted old (now («old_rows» .entry))) (charted new (now («new_rows» .entry))) ⌝ }
+{
+    begin(old, new, marks, targets, sets, waiting);
+    let mut from = 0;
+    loop {
+        match turns::lowest(&*waiting, from) {
+            Found::At(n) => {
+                turns::turn(
+                    old,
+                    old_rows,
+                    new,
+                    new_rows,
+                    index,
+                    marks,
+                    targets,
+                    sets,
+                    waiting,
+                    n,
+                );
+                from = turns::low_after(&*marks, &*targets, &*waiting, n);
+            }
+            Found::Nothing => {
+                return;
+            }
+        }
+    }
+}

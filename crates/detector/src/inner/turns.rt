@@ -1,0 +1,287 @@
+// Algorithm 2: the rows of a waiting pair, and the turns of a build.
+ghost use mathlib.Core.Path.{_≡_};
+ghost use mathlib.Core.Option.{some};
+ghost use Prim.Native.Nat.{ℕ, _<_, _≤_, min};
+ghost use lib.ListN.{length, getD};
+ghost use Rattle.chart.specs.Charts.{charted};
+ghost use Rattle.chart.specs.Faultless.{FaultlessChart};
+ghost use Rattle.chart.specs.Lookup.{Indexed};
+ghost use Rattle.align.specs.declared.spots.Spot.{Spot};
+ghost use Rattle.align.specs.Steps.{told, toldFound};
+ghost use Rattle.graph.specs.Graphs.{graph, Sized};
+ghost use Rattle.detector.specs.Turns.{lowest, lowOf, lowAfter, setNow, arrived, processed, rowDone, secondDone, taken};
+use align::inner::step::step;
+use align::spots::Aligned;
+use align::spots::Found;
+use align::spots::Spot;
+use base::scan::next;
+use chart::charts::Head;
+use chart::inner::pairs::kept;
+use chart::inner::pairs::new_of;
+use chart::inner::pairs::old_of;
+use chart::inner::pairs::pair;
+use chart::inner::rows::new_to;
+use chart::inner::rows::rows_of;
+use chart::places::NewPlace;
+use chart::places::Place;
+use graph::inner::buffers;
+use graph::inner::graphs;
+
+// The lowest pair that waits, where none waits below `from`.
+pub fn lowest(waiting: &[u8], from: usize) -> Found
+    requires { ⌜ (from ≤ length (now waiting)) × ((i : ℕ) → i < from → getD (now waiting) i 0 ≡ 0) ⌝ }
+    ensures { λ r. ⌜ toldFound r ≡ lowest (now (waiting .entry)) ⌝ }
+{
+    let i = next(waiting, from, waiting.len());
+    if i < waiting.len() {
+        return Found::At(i);
+    }
+    Found::Nothing
+}
+
+fn wide(x: u16) -> usize
+    ensures { λ r. ⌜ r ≡ x ⌝ }
+{
+    x as usize
+}
+
+fn lower(a: usize, b: usize) -> usize
+    ensures { λ r. ⌜ r ≡ min a b ⌝ }
+{
+    if a < b {
+        return a;
+    }
+    b
+}
+
+// Pair t, where it waits and comes before n; else n.
+fn low_of(waiting: &[u8], n: usize, t: u16) -> usize
+    requires { ⌜ n ≤ length (now waiting) ⌝ }
+    ensures { λ r. ⌜ r ≡ lowOf (now (waiting .entry)) n t ⌝ }
+{
+    let at = wide(t);
+    if n <= at {
+        return n;
+    }
+    if waiting[at] == 0 {
+        return n;
+    }
+    at
+}
+
+// Where to look on after the turn of pair n: no pair below waits.
+pub fn low_after(marks: &[u8], targets: &[u16], waiting: &[u8], n: usize) -> usize
+    requires { ⌜ (n < 4096) × (length (now marks) ≡ 4160) × (length (now targets) ≡ 8192) × (length (now waiting) ≡ 4096) ⌝ }
+    ensures { λ r. ⌜ r ≡ lowAfter (now (marks .entry)) (now (targets .entry)) (now (waiting .entry)) n ⌝ }
+{
+    if graphs::is_marked(marks, kept(new_of(n))) {
+        return 0;
+    }
+    let at = 2 * n;
+    lower(
+        low_of(waiting, n, targets[at]),
+        low_of(waiting, n, targets[at + 1]),
+    )
+}
+
+// Row r of pair n leads to new place q by a step that came to h.
+fn arrive(
+    old: Head,
+    marks: &mut [u8],
+    targets: &mut [u16],
+    sets: &mut [u64],
+    waiting: &mut [u8],
+    n: usize,
+    r: usize,
+    q: NewPlace,
+    h: Spot,
+)
+    requires { ⌜ (n < 4096) × (r < 2) × (q .0 < 64) × (h .place .0 < 64) ⌝ }
+    requires { ⌜ Sized (graph (now marks) (now targets) (now sets) (now waiting)) ⌝ }
+    ensures { λ _. ⌜ graph (now (marks .exit)) (now (targets .exit)) (now (sets .exit)) (now (waiting .exit))
+        ≡ arrived (old .alarm) (graph (now (marks .entry)) (now (targets .entry)) (now (sets .entry)) (now (waiting .entry))) n r q h ⌝ }
+{
+    let node = kept(q);
+    if graphs::is_marked(&*marks, node) {
+        graphs::aim(&*marks, targets, n, r, node);
+        return;
+    }
+    let at = pair(h.place, q);
+    graphs::join(old, marks, sets, waiting, at, h.set);
+    graphs::aim(&*marks, targets, n, r, at);
+}
+
+// Row r of pair n leads to new place q, by a step that came to a spot or failed.
+fn process(
+    old: Head,
+    marks: &mut [u8],
+    targets: &mut [u16],
+    sets: &mut [u64],
+    waiting: &mut [u8],
+    n: usize,
+    r: usize,
+    q: NewPlace,
+    came: Aligned,
+)
+    requires { ⌜ (n < 4096) × (r < 2) × (q .0 < 64) ⌝ }
+    requires { ⌜ ((h : Spot) → told came ≡ some h → h .place .0 < 64) ⌝ }
+    requires { ⌜ Sized (graph (now marks) (now targets) (now sets) (now waiting)) ⌝ }
+    ensures { λ _. ⌜ graph (now (marks .exit)) (now (targets .exit)) (now (sets .exit)) (now (waiting .exit))
+        ≡ processed (old .alarm) (graph (now (marks .entry)) (now (targets .entry)) (now (sets .entry)) (now (waiting .entry))) n r q (told came) ⌝ }
+{
+    match came {
+        Aligned::To(h) => {
+            arrive(old, marks, targets, sets, waiting, n, r, q, h);
+        }
+        Aligned::Failed => {
+            graphs::keep(marks, targets, sets, waiting, q);
+            graphs::aim(&*marks, targets, n, r, kept(q));
+        }
+    }
+}
+
+// Row r of pair n, if there is such a row, under the set v.
+fn row<'a>(
+    old: Head,
+    old_rows: &'a [u32],
+    new: Head,
+    new_rows: &'a [u32],
+    index: &[u8; 130],
+    marks: &mut [u8],
+    targets: &mut [u16],
+    sets: &mut [u64],
+    waiting: &mut [u8],
+    n: usize,
+    v: u64,
+    r: usize,
+)
+    requires { ⌜ FaultlessChart (charted old (now «old_rows»)) ⌝ }
+    requires { ⌜ FaultlessChart (charted new (now «new_rows»)) ⌝ }
+    requires { ⌜ Indexed (now «old_rows») (now «new_rows») (now index) ⌝ }
+    requires { ⌜ (n < 4096) × (r < 2) ⌝ }
+    requires { ⌜ Sized (graph (now marks) (now targets) (now sets) (now waiting)) ⌝ }
+    ensures { λ _. ⌜ graph (now (marks .exit)) (now (targets .exit)) (now (sets .exit)) (now (waiting .exit))
+        ≡ rowDone (charted old (now («old_rows» .entry))) (charted new (now («new_rows» .entry))) (graph (now (marks .entry)) (now (targets .entry)) (now (sets .entry)) (now (waiting .entry))) n v r ⌝ }
+{
+    let part = rows_of(old_rows, new_rows, index, Place::New(new_of(n)));
+    if r < part.len() / 6 {
+        let from = Spot {
+            place: old_of(n),
+            set: v,
+        };
+        let came = step(old, old_rows, new, new_rows, index, from, part, r);
+        process(
+            old,
+            marks,
+            targets,
+            sets,
+            waiting,
+            n,
+            r,
+            new_to(part, r),
+            came,
+        );
+    }
+}
+
+// The set of pair n: its own, or the one it had where it has left the graph.
+fn set_now(marks: &[u8], sets: &[u64], n: usize, v: u64) -> u64
+    requires { ⌜ (n < length (now marks)) × (n < length (now sets)) ⌝ }
+    ensures { λ r. ⌜ r ≡ setNow (now (marks .entry)) (now (sets .entry)) n v ⌝ }
+{
+    if marks[n] != 0 {
+        return sets[n];
+    }
+    v
+}
+
+// The second row of pair n, which had the set v at its first.
+fn second_row<'a>(
+    old: Head,
+    old_rows: &'a [u32],
+    new: Head,
+    new_rows: &'a [u32],
+    index: &[u8; 130],
+    marks: &mut [u8],
+    targets: &mut [u16],
+    sets: &mut [u64],
+    waiting: &mut [u8],
+    n: usize,
+    v: u64,
+)
+    requires { ⌜ FaultlessChart (charted old (now «old_rows»)) ⌝ }
+    requires { ⌜ FaultlessChart (charted new (now «new_rows»)) ⌝ }
+    requires { ⌜ Indexed (now «old_rows») (now «new_rows») (now index) ⌝ }
+    requires { ⌜ n < 4096 ⌝ }
+    requires { ⌜ Sized (graph (now marks) (now targets) (now sets) (now waiting)) ⌝ }
+    ensures { λ _. ⌜ graph (now (marks .exit)) (now (targets .exit)) (now (sets .exit)) (now (waiting .exit))
+        ≡ secondDone (charted old (now («old_rows» .entry))) (charted new (now («new_rows» .entry))) (graph (now (marks .entry)) (now (targets .entry)) (now (sets .entry)) (now (waiting .entry))) n v ⌝ }
+{
+    let own = set_now(&*marks, &*sets, n, v);
+    row(
+        old,
+        old_rows,
+        new,
+        new_rows,
+        index,
+        marks,
+        targets,
+        sets,
+        waiting,
+        n,
+        own,
+        1,
+    );
+}
+
+// Takes pair n up.
+pub fn turn<'a>(
+    old: Head,
+    old_rows: &'a [u32],
+    new: Head,
+    new_rows: &'a [u32],
+    index: &[u8; 130],
+    marks: &mut [u8],
+    targets: &mut [u16],
+    sets: &mut [u64],
+    waiting: &mut [u8],
+    n: usize,
+)
+    requires { ⌜ FaultlessChart (charted old (now «old_rows»)) ⌝ }
+    requires { ⌜ FaultlessChart (charted new (now «new_rows»)) ⌝ }
+    requires { ⌜ Indexed (now «old_rows») (now «new_rows») (now index) ⌝ }
+    requires { ⌜ n < 4096 ⌝ }
+    requires { ⌜ Sized (graph (now marks) (now targets) (now sets) (now waiting)) ⌝ }
+    ensures { λ _. ⌜ graph (now (marks .exit)) (now (targets .exit)) (now (sets .exit)) (now (waiting .exit))
+        ≡ taken (charted old (now («old_rows» .entry))) (charted new (now («new_rows» .entry))) (graph (now (marks .entry)) (now (targets .entry)) (now (sets .entry)) (now (waiting .entry))) n ⌝ }
+{
+    let first = sets[n];
+    buffers::put8(waiting, n, 0);
+    row(
+        old,
+        old_rows,
+        new,
+        new_rows,
+        index,
+        marks,
+        targets,
+        sets,
+        waiting,
+        n,
+        first,
+        0,
+    );
+    second_row(
+        old,
+        old_rows,
+        new,
+        new_rows,
+        index,
+        marks,
+        targets,
+        sets,
+        waiting,
+        n,
+        first,
+    );
+}

@@ -1,0 +1,4 @@
+-- Laws of what a build does to the buffers.
+pub mod Graphs
+pub mod Stores
+pub mod Parts

@@ -1,0 +1,2 @@
+-- The four lent buffers as one value.
+pub mod Graphs

@@ -1,0 +1,6 @@
+-- Laws of Algorithm 1.
+pub mod Marks
+pub mod Spans
+pub mod Ranking
+pub mod Least
+pub mod Orders

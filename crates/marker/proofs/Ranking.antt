@@ -1,0 +1,258 @@
+-- Algorithm 1 in the form in which the code meets it. Assumes nothing.
+use mathlib.Core.Path.{_≡_, refl, sym, ap, _∙_}
+use mathlib.Core.Bool.{Bool, true, false}
+use mathlib.Core.List.{List, [], _∷_}
+use mathlib.Core.Logic.{dite}
+use Prim.Native.Nat.{ℕ, zero, suc, _+_, _*_, _-_, _≤_, _<_}
+use native.Mathlib.Numerals.{add-one}
+use native.Mathlib.Omega.{arith}
+use native.Mathlib.Decide.{ℕ-discrete, decLt}
+use borrow.Author.Tests.{ne-eqb, lt-ltb, le-ltb}
+use lib.Dec.{eqb}
+use lib.ListN.{length, getD, set, drop, length-set, length-drop, drop-of-length-le, List·getD-eq-default}
+use lib.Seq.{drop-cons, getD-drop, getD-set-same, getD-set-other}
+use Rattle.checker.specs.Records.{index}
+use Rattle.marker.specs.Spans.{allAre, remade}
+use Rattle.marker.specs.Marks.{plainMark, plainAs, plainMarks, inQ, opening, allOpened, transitions, cover, covered, coverFrom, coverSpan, allCovered, finalMarks}
+use Rattle.graph.proofs.Stores.{passing-none, passing-all}
+use Rattle.marker.proofs.Spans.{all-at, passing-span}
+
+-- ---- plain marks
+module _ (v x : ℕ) where
+  pub plain-zero : x ≡ 0 → 0 ≡ plainAs v x
+  unfolding plainAs
+  plain-zero e = rw (e, plainAs)
+
+  pub plain-else : (x ≡ 0 → ⊥) → v ≡ plainAs v x
+  unfolding plainAs
+  plain-else e = rw (ne-eqb x 0 e, plainAs)
+
+module _ (i x : ℕ) where
+  plain-pair : i < 4096 → plainAs 4 x ≡ plainMark i x
+  unfolding plainMark
+  plain-pair l =
+      dite (ℕ-discrete x 0) (λ e. sym (plain-zero 4 x e) ∙ rw (e, plainMark))
+      (λ e. sym (plain-else 4 x e) ∙ rw (ne-eqb x 0 e, plainMark) (rw (lt-ltb i 4096 l, plainMark)))
+
+  plain-kept : 4096 ≤ i → plainAs 2 x ≡ plainMark i x
+  unfolding plainMark
+  plain-kept l =
+      dite (ℕ-discrete x 0) (λ e. sym (plain-zero 2 x e) ∙ rw (e, plainMark))
+      (λ e. sym (plain-else 2 x e) ∙ rw (ne-eqb x 0 e, plainMark) (rw (le-ltb i 4096 l, plainMark)))
+
+module _ (m : List ℕ) {m₁ : List ℕ} where
+  pub plain-few : length m < 4096 → m₁ ≡ remade 0 (length m) (plainAs 4) m → m₁ ≡ plainMarks m
+  unfolding plainMarks
+  plain-few l e =
+      let P = passing-span plainMark (plainAs 4) (passing-none plainMark m) (omega arith) (omega arith) e (λ k x p q. plain-pair k x (omega arith)) in
+      passing-all plainMark P (omega (arith, P .long))
+
+  pub plain-all : {m₂ : List ℕ} → 4096 ≤ length m → m₁ ≡ remade 0 4096 (plainAs 4) m → m₂ ≡ remade 4096 (length m) (plainAs 2) m₁ → m₂ ≡ plainMarks m
+  unfolding plainMarks
+  plain-all l e f =
+      let P = passing-span plainMark (plainAs 4) (passing-none plainMark m) (omega arith) l e (λ k x p q. plain-pair k x q) in
+      let Q = passing-span plainMark (plainAs 2) P l (omega (arith, P .long)) f (λ k x p q. plain-kept k x p) in
+      passing-all plainMark Q (omega (arith, Q .long))
+
+-- ---- open or kept
+module _ (m : List ℕ) (n : ℕ) where
+  pub in-past : length m ≤ n → false ≡ inQ m n
+  unfolding inQ
+  in-past l = let e : getD m n 0 ≡ 0 = List·getD-eq-default m 0 l in rw e
+
+  pub in-one : getD m n 0 ≡ 1 → true ≡ inQ m n
+  unfolding inQ
+  in-one e = rw e
+
+  pub in-two : (getD m n 0 ≡ 1 → ⊥) → eqb (getD m n 0) 2 ≡ inQ m n
+  unfolding inQ
+  in-two e = rw (ne-eqb (getD m n 0) 1 e)
+
+module _ (t m : List ℕ) (i x : ℕ) where
+  pub opens-not : (x ≡ 4 → ⊥) → false ≡ opening t m i x
+  unfolding opening
+  opens-not e = rw (ne-eqb x 4 e)
+
+  pub opens-first : {r : Bool} → x ≡ 4 → r ≡ inQ m (getD t (2 * i) 0) → r ≡ true → true ≡ opening t m i x
+  unfolding opening
+  opens-first e b c = let z : index i 0 ≡ 2 * i = omega arith in rw (e, z, sym b ∙ c)
+
+  pub opens-second : {r s : Bool} → x ≡ 4 → r ≡ inQ m (getD t (2 * i) 0) → r ≡ false → s ≡ inQ m (getD t (2 * i + 1) 0) → s ≡ opening t m i x
+  unfolding opening
+  opens-second e b c d = let z : index i 0 ≡ 2 * i = omega arith in rw (e, z, sym b ∙ c) d
+
+-- ---- covering
+module _ (m : List ℕ) (n : ℕ) where
+  pub cover-yes : n < length m → getD m n 0 ≡ 4 → set m n 3 ≡ cover m n
+  unfolding cover
+  cover-yes l e = rw (e, cover)
+
+  pub cover-no : (getD m n 0 ≡ 4 → ⊥) → m ≡ cover m n
+  unfolding cover
+  cover-no e = rw (ne-eqb (getD m n 0) 4 e, cover)
+
+  pub cover-past : length m ≤ n → m ≡ cover m n
+  cover-past l = cover-no (λ e. omega (arith, List·getD-eq-default m 0 {n = n} l))
+
+  length-cover : length (cover m n) ≡ length m
+  length-cover = dite (ℕ-discrete (getD m n 0) 4) (λ e. go e (decLt n (length m))) (λ e. ap length (sym (cover-no e)))
+    where
+      go : getD m n 0 ≡ 4 → Dec (n < length m) → length (cover m n) ≡ length m
+      go e (yes l) = ap length (sym (cover-yes l e)) ∙ length-set m n 3
+      go e (no l) = ap length (sym (cover-past (omega arith)))
+
+  -- the open pairs stay open, and no others become so
+  cover-ones : (k : ℕ) → eqb (getD (cover m n) k 0) 1 ≡ eqb (getD m k 0) 1
+  cover-ones k = dite (ℕ-discrete (getD m n 0) 4) (λ e. go e (decLt n (length m)) (ℕ-discrete k n)) (λ e. rw (← cover-no e))
+    where
+      go : getD m n 0 ≡ 4 → Dec (n < length m) → Dec (k ≡ n) → eqb (getD (cover m n) k 0) 1 ≡ eqb (getD m k 0) 1
+      go e (no l) d = rw (← cover-past (omega arith))
+      go e (yes l) (yes z) = rw (← cover-yes l e, z, e, getD-set-same m n 3 0 l)
+      go e (yes l) (no z) = rw (← cover-yes l e, getD-set-other m n k 3 0 z)
+
+module _ (t m : List ℕ) (i : ℕ) where
+  pub from-not : (getD m i 0 ≡ 1 → ⊥) → m ≡ coverFrom t m i
+  unfolding coverFrom
+  from-not e = rw (ne-eqb (getD m i 0) 1 e, coverFrom)
+
+  pub from-open : {m₁ m₂ : List ℕ} → getD m i 0 ≡ 1 → m₁ ≡ cover m (getD t (2 * i) 0) → m₂ ≡ cover m₁ (getD t (2 * i + 1) 0) → m₂ ≡ coverFrom t m i
+  unfolding coverFrom
+  from-open e a b = b ∙ ap (λ (x : List ℕ). cover x (getD t (2 * i + 1) 0)) a ∙ (let z : index i 0 ≡ 2 * i = omega arith in rw (e, coverFrom) (rw z))
+
+  from-is : getD m i 0 ≡ 1 → coverFrom t m i ≡ cover (cover m (getD t (index i 0) 0)) (getD t (index i 1) 0)
+  unfolding coverFrom
+  from-is e = rw (e, coverFrom)
+
+  from-ones : (k : ℕ) → eqb (getD (coverFrom t m i) k 0) 1 ≡ eqb (getD m k 0) 1
+  from-ones k =
+      dite (ℕ-discrete (getD m i 0) 1)
+      (λ e. rw (from-is e) (cover-ones (cover m (getD t (index i 0) 0)) (getD t (index i 1) 0) k ∙ cover-ones m (getD t (index i 0) 0) k))
+      (λ e. rw (← from-not e))
+
+  length-from : length (coverFrom t m i) ≡ length m
+  length-from =
+      dite (ℕ-discrete (getD m i 0) 1)
+      (λ e. ap length (from-is e) ∙ length-cover (cover m (getD t (index i 0) 0)) (getD t (index i 1) 0) ∙ length-cover m (getD t (index i 0) 0))
+      (λ e. ap length (sym (from-not e)))
+
+-- lists with the same open pairs have the same transitions
+same-transitions : (x y t : List ℕ) → length x ≡ length y → ((k : ℕ) → eqb (getD x k 0) 1 ≡ eqb (getD y k 0) 1) → transitions x t ≡ transitions y t
+unfolding transitions
+same-transitions [] [] t l h = refl
+same-transitions [] (b ∷ y) t l h = absurd (omega arith)
+same-transitions (a ∷ x) [] t l h = absurd (omega arith)
+same-transitions (a ∷ x) (b ∷ y) [] l h = refl
+same-transitions (a ∷ x) (b ∷ y) (u ∷ []) l h = refl
+same-transitions (a ∷ x) (b ∷ y) (u ∷ (v ∷ t)) l h =
+    let z = same-transitions x y t (omega arith) (λ k. h (suc k)) in
+    λ i. elim (h 0 i) [ true ↦ u ∷ (v ∷ z i) | false ↦ z i ]
+
+-- the loop that covers: what is left to do leads to the whole
+pub record Covering (t m₀ m : List ℕ) (i : ℕ) : Type 0 where
+  pub long : length m ≡ 4160
+  pub most : i ≤ 4096
+  pub same : allCovered t m₀ ≡ covered m (transitions (drop i m) (drop (2 * i) t))
+
+pub cover-start : (t m : List ℕ) → length m ≡ 4160 → Covering t m m 0
+unfolding allCovered
+cover-start t m l = record { long = l; most = omega arith; same = refl }
+
+module _ (t : List ℕ) (w : length t ≡ 8192) where
+  heads : (i : ℕ) → i < 4096 → drop (2 * i) t ≡ getD t (index i 0) 0 ∷ (getD t (index i 1) 0 ∷ drop (2 * (i + 1)) t)
+  heads i l =
+      let a : index i 0 ≡ 2 * i = omega arith in
+      let b : index i 1 ≡ suc (2 * i) = omega arith in
+      let c : 2 * (i + 1) ≡ suc (suc (2 * i)) = omega arith in
+      rw (a, b, c) (drop-cons t (2 * i) 0 (omega arith) ∙ ap (λ (x : List ℕ). getD t (2 * i) 0 ∷ x) (drop-cons t (suc (2 * i)) 0 (omega arith)))
+
+  open-step : (m : List ℕ) (i : ℕ) → i < 4096 → length m ≡ 4160 → covered m (transitions (drop i m) (drop (2 * i) t)) ≡ covered (coverFrom t m i) (transitions (drop (i + 1) m) (drop (2 * (i + 1)) t))
+  unfolding transitions covered
+  open-step m i l z =
+      rw (drop-cons m i 0 (omega arith), heads i l, add-one i)
+      (dite (ℕ-discrete (getD m i 0) 1) (λ e. rw (e, transitions) (rw (from-is t m i e))) (λ e. rw (ne-eqb (getD m i 0) 1 e, transitions) (rw (← from-not t m i e))))
+
+  pub cover-more : {m₀ m m′ : List ℕ} {i : ℕ} → Covering t m₀ m i → i < 4096 → m′ ≡ coverFrom t m i → Covering t m₀ m′ (i + 1)
+  cover-more {m = m} {m′ = m′} {i = i} C l e =
+      rw e
+      (record {
+        long = length-from t m i ∙ C .long;
+        most = omega arith;
+        same =
+            C .same ∙ open-step m i l (C .long)
+            ∙ ap (covered (coverFrom t m i))
+            (sym (same-transitions (drop (i + 1) (coverFrom t m i)) (drop (i + 1) m) (drop (2 * (i + 1)) t) (simp (length-drop, length-from) refl)
+            (λ k. rw (getD-drop, getD-drop) (from-ones t m i (i + 1 + k)))));
+      })
+
+  -- n pairs more
+  cover-span : {m₀ m : List ℕ} {i : ℕ} (n : ℕ) → Covering t m₀ m i → i + n ≤ 4096 → Covering t m₀ (coverSpan t i n m) (i + n)
+  unfolding coverSpan
+  cover-span {i = i} zero C l = let e : i + 0 ≡ i = omega arith in rw e C
+  cover-span {m = m} {i = i} (suc n) C l =
+      let e : i + suc n ≡ i + n + 1 = omega arith in
+      rw e (cover-more (cover-span n C (omega arith)) (omega arith) refl)
+
+  pub cover-group : {m₀ m m′ : List ℕ} {g : ℕ} → Covering t m₀ m (16 * g) → g < 256 → m′ ≡ coverSpan t (16 * g) 16 m → Covering t m₀ m′ (16 * (g + 1))
+  cover-group {g = g} C l e =
+      let z : 16 * (g + 1) ≡ 16 * g + 16 = omega arith in
+      rw (z, e) (cover-span 16 C (omega arith))
+
+  cover-done : {m₀ m : List ℕ} {i : ℕ} → Covering t m₀ m i → 4096 ≤ i → m ≡ allCovered t m₀
+  unfolding covered transitions
+  cover-done {m = m} {i = i} C l =
+      let e : drop (2 * i) t ≡ [] = drop-of-length-le t {i = 2 * i} (omega arith) in
+      sym (C .same ∙ rw e (none-left (drop i m)))
+    where
+      none-left : (x : List ℕ) → covered m (transitions x []) ≡ m
+      none-left [] = refl
+      none-left (a ∷ x) = refl
+
+  pub cover-end : {m₀ m : List ℕ} {g : ℕ} → Covering t m₀ m (16 * g) → 256 ≤ g → m ≡ allCovered t m₀
+  cover-end C l = cover-done C (omega arith)
+
+-- the loop over a span
+pub record Spanning (t : List ℕ) (a b : ℕ) (m₀ m : List ℕ) (i : ℕ) : Type 0 where
+  pub least : a ≤ i
+  pub most : i ≤ b
+  pub long : length m ≡ 4160
+  pub is : m ≡ coverSpan t a (i - a) m₀
+
+module _ (t : List ℕ) (a b : ℕ) where
+  pub span-start : {m : List ℕ} → length m ≡ 4160 → a ≤ b → Spanning t a b m m a
+  unfolding coverSpan
+  span-start l h = let z : a - a ≡ 0 = omega arith in record { least = omega arith; most = h; long = l; is = rw z }
+
+  pub span-more : {m₀ m m′ : List ℕ} {i : ℕ} → Spanning t a b m₀ m i → i < b → m′ ≡ coverFrom t m i → Spanning t a b m₀ m′ (i + 1)
+  unfolding coverSpan
+  span-more {m₀} {m} {i = i} S l e =
+      let z : i + 1 - a ≡ suc (i - a) = omega (arith, S .least) in
+      let w : a + (i - a) ≡ i = omega (arith, S .least) in
+      record {
+        least = omega (arith, S .least);
+        most = omega arith;
+        long = ap length e ∙ length-from t m i ∙ S .long;
+        is = e ∙ rw (z, coverSpan, w) (ap (λ (x : List ℕ). coverFrom t x i) (S .is));
+      }
+
+  pub span-end : {m₀ m : List ℕ} {i : ℕ} → Spanning t a b m₀ m i → b ≤ i → m ≡ coverSpan t a (b - a) m₀
+  span-end {m₀} {i = i} S l = let e : i ≡ b = omega (arith, S .most) in S .is ∙ ap (λ (x : ℕ). coverSpan t a (x - a) m₀) e
+
+module _ (t m : List ℕ) (i : ℕ) where
+  -- where no pair is there, none covers
+  span-none : (n : ℕ) → ((k : ℕ) → i ≤ k → k < i + n → getD m k 0 ≡ 0) → coverSpan t i n m ≡ m
+  unfolding coverSpan
+  span-none zero h = refl
+  span-none (suc n) h =
+      rw (span-none n (λ k p q. h k p (omega arith)))
+      (sym (from-not t m (i + n) (λ e. omega (arith, h (i + n) (omega arith) (omega arith)))))
+
+  pub group-none : {r : Bool} → r ≡ allAre 0 i (i + 16) m → r ≡ true → m ≡ coverSpan t i 16 m
+  group-none e h = sym (span-none 16 (all-at 0 i (i + 16) m (sym e ∙ h)))
+
+  pub group-some : {m′ : List ℕ} → m′ ≡ coverSpan t i (i + 16 - i) m → m′ ≡ coverSpan t i 16 m
+  group-some e = let z : i + 16 - i ≡ 16 = omega arith in e ∙ rw z
+
+-- ---- all of it
+pub rank-is : (n : ℕ) (t m : List ℕ) {m₁ m₂ m₃ m₄ : List ℕ} → m₁ ≡ plainMarks m → m₂ ≡ set m₁ n 1 → m₃ ≡ allOpened t m₂ → m₄ ≡ allCovered t m₃ → m₄ ≡ finalMarks n t m
+unfolding finalMarks
+rank-is n t m a b c d = d ∙ ap (allCovered t) (c ∙ ap (allOpened t) (b ∙ ap (λ (x : List ℕ). set x n 1) a))

@@ -1,0 +1,129 @@
+-- Spans of a list, in the form in which the code meets them. Assumes nothing.
+use mathlib.Core.Path.{_≡_, refl, sym, ap, _∙_}
+use mathlib.Core.Bool.{Bool, true, _&&_}
+use mathlib.Core.Logic.{dite}
+use mathlib.Core.List.{List}
+use Prim.Native.Nat.{ℕ, suc, _+_, _-_, _≤_, _<_}
+use native.Mathlib.Omega.{arith}
+use native.Mathlib.Decide.{decLt}
+use borrow.Author.Tests.{lt-ltb, le-ltb}
+use lib.Dec.{eqb, eqb→eq}
+use lib.ListN.{length, getD, set, length-set, List·getD-eq-default}
+use Rattle.base.specs.Says.{every}
+use Rattle.base.specs.Walks.{pass}
+use Rattle.base.proofs.Says.{every-at}
+use Rattle.base.proofs.Tests.{T-true}
+use Rattle.base.proofs.Walks.{length-pass, pass-at, pass-is}
+use Rattle.marker.specs.Spans.{allAre, among, remade}
+use Rattle.graph.proofs.Stores.{Passing, passing-more}
+
+-- ---- the loop that asks whether all elements from a up to b are v: of those below i, r says whether they are
+pub record Alike (v a b : ℕ) (l : List ℕ) (r : Bool) (i : ℕ) : Type 0 where
+  pub least : a ≤ i
+  pub most : i ≤ b
+  pub same : r ≡ allAre v a i l
+
+module _ (v a b : ℕ) (l : List ℕ) where
+  pub alike-start : a ≤ b → Alike v a b l true a
+  unfolding allAre every
+  alike-start h = let z : a - a ≡ 0 = omega arith in record { least = omega arith; most = h; same = rw z }
+
+  pub alike-more : {r : Bool} {i : ℕ} → Alike v a b l r i → i < b → Alike v a b l (r && eqb (getD l i 0) v) (i + 1)
+  unfolding allAre every
+  alike-more {r} {i} A h =
+      let z : i + 1 - a ≡ suc (i - a) = omega (arith, A .least) in
+      let w : a + (i - a) ≡ i = omega (arith, A .least) in
+      record { least = omega (arith, A .least); most = omega arith; same = rw (z, every, w) (ap (λ (x : Bool). x && eqb (getD l i 0) v) (A .same)) }
+
+  pub alike-end : {r : Bool} {i : ℕ} → Alike v a b l r i → b ≤ i → r ≡ allAre v a b l
+  alike-end {i = i} A h = let e : i ≡ b = omega (arith, A .most) in A .same ∙ ap (λ (x : ℕ). allAre v a x l) e
+
+  pub all-at : allAre v a b l ≡ true → (k : ℕ) → a ≤ k → k < b → getD l k 0 ≡ v
+  unfolding allAre
+  all-at e k p q =
+      let z : a + (k - a) ≡ k = omega arith in
+      eqb→eq (getD l k 0) v (rw z at (every-at (λ j. eqb (getD l (a + j) 0) v) (b - a) (k - a) (T-true e) (omega arith)))
+
+-- ---- the elements of a span made anew
+module _ (a b : ℕ) (f : ℕ → ℕ) (i x : ℕ) where
+  among-before : i < a → among a b f i x ≡ x
+  unfolding among
+  among-before p = rw (lt-ltb i a p, among)
+
+  among-in : a ≤ i → i < b → among a b f i x ≡ f x
+  unfolding among
+  among-in p q = rw (le-ltb i a p, among) (rw (lt-ltb i b q, among))
+
+  among-past : a ≤ i → b ≤ i → among a b f i x ≡ x
+  unfolding among
+  among-past p q = rw (le-ltb i a p, among) (rw (le-ltb i b q, among))
+
+  among-after : b ≤ i → among a b f i x ≡ x
+  among-after q = dite (decLt i a) among-before (λ p. among-past (omega arith) q)
+
+-- one store a turn: of those below i that is done
+pub record Remaking (a b : ℕ) (f : ℕ → ℕ) (d₀ d : List ℕ) (i : ℕ) : Type 0 where
+  pub least : a ≤ i
+  pub most : i ≤ b
+  pub short : b ≤ length d
+  pub done : Passing (among a b f) d₀ d i
+
+module _ (a b : ℕ) (f : ℕ → ℕ) where
+  pub remaking-start : (d : List ℕ) → a ≤ b → b ≤ length d → Remaking a b f d d a
+  remaking-start d p q =
+      record {
+        least = omega arith;
+        most = p;
+        short = q;
+        done = record { long = refl; most = omega arith; before = λ j l. sym (among-before a b f j (getD d j 0) l); after = λ j l. refl };
+      }
+
+  pub remaking-more : {d₀ d : List ℕ} {i v : ℕ} → Remaking a b f d₀ d i → i < b → v ≡ f (getD d i 0) → Remaking a b f d₀ (set d i v) (i + 1)
+  remaking-more {d = d} {i = i} R l e =
+      record {
+        least = omega (arith, R .least);
+        most = omega arith;
+        short = simp length-set (R .short);
+        done = passing-more (among a b f) (R .done) (omega (arith, R .short)) (e ∙ sym (among-in a b f i (getD d i 0) (R .least) l));
+      }
+
+  pub remaking-end : {d₀ d : List ℕ} {i : ℕ} → Remaking a b f d₀ d i → b ≤ i → d ≡ remade a b f d₀
+  unfolding remade
+  remaking-end {d₀} {d} {i} R l =
+      pass-is (among a b f) d₀ d (R .done .long)
+      (λ j k. dite (decLt j i) (λ m. R .done .before j m) (λ m. R .done .after j (omega arith) ∙ sym (among-after a b f j (getD d₀ j 0) (omega arith))))
+
+  -- what stays as it is need not be made anew
+  pub remade-same : (d : List ℕ) → ((k : ℕ) → a ≤ k → k < b → f (getD d k 0) ≡ getD d k 0) → d ≡ remade a b f d
+  unfolding remade
+  remade-same d h = pass-is (among a b f) d d refl (λ j l. sym (go j (decLt j a) (decLt j b)))
+    where
+      go : (j : ℕ) → Dec (j < a) → Dec (j < b) → among a b f j (getD d j 0) ≡ getD d j 0
+      go j (yes p) q = among-before a b f j (getD d j 0) p
+      go j (no p) (yes q) = among-in a b f j (getD d j 0) (omega arith) q ∙ h j (omega arith) q
+      go j (no p) (no q) = among-after a b f j (getD d j 0) (omega arith)
+
+-- a pass goes on by the elements from i up to j
+pub passing-span : (g : ℕ → ℕ → ℕ) (f : ℕ → ℕ) {d₀ d d₁ : List ℕ} {i j : ℕ} → Passing g d₀ d i → i ≤ j → j ≤ length d → d₁ ≡ remade i j f d
+    → ((k x : ℕ) → i ≤ k → k < j → f x ≡ g k x) → Passing g d₀ d₁ j
+unfolding remade
+passing-span g f {d₀ = d₀} {d = d} {i = i} {j = j} P a b e h =
+    rw e
+    (record {
+      long = long ∙ P .long;
+      most = omega (arith, long);
+      before = λ k l. pass-at (among i j f) d k (omega arith) ∙ early k l (decLt k i);
+      after = λ k l. late k l (decLt k (length d));
+    })
+  where
+    long : length (pass (among i j f) 0 d) ≡ length d
+    long = length-pass (among i j f) 0 d
+
+    early : (k : ℕ) → k < j → Dec (k < i) → among i j f k (getD d k 0) ≡ g k (getD d₀ k 0)
+    early k l (yes m) = among-before i j f k (getD d k 0) m ∙ P .before k m
+    early k l (no m) = among-in i j f k (getD d k 0) (omega arith) l ∙ h k (getD d k 0) (omega arith) l ∙ ap (g k) (P .after k (omega arith))
+
+    late : (k : ℕ) → j ≤ k → Dec (k < length d) → getD (pass (among i j f) 0 d) k 0 ≡ getD d₀ k 0
+    late k l (yes m) = pass-at (among i j f) d k m ∙ among-after i j f k (getD d k 0) l ∙ P .after k (omega arith)
+    late k l (no m) =
+        List·getD-eq-default (pass (among i j f) 0 d) 0 {n = k} (omega (arith, long)) ∙ sym (List·getD-eq-default d₀ 0 {n = k} (omega (arith, P .long)))

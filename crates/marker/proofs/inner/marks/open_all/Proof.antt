@@ -1,0 +1,35 @@
+-- `marker::inner::marks::open_all` meets its contract. Assumes nothing.
+use Rattle.marker.proofs.Marks.{fours}
+use Rattle.marker.proofs.Orders.{Sweeping, sweeping-start, sweeping-again, sweeping-less, sweeping-done}
+use borrow.Author.Needs.{needs}
+use Rattle.marker.proofs.inner.marks.open_all.Statement.{statement}
+use Rattle.marker.proofs.inner.marks.open_all.Tie as tie
+
+abbrev Inv-loop : tie.InvT-loop
+Inv-loop marks₀ targets marks = Sweeping targets marks₀ marks
+
+abbrev μ-loop : tie.MeasureT-loop
+μ-loop marks₀ targets marks = fours targets marks
+
+loop-holds : tie.Need-loop-holds Inv-loop μ-loop
+loop-holds c = search sweeping-start
+
+sweep-requires : tie.Need-sweep-requires Inv-loop μ-loop
+sweep-requires c κs = search needs
+
+same-length : tie.Need-same-length Inv-loop μ-loop
+same-length c = search needs
+
+returns : tie.Need-returns Inv-loop μ-loop
+returns c = search sweeping-done
+
+loop-less : tie.Need-loop-less Inv-loop μ-loop
+loop-less c = search sweeping-less
+
+loop-again : tie.Need-loop-again Inv-loop μ-loop
+loop-again c = search sweeping-again
+
+pub open-all-spec : {M : Type 1} → statement M
+open-all-spec =
+    tie.close
+    (tie.spec Inv-loop μ-loop loop-holds sweep-requires same-length returns loop-less loop-again)

@@ -1,0 +1,56 @@
+-- `marker::inner::marks::plain_some` meets its contract. Assumes nothing.
+use Prim.Native.Nat.{_-_}
+use Rattle.marker.specs.Marks.{plainAs}
+use Rattle.marker.proofs.Spans.{Remaking, remaking-start, remaking-more, remaking-end}
+use borrow.Author.Needs.{needs}
+use Rattle.marker.proofs.inner.marks.plain_some.Statement.{statement}
+use Rattle.marker.proofs.inner.marks.plain_some.Tie as tie
+
+abbrev Inv-loop : tie.InvT-loop
+Inv-loop marks₀ from to v i₀ marks i = Remaking from to (plainAs v) marks₀ marks i
+
+abbrev μ-loop : tie.MeasureT-loop
+μ-loop marks₀ from to v i₀ marks i = to - i
+
+loop-holds : tie.Need-loop-holds Inv-loop μ-loop
+loop-holds c = search remaking-start
+
+slice-read-x : tie.Need-slice-read-x Inv-loop μ-loop
+slice-read-x c = search needs
+
+plain-mark-requires : tie.Need-plain-mark-requires Inv-loop μ-loop
+plain-mark-requires c κs = search needs
+
+slice-write-marks : tie.Need-slice-write-marks Inv-loop μ-loop
+slice-write-marks c = search needs
+
+add-i : tie.Need-add-i Inv-loop μ-loop
+add-i c = search needs
+
+loop-less : tie.Need-loop-less Inv-loop μ-loop
+loop-less c = search needs
+
+loop-again : tie.Need-loop-again Inv-loop μ-loop
+loop-again c = search remaking-more
+
+same-length : tie.Need-same-length Inv-loop μ-loop
+same-length c = search needs
+
+returns : tie.Need-returns Inv-loop μ-loop
+returns c = search remaking-end
+
+pub plain-some-spec : {M : Type 1} → statement M
+plain-some-spec =
+    tie.close
+    (tie.spec
+    Inv-loop
+    μ-loop
+    loop-holds
+    slice-read-x
+    plain-mark-requires
+    slice-write-marks
+    add-i
+    loop-less
+    loop-again
+    same-length
+    returns)

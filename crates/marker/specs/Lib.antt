@@ -1,0 +1,3 @@
+-- Algorithm 1 over the buffers.
+pub mod Spans
+pub mod Marks
