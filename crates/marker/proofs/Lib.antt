@@ -4,3 +4,4 @@ pub mod Spans
 pub mod Ranking
 pub mod Least
 pub mod Orders
+pub mod Spreads

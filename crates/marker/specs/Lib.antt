@@ -1,3 +1,4 @@
 -- Algorithm 1 over the buffers.
 pub mod Spans
 pub mod Marks
+pub mod Spreads

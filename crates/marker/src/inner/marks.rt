@@ -5,6 +5,7 @@ ghost use lib.ListN.{length, getD};
 ghost use Rattle.marker.specs.Spans.{allAre, remade};
 ghost use Rattle.marker.specs.Marks.{plainAs, plainMarks, inQ, opening, Tried, Swept, allOpened};
 ghost use Rattle.marker.specs.Marks.{cover, coverFrom, coverSpan, allCovered, finalMarks};
+use crate::inner::spread::spread;
 use graph::inner::buffers;
 
 fn plain_mark(v: u8, x: u8) -> u8
@@ -16,7 +17,7 @@ fn plain_mark(v: u8, x: u8) -> u8
     v
 }
 
-// v for the marks of a span.
+// v for the marks of a span that are not 0.
 fn plain_some(marks: &mut [u8], from: usize, to: usize, v: u8)
     requires { ⌜ (from ≤ to) × (to ≤ length (now marks)) ⌝ }
     ensures { λ _. ⌜ now (marks .exit) ≡ remade from to (plainAs v) (now (marks .entry)) ⌝ }
@@ -73,7 +74,7 @@ fn opens(marks: &[u8], targets: &[u16], i: usize) -> bool
 }
 
 // Opens pair i, if it is to be opened, and says how many that were.
-fn open_if(marks: &mut [u8], targets: &[u16], i: usize) -> usize
+pub fn open_if(marks: &mut [u8], targets: &[u16], i: usize) -> usize
     requires { ⌜ (length (now marks) ≡ 4160) × (length (now targets) ≡ 8192) × (i < 4096) ⌝ }
     ensures { λ r. ⌜ Tried (now (targets .entry)) (now (marks .entry)) i r (now (marks .exit)) ⌝ }
 {
@@ -137,15 +138,18 @@ fn sweep(marks: &mut [u8], targets: &[u16]) -> usize
     n
 }
 
-// All pairs from which an open or kept node is a target.
+// All pairs from which an open or kept node is a target. That none is left is shown by the last pass. Where the second pass still opens pairs,
+// they stand on chains that go down, which rounds over few new places follow with less work than passes.
 fn open_all(marks: &mut [u8], targets: &[u16])
     requires { ⌜ (length (now marks) ≡ 4160) × (length (now targets) ≡ 8192) ⌝ }
     ensures { λ _. ⌜ now (marks .exit) ≡ allOpened (now (targets .entry)) (now (marks .entry)) ⌝ }
 {
+    sweep(marks, targets);
     loop {
         if sweep(marks, targets) == 0 {
             return;
         }
+        spread(marks, targets);
     }
 }
 

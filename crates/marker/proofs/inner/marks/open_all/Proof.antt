@@ -1,7 +1,9 @@
 -- `marker::inner::marks::open_all` meets its contract. Assumes nothing.
 use Rattle.marker.proofs.Marks.{fours}
-use Rattle.marker.proofs.Orders.{Sweeping, sweeping-start, sweeping-again, sweeping-less, sweeping-done}
+use Rattle.marker.proofs.Orders.{Sweeping, sweeping-start}
+use Rattle.marker.proofs.Spreads.{passes-again, passes-less, passes-done}
 use borrow.Author.Needs.{needs}
+use native.Mathlib.Omega.{arith}
 use Rattle.marker.proofs.inner.marks.open_all.Statement.{statement}
 use Rattle.marker.proofs.inner.marks.open_all.Tie as tie
 
@@ -11,25 +13,41 @@ Inv-loop marks₀ targets marks = Sweeping targets marks₀ marks
 abbrev μ-loop : tie.MeasureT-loop
 μ-loop marks₀ targets marks = fours targets marks
 
-loop-holds : tie.Need-loop-holds Inv-loop μ-loop
-loop-holds c = search sweeping-start
-
 sweep-requires : tie.Need-sweep-requires Inv-loop μ-loop
 sweep-requires c κs = search needs
+
+loop-holds : tie.Need-loop-holds Inv-loop μ-loop
+loop-holds c = sweeping-start _ _ (omega arith)
+
+sweep-requires-2 : tie.Need-sweep-requires-2 Inv-loop μ-loop
+sweep-requires-2 c κs = search needs
 
 same-length : tie.Need-same-length Inv-loop μ-loop
 same-length c = search needs
 
 returns : tie.Need-returns Inv-loop μ-loop
-returns c = search sweeping-done
+returns c = search passes-done
+
+spread-requires : tie.Need-spread-requires Inv-loop μ-loop
+spread-requires c κs = search needs
 
 loop-less : tie.Need-loop-less Inv-loop μ-loop
-loop-less c = search sweeping-less
+loop-less c = search passes-less
 
 loop-again : tie.Need-loop-again Inv-loop μ-loop
-loop-again c = search sweeping-again
+loop-again c = search passes-again
 
 pub open-all-spec : {M : Type 1} → statement M
 open-all-spec =
     tie.close
-    (tie.spec Inv-loop μ-loop loop-holds sweep-requires same-length returns loop-less loop-again)
+    (tie.spec
+    Inv-loop
+    μ-loop
+    sweep-requires
+    loop-holds
+    sweep-requires-2
+    same-length
+    returns
+    spread-requires
+    loop-less
+    loop-again)
