@@ -3,17 +3,20 @@ use mathlib.Core.Path.{_≡_, refl, sym, ap, subst, _∙_}
 use mathlib.Core.Bool.{Bool, true, false}
 use mathlib.Core.List.{List}
 use mathlib.Core.Option.{none, some}
-use Prim.Native.Nat.{ℕ, _+_, _≤_, _<_}
+use Prim.Native.Nat.{ℕ, zero, suc, _+_, _≤_, _<_}
+use mathlib.Core.Logic.{dite}
+use native.Mathlib.Decide.{decLt}
 use native.Mathlib.Omega.{arith}
 use Rattle.base.specs.Options.{when, missing, firstOf}
-use Rattle.base.proofs.Options.{first-at, none-at, none-all}
+use Rattle.base.proofs.Options.{first-at, none-at, none-all, none-everywhere}
 use Rattle.chart.specs.declared.operations.Operation.{Operation}
 use Rattle.chart.specs.Charts.{Chart, size, operation, leaving}
 use Rattle.chart.specs.Faultless.{FaultlessChart}
-use Rattle.chart.specs.Operations.{operandsFit}
+use Rattle.chart.specs.Operations.{isAssignment, operandsFit}
 use Rattle.align.specs.Steps.{find}
 use Rattle.align.proofs.Onto.{found}
-use Rattle.align.proofs.Parts.{row-of, row-same}
+use Rattle.align.proofs.Agree.{not-assignment}
+use Rattle.align.proofs.Parts.{before-mono, row-of, row-same}
 
 module _ (rows : List ℕ) (p : Operation → Bool) where
   -- no row before row k is as sought
@@ -37,6 +40,15 @@ module _ (rows : List ℕ) (p : Operation → Bool) where
     unfolding find
     nowhere l = none-all (λ k. when (p (operation rows k)) k) (size rows) k (N .within) l (N .rest)
 
+  -- the first row is not, and no later one
+  pub only-first : {r : Bool} → r ≡ p (operation rows 0) → r ≡ false → ((k : ℕ) → 0 < k → k < size rows → p (operation rows k) ≡ false) → none ≡ find rows p
+  unfolding find
+  only-first e t later = sym (none-everywhere (λ k. when (p (operation rows k)) k) (size rows) each)
+    where
+      each : (i : ℕ) → i < size rows → when (p (operation rows i)) i ≡ none
+      each zero l = ap (λ (b : Bool). when b 0) (sym e ∙ t)
+      each (suc i) l = ap (λ (b : Bool). when b (suc i)) (later (suc i) (omega arith) l)
+
   -- what is found is a row, and as sought
   pub found-inside : (k : ℕ) → some k ≡ find rows p → k < size rows
   found-inside k e = found rows p {P = λ o. p o ≡ true} (λ o t. t) .of k (sym e) .inside
@@ -46,3 +58,13 @@ pub part-fits : (C : Chart) (p k : ℕ) → FaultlessChart C → k < size (leavi
 part-fits C p k F l =
     let (i, r) = row-of (C .table) p k l in
     subst (λ (o : Operation). operandsFit o ≡ true) (sym (row-same (C .table) p r .operation-same)) (F .rows i (r .inside) .fit)
+
+-- a row after the first of its place is no assignment: both are assumptions
+pub later-row : (C : Chart) (p k : ℕ) → FaultlessChart C → 0 < k → k < size (leaving (C .table) p) → isAssignment (operation (leaving (C .table) p) k) ≡ false
+later-row C p k F z l =
+    let t = C .table in
+    let (i, a) = row-of t p 0 (omega arith) in
+    let (j, b) = row-of t p k l in
+    let ij : i < j = dite (decLt i j) (λ h. h) (λ h. absurd (omega (arith, before-mono t p j i (omega arith) (omega (arith, a .inside)), a .place, b .place))) in
+    subst (λ (o : Operation). isAssignment o ≡ false) (sym (row-same t p b .operation-same))
+    (not-assignment (operation t j) (F .apart j i ij (b .inside) (a .from-here ∙ sym (b .from-here)) .later))

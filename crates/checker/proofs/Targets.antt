@@ -1,5 +1,5 @@
 -- The rules for a target, test by test, as the code comes upon them. Assumes nothing.
-use mathlib.Core.Path.{_≡_, sym, ap, subst, _∙_}
+use mathlib.Core.Path.{_≡_, refl, sym, ap, subst, _∙_}
 use mathlib.Core.Bool.{Bool, true, false, not}
 use mathlib.Core.Logic.{inl, inr}
 use mathlib.Core.List.{List}
@@ -198,6 +198,11 @@ module _ (old new : Chart) (G : Graph) (m : ℕ) where
 pub node-below : (t : ℕ) → Says (targetFits t) → (t ≡ 65535 → ⊥) → t < 4160
 node-below t (inl l) n = l
 node-below t (inr e) n = absurd (n e)
+
+-- a pair's two rows, one after the other
+pub both-rows : (old new : Chart) (G : Graph) (m : ℕ) (rows : List ℕ) → firstOf 2 (targetFault old new G m rows) ≡ rowsFault old new G m rows
+unfolding firstOf rowsFault
+both-rows old new G m rows = refl
 
 -- the walk over the pairs: one that has no fault, and absent ones after it
 pub passed-over : (old new : Chart) (G : Graph) (m r : ℕ) {o : Option Refusal} → firstOf m (pairFault old new G) ≡ none → o ≡ pairFault old new G m

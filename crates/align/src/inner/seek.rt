@@ -1,7 +1,7 @@
 // The first row of a place that is as sought, in table order. `rows` is the part of a table that leaves the place.
 ghost use mathlib.Core.Path.{_≡_};
-ghost use mathlib.Core.Bool.{_&&_};
-ghost use Prim.Native.Nat.{_<_};
+ghost use mathlib.Core.Bool.{false, _&&_};
+ghost use Prim.Native.Nat.{ℕ, _<_};
 ghost use Rattle.chart.specs.Charts.{size, operation};
 ghost use Rattle.chart.specs.Operations.{same, isAssignment, isAssumption};
 ghost use Rattle.chart.specs.Trials.{implication};
@@ -19,9 +19,8 @@ pub fn same(rows: &[u32], part: &[u32], j: usize) -> Found
     requires { ⌜ j < size (now part) ⌝ }
     ensures { λ r. ⌜ toldFound r ≡ find (now (rows .entry)) (λ o. same o (operation (now (part .entry)) j)) ⌝ }
 {
-    let n = rows.len() / 6;
     let mut k = 0;
-    while k < n {
+    while k * 6 + 5 < rows.len() {
         if same_operation(rows, k, part, j) {
             return Found::At(k);
         }
@@ -30,16 +29,16 @@ pub fn same(rows: &[u32], part: &[u32], j: usize) -> Found
     Found::Nothing
 }
 
+// The assignment of a place, which can only be its first row: where a place has two, both are assumptions.
 pub fn assignment(rows: &[u32]) -> Found
+    requires { ⌜ ((k : ℕ) → 0 < k → k < size (now rows) → isAssignment (operation (now rows) k) ≡ false) ⌝ }
     ensures { λ r. ⌜ toldFound r ≡ find (now (rows .entry)) isAssignment ⌝ }
 {
-    let n = rows.len() / 6;
-    let mut k = 0;
-    while k < n {
-        if operations::is_assignment(operation_at(rows, k)) {
-            return Found::At(k);
-        }
-        k += 1;
+    if rows.len() < 6 {
+        return Found::Nothing;
+    }
+    if operations::is_assignment(operation_at(rows, 0)) {
+        return Found::At(0);
     }
     Found::Nothing
 }
@@ -62,9 +61,8 @@ fn implies(o: Operation, o2: Operation) -> bool
 fn implied(rows: &[u32], o: Operation) -> Found
     ensures { λ r. ⌜ toldFound r ≡ find (now (rows .entry)) (λ o2. isAssumption o2 && isImplied (implication o o2)) ⌝ }
 {
-    let n = rows.len() / 6;
     let mut k = 0;
-    while k < n {
+    while k * 6 + 5 < rows.len() {
         if implies(o, operation_at(rows, k)) {
             return Found::At(k);
         }

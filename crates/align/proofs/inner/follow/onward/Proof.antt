@@ -2,11 +2,11 @@
 use mathlib.Core.Path.{_≡_, sym, ap, subst, _∙_}
 use Rattle.align.proofs.Moves.{onward-ends, onward-by}
 use Rattle.align.specs.Steps.{toldFound, along}
-use Rattle.align.proofs.Seek.{found-inside, part-fits}
+use Rattle.align.proofs.Seek.{found-inside, part-fits, later-row}
 use Rattle.chart.specs.Charts.{size, operation}
-use Rattle.chart.specs.Operations.{operandsFit}
+use Rattle.chart.specs.Operations.{isAssignment, operandsFit}
 use Rattle.chart.proofs.Faultless.{ascends, no-refusal}
-use mathlib.Core.Bool.{true}
+use mathlib.Core.Bool.{true, false}
 use mathlib.Core.List.{List}
 use Prim.Native.Nat.{ℕ, _<_}
 use borrow.Author.Needs.{needs}
@@ -23,7 +23,7 @@ rows-of-requires : tie.Need-rows-of-requires
 rows-of-requires c κs = (c .before .before .before .before .before .pre .1 .0, (ascends _ (no-refusal _ (c .before .before .before .before .before .pre .0)), c .before .before .before .before .before .pre .1 .1))
 
 assignment-requires : tie.Need-assignment-requires
-assignment-requires c κs = search needs
+assignment-requires c κs = subst (λ (rows : List ℕ). (k : ℕ) → 0 < k → k < size rows → isAssignment (operation rows k) ≡ false) (sym (c .rows-of .ensures)) (λ k z l. later-row _ _ k (c .before .before .before .before .before .before .pre .0) z l)
 
 enum-known-k : tie.Need-enum-known-k
 enum-known-k c = search needs

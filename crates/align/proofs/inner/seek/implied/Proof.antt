@@ -12,13 +12,19 @@ use Rattle.align.proofs.inner.seek.implied.Statement.{statement}
 use Rattle.align.proofs.inner.seek.implied.Tie as tie
 
 abbrev Inv-loop : tie.InvT-loop
-Inv-loop rows o n k₀ k = None-before rows (λ o2. isAssumption o2 && isImplied (implication o o2)) k
+Inv-loop rows o k₀ k = None-before rows (λ o2. isAssumption o2 && isImplied (implication o o2)) k
 
 abbrev μ-loop : tie.MeasureT-loop
-μ-loop rows o n k₀ k = size rows - k
+μ-loop rows o k₀ k = size rows - k
 
 loop-holds : tie.Need-loop-holds Inv-loop μ-loop
 loop-holds c = none-at-first _ _
+
+mul-loop : tie.Need-mul-loop Inv-loop μ-loop
+mul-loop c = omega (arith, c .loop .inv .within)
+
+add-loop : tie.Need-add-loop Inv-loop μ-loop
+add-loop c = omega (arith, c .loop .inv .within)
 
 operation-at-requires : tie.Need-operation-at-requires Inv-loop μ-loop
 operation-at-requires c κs = search needs
@@ -39,7 +45,7 @@ loop-again : tie.Need-loop-again Inv-loop μ-loop
 loop-again c = not-here _ _ (c .before .before .before .before .loop .inv) (search needs) (rw (c .before .before .operation-at .ensures) at (c .before .implies .ensures)) (c .if1 .left)
 
 returns-2 : tie.Need-returns-2 Inv-loop μ-loop
-returns-2 c = nowhere _ _ (c .before .loop .inv) (c .loop-test .left)
+returns-2 c = nowhere _ _ (c .before .loop .inv) (omega arith)
 
 pub implied-spec : {M : Type 1} → statement M
 implied-spec =
@@ -48,6 +54,8 @@ implied-spec =
     Inv-loop
     μ-loop
     loop-holds
+    mul-loop
+    add-loop
     operation-at-requires
     implies-requires
     returns

@@ -1,30 +1,62 @@
--- `checker::inner::rules::rows_fault` meets its contract: the first row, then the second. Assumes nothing.
+-- `checker::inner::rules::rows_fault` meets its contract. The invariant: no row passed is at fault. Assumes nothing.
+use mathlib.Core.Path.{_≡_, refl, sym, ap, _∙_}
+use mathlib.Core.Option.{none}
+use Prim.Native.Nat.{_-_, _≤_}
 use borrow.Author.Tests.{not-true, not-false}
-use Rattle.checker.specs.Checks.{rowsFault}
-use Rattle.base.proofs.Options.{picked-first, picked-second}
-use Prim.Native.Nat.{_-_}
 use borrow.Author.Needs.{needs}
+use native.Mathlib.Omega.{arith}
+use Rattle.base.specs.Options.{firstOf, missing}
+use Rattle.base.proofs.Options.{first-at, none-at, none-all}
+use Rattle.chart.specs.Charts.{charted}
+use Rattle.checker.specs.Records.{graphOf}
+use Rattle.checker.specs.Checks.{targetFault}
+use Rattle.checker.proofs.Targets.{both-rows}
 use Rattle.checker.proofs.inner.rules.rows_fault.Statement.{statement}
 use Rattle.checker.proofs.inner.rules.rows_fault.Tie as tie
 
-target-fault-requires : tie.Need-target-fault-requires
-target-fault-requires c κs = (c .before .before .before .before .before .before .pre .0, (c .before .before .before .before .before .before .pre .1 .0, (c .before .before .before .before .before .before .pre .1 .1 .0, c .before .before .before .before .before .before .pre .1 .1 .1, search needs)))
+abbrev Inv-loop : tie.InvT-loop
+Inv-loop old old-rows new new-rows index marks targets sets m rows k₀ k =
+    (k ≤ 2) × (firstOf k (targetFault (charted old old-rows) (charted new new-rows) (graphOf marks targets sets) m rows) ≡ none)
 
-is-passed-requires : tie.Need-is-passed-requires
+abbrev μ-loop : tie.MeasureT-loop
+μ-loop old old-rows new new-rows index marks targets sets m rows k₀ k = 2 - k
+
+loop-holds : tie.Need-loop-holds Inv-loop μ-loop
+unfolding firstOf
+loop-holds c = (search needs, refl)
+
+target-fault-requires : tie.Need-target-fault-requires Inv-loop μ-loop
+target-fault-requires c κs = search needs
+
+is-passed-requires : tie.Need-is-passed-requires Inv-loop μ-loop
 is-passed-requires c κs = search needs
 
-returns : tie.Need-returns
-unfolding rowsFault
-returns c = picked-first (c .before .before .target-fault .ensures) (c .before .is-passed .ensures) _ (not-true _ (c .if1 .taken))
+returns : tie.Need-returns Inv-loop μ-loop
+returns c = c .before .before .target-fault .ensures ∙ sym (first-at _ _ (c .before .before .before .before .loop .k) (c .before .before .before .loop-test .taken) (c .before .before .before .before .loop .inv .1) (sym (c .before .is-passed .ensures ∙ ap missing (c .before .before .target-fault .ensures)) ∙ not-true _ (c .if1 .taken))) ∙ both-rows _ _ (graphOf _ _ _) _ _
 
-target-fault-requires-2 : tie.Need-target-fault-requires-2
-target-fault-requires-2 c κs = (c .before .before .before .before .before .before .before .before .before .pre .0, (c .before .before .before .before .before .before .before .before .before .pre .1 .0, (c .before .before .before .before .before .before .before .before .before .pre .1 .1 .0, c .before .before .before .before .before .before .before .before .before .pre .1 .1 .1, search needs)))
+add-k : tie.Need-add-k Inv-loop μ-loop
+add-k c = search needs
 
-returns-2 : tie.Need-returns-2
-unfolding rowsFault
-returns-2 c = picked-second (c .before .before .before .target-fault .ensures) (c .before .before .is-passed .ensures) (not-false _ (c .before .if1 .left)) (c .target-fault2 .ensures)
+loop-less : tie.Need-loop-less Inv-loop μ-loop
+loop-less c = omega arith
+
+loop-again : tie.Need-loop-again Inv-loop μ-loop
+loop-again c = (omega arith, none-at _ (c .before .before .before .before .loop .k) (c .before .before .before .before .loop .inv .1) (sym (c .before .is-passed .ensures ∙ ap missing (c .before .before .target-fault .ensures)) ∙ not-false _ (c .if1 .left)))
+
+returns-2 : tie.Need-returns-2 Inv-loop μ-loop
+returns-2 c = none-all _ _ _ (c .before .loop .inv .0) (c .loop-test .left) (c .before .loop .inv .1) ∙ both-rows _ _ (graphOf _ _ _) _ _
 
 pub rows-fault-spec : {M : Type 1} → statement M
 rows-fault-spec =
     tie.close
-    (tie.spec target-fault-requires is-passed-requires returns target-fault-requires-2 returns-2)
+    (tie.spec
+    Inv-loop
+    μ-loop
+    loop-holds
+    target-fault-requires
+    is-passed-requires
+    returns
+    add-k
+    loop-less
+    loop-again
+    returns-2)
