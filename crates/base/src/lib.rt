@@ -1,2 +1,2 @@
 // What no layer owns: tests, values that may be missing, answers and lists, as definitions and laws; and looks through bytes.
-pub mod scan; // scan.rt: the next byte that is not 0
+pub mod inner; // inner.rt: for the crates above

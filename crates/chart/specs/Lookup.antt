@@ -42,8 +42,8 @@ pub record Lower (t : List ℕ) (p r : ℕ) : Type 0 where
   pub below : (k : ℕ) → k < r → from t k < p
   pub reached : r < size t → p ≤ from t r
 
--- an index of both tables: entry p is the first row of the old one whose "from" is not below p, entry 65 + p that of the new one, for the places
--- 0 to 63 and the one after them
+-- an index of both tables: entry p is the first row of the old one whose "from" is not below p, entry 65 + p that of the new one. Entry 64
+-- of each ends the rows of place 63
 pub record Indexed (old new index : List ℕ) : Type 0 where
   pub olds : (p : ℕ) → p ≤ 64 → Lower old p (getD index p 0)
   pub news : (p : ℕ) → p ≤ 64 → Lower new p (getD index (65 + p) 0)

@@ -14,7 +14,7 @@ use align::inner::step::step;
 use align::spots::Aligned;
 use align::spots::Found;
 use align::spots::Spot;
-use base::scan::next;
+use base::inner::scan::next;
 use chart::charts::Head;
 use chart::inner::pairs::kept;
 use chart::inner::pairs::new_of;

@@ -1,4 +1,4 @@
--- `base::scan::none_of` meets its contract. The invariant: what is joined is 0 exactly if every byte passed is. Assumes nothing.
+-- `base::inner::scan::none_of` meets its contract. The invariant: what is joined is 0 exactly if every byte passed is. Assumes nothing.
 use mathlib.Core.Path.{_≡_}
 use Prim.Native.Nat.{_-_, _≤_}
 use native.Mathlib.Omega.{arith}
@@ -6,8 +6,8 @@ use lib.Dec.{eqb}
 use Rattle.base.specs.Scan.{IfBlank}
 use Rattle.base.proofs.Scanning.{joined-none, joined-more}
 use borrow.Author.Needs.{needs}
-use Rattle.base.proofs.scan.none_of.Statement.{statement}
-use Rattle.base.proofs.scan.none_of.Tie as tie
+use Rattle.base.proofs.inner.scan.none_of.Statement.{statement}
+use Rattle.base.proofs.inner.scan.none_of.Tie as tie
 
 abbrev Inv-loop : tie.InvT-loop
 Inv-loop bytes from to all₀ i₀ all i = (from ≤ i) × (i ≤ to) × IfBlank bytes from i (eqb all 0)

@@ -1,8 +1,8 @@
--- `base::scan::passes` meets its contract. Assumes nothing.
+-- `base::inner::scan::passes` meets its contract. Assumes nothing.
 use Rattle.base.proofs.Tests.{T-true}
 use borrow.Author.Needs.{needs}
-use Rattle.base.proofs.scan.passes.Statement.{statement}
-use Rattle.base.proofs.scan.passes.Tie as tie
+use Rattle.base.proofs.inner.scan.passes.Statement.{statement}
+use Rattle.base.proofs.inner.scan.passes.Tie as tie
 
 sub-if1 : tie.Need-sub-if1
 sub-if1 c = search needs

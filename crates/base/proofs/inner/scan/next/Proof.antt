@@ -1,10 +1,10 @@
--- `base::scan::next` meets its contract. The invariant: every byte passed is 0. Assumes nothing.
+-- `base::inner::scan::next` meets its contract. The invariant: every byte passed is 0. Assumes nothing.
 use Prim.Native.Nat.{_-_}
 use Rattle.base.proofs.Scanning.{Passed, pass-begin, pass-gap, pass-here, pass-end}
 use borrow.Author.Needs.{needs}
 use native.Mathlib.Omega.{arith}
-use Rattle.base.proofs.scan.next.Statement.{statement}
-use Rattle.base.proofs.scan.next.Tie as tie
+use Rattle.base.proofs.inner.scan.next.Statement.{statement}
+use Rattle.base.proofs.inner.scan.next.Tie as tie
 
 abbrev Inv-loop : tie.InvT-loop
 Inv-loop bytes from end i₀ i = Passed bytes from end i

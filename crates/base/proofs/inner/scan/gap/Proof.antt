@@ -1,9 +1,9 @@
--- `base::scan::gap` meets its contract. Assumes nothing.
+-- `base::inner::scan::gap` meets its contract. Assumes nothing.
 use Rattle.base.proofs.Scanning.{gap-one, gap-group}
 use native.Mathlib.Omega.{arith}
 use borrow.Author.Needs.{needs}
-use Rattle.base.proofs.scan.gap.Statement.{statement}
-use Rattle.base.proofs.scan.gap.Tie as tie
+use Rattle.base.proofs.inner.scan.gap.Statement.{statement}
+use Rattle.base.proofs.inner.scan.gap.Tie as tie
 
 shared-slice-read-if1 : tie.Need-shared-slice-read-if1
 shared-slice-read-if1 c = search needs
