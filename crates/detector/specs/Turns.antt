@@ -46,7 +46,7 @@ lowAfter m t w n =
 unfoldable pub setNow : List ℕ → List ℕ → ℕ → ℕ → ℕ
 setNow m s n v = elim (marked m n) [ true ↦ getD s n 0 | false ↦ v ]
 
--- "if q2 is kept, the target is kept q2. If not, the target is the pair; it joins the graph and its set gains the step's set." (lines 28
+-- "if q2 is kept, the target is kept q2. If not, the target is the pair; it joins the graph and its set gains the step's set." (lines 29
 -- to 33)
 unfoldable pub arrived : ℕ → Graph → ℕ → ℕ → NewPlace → Spot → Graph
 arrived alarm g n r q h =

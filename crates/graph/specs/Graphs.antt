@@ -64,8 +64,8 @@ unfoldable pub aim : Graph → ℕ → ℕ → ℕ → Graph
 aim g n r to =
     elim (marked (g .marks) n) [ true ↦ graph (g .marks) (set (g .targets) (index n r) to) (g .sets) (g .waiting) | false ↦ g ]
 
--- ---- lines 28 to 32: pair n "joins the graph and its set gains the step's set"
--- line 28: "It waits (again) if it was new or its set grew, unless its old place is the old alarm."
+-- ---- lines 29 to 32: pair n "joins the graph and its set gains the step's set"
+-- line 29: "It waits (again) if it was new or its set grew, unless its old place is the old alarm."
 unfoldable pub due : ℕ → List ℕ → List ℕ → ℕ → ℕ → Bool
 due alarm m s n v = not (eqb (oldOf n .0) alarm) && (not (marked m n) || not (holdsAll (getD s n 0) v))
 
