@@ -1,0 +1,124 @@
+-- The lowest and the highest bits of a word. Assumes nothing.
+use mathlib.Core.Path.{_≡_, refl, sym, ap, _∙_}
+use mathlib.Core.Logic.{_⊎_, inl, inr, dite}
+use Prim.Native.Nat.{ℕ, zero, suc, _+_, _*_, _-_, _/_, _%_, _^_, _≤_, _<_}
+use native.Mathlib.Nat.{pow-suc, div-eq-of-lt, lt-of-lt-of-le, lt-of-le-of-lt, div-le-self, eq-zero-or-pos, div-one}
+use native.Mathlib.Decide.{decLt}
+use native.Mathlib.Omega.{arith}
+use lib.Pow.{shr-shr, pow-lt, pow-pos, pow-mono, high}
+use lib.Bits.{bitAnd, mask-lt}
+use lib.Count.{trailingZeros, leadingZeros, under, leading-top, leading-of-zero}
+use Rattle.align.specs.Sets.{bit, alone}
+use Rattle.align.proofs.Sets.{bit-zero, bit-suc, bit-none, bit-and, bit-not}
+use Rattle.words.specs.Words.{LowestFrom, HighestBefore}
+
+-- no bit of x from k on
+bit-past : (x k i : ℕ) → x < 2 ^ k → k ≤ i → bit x i ≡ 0
+bit-past x k i l m = ap (λ (n : ℕ). n % 2) (div-eq-of-lt (lt-of-lt-of-le l (pow-mono m)))
+
+-- ---- the lowest
+record Lowest (k x r : ℕ) : Type 0 where
+  most : r < k
+  here : bit x r ≡ 1
+  none : (i : ℕ) → i < r → bit x i ≡ 0
+
+lowest-even : (k x t : ℕ) → x % 2 ≡ 0 → Lowest k (x / 2) t → Lowest (suc k) x (suc t)
+lowest-even k x t e L = record { most = omega (arith, L .most); here = bit-suc x t ∙ L .here; none = none }
+  where
+    none : (i : ℕ) → i < suc t → bit x i ≡ 0
+    none zero m = bit-zero x ∙ e
+    none (suc i) m = bit-suc x i ∙ L .none i (omega arith)
+
+lowest : (k x : ℕ) → 0 < x → x < 2 ^ k → Lowest k x (trailingZeros k x)
+unfolding trailingZeros
+lowest zero x p l = absurd (omega arith)
+lowest (suc k) x p l = let g = rw pow-suc at l in go (x % 2) refl (λ e. lowest k (x / 2) (omega arith) (omega arith))
+  where
+    go : (r : ℕ) → x % 2 ≡ r → (x % 2 ≡ 0 → Lowest k (x / 2) (trailingZeros k (x / 2))) → Lowest (suc k) x (under r (trailingZeros k (x / 2)))
+    go zero e half = lowest-even k x (trailingZeros k (x / 2)) e (half e)
+    go (suc r) e half = record { most = omega arith; here = bit-zero x ∙ omega arith; none = λ i m. absurd (omega arith) }
+
+module _ (x k : ℕ) where
+  bit-shifted : (i : ℕ) → bit (x / 2 ^ k) i ≡ bit x (k + i)
+  bit-shifted i = ap (λ (n : ℕ). n % 2) (shr-shr x k i)
+
+  from-shifted : (i : ℕ) → k ≤ i → bit x i ≡ bit (x / 2 ^ k) (i - k)
+  from-shifted i m = let e : i ≡ k + (i - k) = omega arith in ap (bit x) e ∙ sym (bit-shifted (i - k))
+
+  pub lowest-none : k < 64 → x / 2 ^ k ≡ 0 → LowestFrom x k 64 × (k ≡ 0 → 0 < x → 64 < 64)
+  lowest-none l e = (
+    record {
+      least = omega arith;
+      most = omega arith;
+      none = λ i m n. from-shifted i m ∙ ap (λ (y : ℕ). bit y (i - k)) e ∙ bit-none (i - k);
+      here = λ n. absurd (omega arith);
+    },
+    λ z p. absurd (omega (arith, sym (div-one x) ∙ ap (λ (i : ℕ). x / 2 ^ i) (sym z) ∙ e)),
+  )
+
+  pub lowest-some : x < 2 ^ 64 → (x / 2 ^ k ≡ 0 → ⊥)
+      → LowestFrom x k (k + trailingZeros 64 (x / 2 ^ k)) × (k ≡ 0 → 0 < x → k + trailingZeros 64 (x / 2 ^ k) < 64)
+  lowest-some l f =
+      let L = lowest 64 (x / 2 ^ k) (omega arith) (lt-of-le-of-lt (div-le-self x (2 ^ k)) l) in
+      let t = trailingZeros 64 (x / 2 ^ k) in
+      let e : bit x (k + t) ≡ 1 = sym (bit-shifted t) ∙ L .here in (
+        record {
+          least = omega arith;
+          most = omega (arith, inside t e);
+          none = λ i m n. from-shifted i m ∙ L .none (i - k) (omega arith);
+          here = λ n. e;
+        },
+        λ z p. inside t e,
+      )
+    where
+      inside : (t : ℕ) → bit x (k + t) ≡ 1 → k + t < 64
+      inside t e = dite (decLt (k + t) 64) (λ m. m) (λ m. absurd (omega (arith, e, bit-past x 64 (k + t) l (omega arith))))
+
+-- ---- the highest
+module _ (x : ℕ) (l : x < 2 ^ 64) where
+  top-bit : (j : ℕ) → 2 ^ j ≤ x → x < 2 ^ suc j → bit x j ≡ 1
+  top-bit j a b =
+      let g = rw pow-suc at b in
+      let e : x ≡ 1 * 2 ^ j + (x - 2 ^ j) = omega arith in
+      ap (λ (n : ℕ). n / 2 ^ j % 2) e ∙ ap (λ (n : ℕ). n % 2) (high 1 j (omega arith))
+
+  pub highest-is : HighestBefore x 64 (64 - leadingZeros 64 x) × (0 < x → 0 < 64 - leadingZeros 64 x)
+  highest-is = go (eq-zero-or-pos x)
+    where
+      some : (j : ℕ) → leadingZeros 64 x + suc j ≡ 64 → 2 ^ j ≤ x → x < 2 ^ suc j → HighestBefore x 64 (64 - leadingZeros 64 x) × (0 < x → 0 < 64 - leadingZeros 64 x)
+      some j a b c =
+          let z : 64 - leadingZeros 64 x ≡ suc j = omega arith in
+          rw z (record { most = omega arith; none = λ i m n. bit-past x (suc j) i c m; here = λ n. let y : suc j - 1 ≡ j = omega arith in ap (bit x) y ∙ top-bit j b c }, λ p. omega arith)
+
+      go : (x ≡ 0) ⊎ (0 < x) → HighestBefore x 64 (64 - leadingZeros 64 x) × (0 < x → 0 < 64 - leadingZeros 64 x)
+      go (inl e) = rw (e, leading-of-zero 64) (record { most = omega arith; none = λ i m n. bit-none i; here = λ n. absurd (omega arith) }, λ p. absurd (omega arith))
+      go (inr p) = let t = leading-top 64 x p l in some (t .0) (t .1) (t .2) (t .3)
+
+-- ---- the bits before k
+module _ (x k : ℕ) (l : k < 64) where
+  bit-masked : (i : ℕ) → i < k → bit (bitAnd x (2 ^ k - 1)) i ≡ bit x i
+  bit-masked i m =
+      let z : 2 ^ k - 1 ≡ 2 ^ k - 1 - 0 = omega arith in
+      let e : bit (2 ^ k - 1) i ≡ 1 = ap (λ (y : ℕ). bit y i) z ∙ bit-not k i 0 m (pow-pos k) ∙ ap (λ (b : ℕ). 1 - b) (bit-none i) in
+      bit-and x (2 ^ k - 1) i ∙ omega (arith, e)
+
+  highest-masked : {r : ℕ} → HighestBefore (bitAnd x (2 ^ k - 1)) 64 r → HighestBefore x k r
+  highest-masked {r} H =
+      record {
+        most = most;
+        none = λ i m n. sym (bit-masked i n) ∙ H .none i m (omega arith);
+        here = λ n. let m : r - 1 < k = omega (arith, most) in sym (bit-masked (r - 1) m) ∙ H .here n;
+      }
+    where
+      most : r ≤ k
+      most = dite (decLt k r) (λ m. absurd (omega (arith, H .here (omega arith), bit-past (bitAnd x (2 ^ k - 1)) k (r - 1) (mask-lt x k) (omega arith)))) (λ m. omega arith)
+
+-- the same of a mask that is one less than the set of k alone
+module _ (k : ℕ) {y : ℕ} (e : y ≡ alone k) where
+  pub mask-some : 1 ≤ y
+  unfolding alone
+  mask-some = rw e (pow-pos k)
+
+  pub masked-is : (x : ℕ) {r : ℕ} → k < 64 → HighestBefore (bitAnd x (y - 1)) 64 r → HighestBefore x k r
+  unfolding alone
+  masked-is x {r} l H = highest-masked x k l (rw e at H)

@@ -1,0 +1,3 @@
+-- Laws of sets of pairs.
+pub mod Bits
+pub mod Words

@@ -1,0 +1,213 @@
+-- Members of sets of pairs: added, removed, and looked for. Assumes nothing.
+use mathlib.Core.Path.{_≡_, refl, sym, ap, _∙_}
+use mathlib.Core.Logic.{_⊎_, inl, inr, dite}
+use mathlib.Core.List.{List}
+use Prim.Native.Nat.{ℕ, _+_, _*_, _-_, _/_, _%_, _≤_, _<_}
+use native.Mathlib.Decide.{ℕ-discrete, decLt}
+use native.Mathlib.Omega.{arith}
+use lib.ListN.{length, getD, set, length-set}
+use lib.Seq.{getD-set-same, getD-set-other}
+use Rattle.align.specs.Sets.{bit, with, without}
+use Rattle.align.proofs.Sets.{bit-none, with-here, with-old, without-kept}
+use Rattle.words.specs.Words.{Member, added, removed, LowestFrom, HighestBefore, FirstWord, LastWord, First, LastHere, Last}
+
+-- ---- added and removed
+module _ (w : List ℕ) (n : ℕ) where
+  pub add-is : {x : ℕ} → x ≡ with (getD w (n / 64) 0) (n % 64) → set w (n / 64) x ≡ added w n
+  unfolding added
+  add-is e = ap (set w (n / 64)) e
+
+  pub remove-is : {x : ℕ} → x ≡ without (getD w (n / 64) 0) (n % 64) → set w (n / 64) x ≡ removed w n
+  unfolding removed
+  remove-is e = ap (set w (n / 64)) e
+
+  pub length-added : length (added w n) ≡ length w
+  unfolding added
+  length-added = length-set w (n / 64) _
+
+  pub length-removed : length (removed w n) ≡ length w
+  unfolding removed
+  length-removed = length-set w (n / 64) _
+
+  module _ (l : length w ≡ 64) (b : n < 4096) where
+    here-added : getD (added w n) (n / 64) 0 ≡ with (getD w (n / 64) 0) (n % 64)
+    unfolding added
+    here-added = getD-set-same w (n / 64) _ 0 (omega arith)
+
+    here-removed : getD (removed w n) (n / 64) 0 ≡ without (getD w (n / 64) 0) (n % 64)
+    unfolding removed
+    here-removed = getD-set-same w (n / 64) _ 0 (omega arith)
+
+    else-added : (p : ℕ) → (p ≡ n / 64 → ⊥) → getD (added w n) p 0 ≡ getD w p 0
+    unfolding added
+    else-added p f = getD-set-other w (n / 64) p _ 0 f
+
+    else-removed : (p : ℕ) → (p ≡ n / 64 → ⊥) → getD (removed w n) p 0 ≡ getD w p 0
+    unfolding removed
+    else-removed p f = getD-set-other w (n / 64) p _ 0 f
+
+    -- the pair is a member now
+    pub added-here : Member (added w n) n
+    added-here = rw here-added (with-here (n % 64) (getD w (n / 64) 0) (n % 64))
+
+    -- and whoever was one
+    pub added-old : (i : ℕ) → Member w i → Member (added w n) i
+    added-old i m =
+        dite (ℕ-discrete (i / 64) (n / 64))
+        (λ e. rw (e, here-added) (with-old (i % 64) (getD w (n / 64) 0) (n % 64) (rw e at m)))
+        (λ f. rw (else-added (i / 64) f) m)
+
+    -- whoever else was a member still is one
+    pub removed-other : (i : ℕ) → i < 4096 → (i ≡ n → ⊥) → Member w i → Member (removed w n) i
+    removed-other i c f m =
+        dite (ℕ-discrete (i / 64) (n / 64))
+        (λ e. rw (e, here-removed) (without-kept (i % 64) (getD w (n / 64) 0) (n % 64) (omega arith) (omega arith) (λ h. f (omega arith)) (rw e at m)))
+        (λ g. rw (else-removed (i / 64) g) m)
+
+-- ---- a word without bits has no members
+none-of : (w : List ℕ) (i : ℕ) → getD w (i / 64) 0 ≡ 0 → Member w i → ⊥
+none-of w i e m = let z : bit (getD w (i / 64) 0) (i % 64) ≡ 0 = ap (λ (x : ℕ). bit x (i % 64)) e ∙ bit-none (i % 64) in omega (arith, m, z)
+
+-- members of one word, by its bits
+module _ (w : List ℕ) (p : ℕ) where
+  member-at : (b : ℕ) → b < 64 → bit (getD w p 0) b ≡ 1 → Member w (64 * p + b)
+  member-at b l m =
+      let y : (64 * p + b) / 64 ≡ p = omega arith in
+      let z : (64 * p + b) % 64 ≡ b = omega arith in
+      rw (y, z) m
+
+  not-at : (i : ℕ) → i / 64 ≡ p → bit (getD w p 0) (i % 64) ≡ 0 → Member w i → ⊥
+  not-at i e z m = let y : bit (getD w (i / 64) 0) (i % 64) ≡ 0 = ap (λ (q : ℕ). bit (getD w q 0) (i % 64)) e ∙ z in omega (arith, m, y)
+
+-- ---- the first word with a bit: so far there is none
+pub record NoneSo (w : List ℕ) (p i : ℕ) : Type 0 where
+  pub least : p ≤ i
+  pub most : i ≤ 64
+  pub none : (k : ℕ) → p ≤ k → k < i → getD w k 0 ≡ 0
+
+module _ (w : List ℕ) (p : ℕ) where
+  pub none-begun : p ≤ 64 → NoneSo w p p
+  none-begun l = record { least = omega arith; most = l; none = λ k a b. absurd (omega arith) }
+
+  module _ {i : ℕ} (N : NoneSo w p i) where
+    pub none-again : i < 64 → getD w i 0 ≡ 0 → NoneSo w p (i + 1)
+    none-again l e =
+        record {
+          least = omega (arith, N .least);
+          most = omega arith;
+          none = λ k a b. dite (ℕ-discrete k i) (λ z. rw z e) (λ z. N .none k a (omega arith));
+        }
+
+    pub first-word-found : i < 64 → (getD w i 0 ≡ 0 → ⊥) → FirstWord w p i
+    first-word-found l f = record { least = N .least; most = N .most; none = N .none; here = λ m. omega arith }
+
+    pub first-word-none : 64 ≤ i → FirstWord w p i
+    first-word-none f = record { least = N .least; most = N .most; none = N .none; here = λ m. absurd (omega arith) }
+
+-- ---- the last word with a bit: none from i on
+module _ (w : List ℕ) (p : ℕ) where
+  pub record NoneFrom (i : ℕ) : Type 0 where
+    pub most : i ≤ p
+    pub none : (k : ℕ) → i ≤ k → k < p → getD w k 0 ≡ 0
+
+  pub from-begun : NoneFrom p
+  from-begun = record { most = omega arith; none = λ k a b. absurd (omega arith) }
+
+  module _ {i : ℕ} (N : NoneFrom i) where
+    pub from-again : 0 < i → getD w (i - 1) 0 ≡ 0 → NoneFrom (i - 1)
+    from-again l e =
+        record {
+          most = omega (arith, N .most);
+          none = λ k a b. dite (ℕ-discrete k (i - 1)) (λ z. rw z e) (λ z. N .none k (omega arith) b);
+        }
+
+    pub last-word-found : (getD w (i - 1) 0 ≡ 0 → ⊥) → LastWord w p i
+    last-word-found f = record { most = N .most; none = N .none; here = λ m. omega arith }
+
+    pub last-word-none : i ≡ 0 → LastWord w p i
+    last-word-none e = record { most = N .most; none = N .none; here = λ m. absurd (omega arith) }
+
+-- ---- the first pair
+module _ (w : List ℕ) (n : ℕ) (l : n ≤ 4096) where
+  pub first-end : n ≡ 4096 → First w n n
+  first-end e = record { least = omega arith; most = omega arith; none = λ i a b m. absurd (omega arith); here = λ m. absurd (omega arith) }
+
+  module _ {x : ℕ} (b : (n ≡ 4096 → ⊥)) (L : LowestFrom (getD w (n / 64) 0) (n % 64) x) where
+    pub first-here : x < 64 → First w n (64 * (n / 64) + x)
+    first-here c =
+        record {
+          least = omega (arith, L .least);
+          most = omega arith;
+          none = λ i a d. not-at w (n / 64) i (omega arith) (L .none (i % 64) (omega arith) (omega arith));
+          here = λ m. member-at w (n / 64) x c (L .here c);
+        }
+
+    module _ {q : ℕ} (c : 64 ≤ x) (F : FirstWord w (n / 64 + 1) q) where
+      -- pairs before word q are no members
+      passed : (i : ℕ) → n ≤ i → i < 64 * q → Member w i → ⊥
+      passed i a d m =
+          dite (ℕ-discrete (i / 64) (n / 64)) (λ e. not-at w (n / 64) i e (L .none (i % 64) (omega arith) (omega arith)) m)
+          (λ e. none-of w i (F .none (i / 64) (omega arith) (omega arith)) m)
+
+      pub first-none : q ≡ 64 → First w n 4096
+      first-none e = record { least = l; most = omega arith; none = λ i a d. passed i a (omega arith); here = λ m. absurd (omega arith) }
+
+      pub first-there : {y : ℕ} → (q ≡ 64 → ⊥) → LowestFrom (getD w q 0) 0 y → (_≡_ {A = ℕ} 0 0 → 0 < getD w q 0 → y < 64) → First w n (64 * q + y)
+      first-there {y} f M s =
+          record {
+            least = omega (arith, F .least);
+            most = omega (arith, F .most, below);
+            none = λ i a d m. dite (decLt i (64 * q)) (λ h. passed i a h m) (λ h. not-at w q i (omega arith) (M .none (i % 64) (omega arith) (omega arith)) m);
+            here = λ m. member-at w q y below (M .here below);
+          }
+        where
+          below : y < 64
+          below = s refl (F .here (omega (arith, F .most)))
+
+-- ---- the last pair
+module _ (w : List ℕ) (n : ℕ) (l : n ≤ 4096) where
+  pub here-end : n ≡ 4096 → LastHere w n 0
+  here-end e = record { most = omega arith; none = λ i a b c m. absurd (omega arith); own = λ m. absurd (omega arith); here = λ m. absurd (omega arith) }
+
+  module _ {x : ℕ} (H : HighestBefore (getD w (n / 64) 0) (n % 64) x) where
+    pub here-none : x ≡ 0 → LastHere w n 0
+    here-none e =
+        record {
+          most = omega arith;
+          none = λ i a b c. not-at w (n / 64) i (omega arith) (H .none (i % 64) (omega arith) (omega arith));
+          own = λ m. absurd (omega arith);
+          here = λ m. absurd (omega arith);
+        }
+
+    pub here-some : (x ≡ 0 → ⊥) → LastHere w n (64 * (n / 64) + x)
+    here-some f =
+        record {
+          most = omega (arith, H .most);
+          none = λ i a b c. not-at w (n / 64) i (omega arith) (H .none (i % 64) (omega arith) (omega arith));
+          own = λ m. omega arith;
+          here = λ m. let e : 64 * (n / 64) + x - 1 ≡ 64 * (n / 64) + (x - 1) = omega arith in rw e (member-at w (n / 64) (x - 1) (omega (arith, H .most)) (H .here (omega arith)));
+        }
+
+  module _ {x : ℕ} (H : LastHere w n x) where
+    pub last-here : 0 < x → Last w n x
+    last-here p = record { most = H .most; none = λ i a b. H .none i a b (omega (arith, H .own p)); here = H .here }
+
+    module _ {q : ℕ} (z : x ≤ 0) (L : LastWord w (n / 64) q) where
+      -- pairs from word q on are no members
+      behind : (i : ℕ) → 64 * q ≤ i → i < n → Member w i → ⊥
+      behind i a b m =
+          dite (decLt i (n / 64 * 64)) (λ c. none-of w i (L .none (i / 64) (omega arith) (omega arith)) m) (λ c. H .none i (omega arith) b (omega arith) m)
+
+      pub last-none : q ≡ 0 → Last w n 0
+      last-none e = record { most = omega arith; none = λ i a b. behind i (omega arith) b; here = λ m. absurd (omega arith) }
+
+      pub last-there : {y : ℕ} → (q ≡ 0 → ⊥) → HighestBefore (getD w (q - 1) 0) 64 y → (0 < getD w (q - 1) 0 → 0 < y) → Last w n (64 * (q - 1) + y)
+      last-there {y} f M s =
+          record {
+            most = omega (arith, L .most, M .most);
+            none = λ i a b m. dite (decLt i (64 * q)) (λ h. not-at w (q - 1) i (omega arith) (M .none (i % 64) (omega arith) (omega arith)) m) (λ h. behind i (omega arith) b m);
+            here = λ m. let e : 64 * (q - 1) + y - 1 ≡ 64 * (q - 1) + (y - 1) = omega (arith, pos) in rw e (member-at w (q - 1) (y - 1) (omega (arith, pos, M .most)) (M .here pos));
+          }
+        where
+          pos : 0 < y
+          pos = s (L .here (omega arith))
