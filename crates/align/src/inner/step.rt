@@ -161,23 +161,26 @@ fn arrived(old: Head, new: Head, q: NewPlace, came: Aligned) -> Aligned
     }
 }
 
-// The aligned step from an old place and its set by row j of the part.
+// The aligned step from an old place and its set by row j of the part. They come apart, each in a register: as a spot they would be written
+// narrow and read back wide, which stalls at each step.
 pub fn step<'a>(
     old: Head,
     old_rows: &'a [u32],
     new: Head,
     new_rows: &'a [u32],
     index: &[u8; 130],
-    h: Spot,
+    p: OldPlace,
+    set: u64,
     part: &'a [u32],
     j: usize,
 ) -> Aligned
     requires { ⌜ FaultlessChart (charted old (now «old_rows»)) ⌝ }
     requires { ⌜ Indexed (now «old_rows») (now «new_rows») (now index) ⌝ }
-    requires { ⌜ h .place .0 < 64 ⌝ }
+    requires { ⌜ p .0 < 64 ⌝ }
     requires { ⌜ (j < size (now part)) × (operandsFit (operation (now part) j) ≡ true) ⌝ }
-    ensures { λ r. ⌜ told r ≡ step (charted old (now («old_rows» .entry))) (charted new (now («new_rows» .entry))) h (operation (now (part .entry)) j) (record { 0 = to (now (part .entry)) j }) ⌝ }
+    ensures { λ r. ⌜ told r ≡ step (charted old (now («old_rows» .entry))) (charted new (now («new_rows» .entry))) (record { place = p; set = set }) (operation (now (part .entry)) j) (record { 0 = to (now (part .entry)) j }) ⌝ }
 {
+    let h = Spot { place: p, set };
     arrived(
         old,
         new,

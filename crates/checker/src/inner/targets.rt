@@ -112,11 +112,17 @@ fn joins_step<'a>(
     requires { ⌜ (m < 4096) × (now rows ≡ leaving (now «new_rows») (newOf m .0)) × (k < size (now rows)) ⌝ }
     ensures { λ r. ⌜ r ≡ joinsStep (now (marks .entry)) (now (sets .entry)) (record { 0 = to (now (rows .entry)) k }) t (step (charted old (now («old_rows» .entry))) (charted new (now («new_rows» .entry))) (spot (graphOf (now (marks .entry)) (now (targets .entry)) (now (sets .entry))) m) (operation (now (rows .entry)) k) (record { 0 = to (now (rows .entry)) k })) ⌝ }
 {
-    let here = Spot {
-        place: old_of(m),
-        set: sets[m],
-    };
-    match step(old, old_rows, new, new_rows, index, here, rows, k) {
+    match step(
+        old,
+        old_rows,
+        new,
+        new_rows,
+        index,
+        old_of(m),
+        sets[m],
+        rows,
+        k,
+    ) {
         Aligned::To(h) => joins(marks, sets, new_to(rows, k), t, h),
         Aligned::Failed => false,
     }

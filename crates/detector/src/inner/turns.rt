@@ -165,11 +165,7 @@ fn row<'a>(
 {
     let part = rows_of(old_rows, new_rows, index, Place::New(new_of(n)));
     if r < part.len() / 6 {
-        let from = Spot {
-            place: old_of(n),
-            set: v,
-        };
-        let came = step(old, old_rows, new, new_rows, index, from, part, r);
+        let came = step(old, old_rows, new, new_rows, index, old_of(n), v, part, r);
         process(
             old,
             marks,

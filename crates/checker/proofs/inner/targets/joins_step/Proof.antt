@@ -11,11 +11,11 @@ use Rattle.checker.proofs.inner.targets.joins_step.Tie as tie
 old-of-requires : tie.Need-old-of-requires
 old-of-requires c κs = search needs
 
-mul-t16 : tie.Need-mul-t16
-mul-t16 c = search needs
+mul-step : tie.Need-mul-step
+mul-step c = search needs
 
-shared-slice-read-t18 : tie.Need-shared-slice-read-t18
-shared-slice-read-t18 c = search needs
+shared-slice-read-step : tie.Need-shared-slice-read-step
+shared-slice-read-step c = search needs
 
 step-requires : tie.Need-step-requires
 step-requires c κs = (c .before .before .before .before .before .before .before .before .pre .0 .old-faultless, (c .before .before .before .before .before .before .before .before .pre .1 .0, (pair-below _ (c .before .old-of .ensures) (c .before .before .before .before .before .before .before .before .pre .1 .1 .0), (c .before .before .before .before .before .before .before .before .pre .1 .1 .2, row-operands _ (c .before .before .before .before .before .before .before .before .pre .0 .new-faultless) _ _ (c .before .before .before .before .before .before .before .before .pre .1 .1 .1) (c .before .before .before .before .before .before .before .before .pre .1 .1 .2)))))
@@ -43,8 +43,8 @@ joins-step-spec =
     tie.close
     (tie.spec
     old-of-requires
-    mul-t16
-    shared-slice-read-t18
+    mul-step
+    shared-slice-read-step
     step-requires
     enum-known-h
     new-to-requires
