@@ -2,12 +2,14 @@
 use mathlib.Core.Path.{_≡_, refl, sym, ap, _∙_}
 use mathlib.Core.Bool.{Bool, true, false, _&&_, _||_, not, and-true, and-assoc}
 use mathlib.Core.List.{List}
+use mathlib.Core.Logic.{dite}
 use Prim.Native.Nat.{ℕ, zero, suc, _+_, _-_, _*_, _/_, _%_, _≤_, _<_}
 use native.Mathlib.Nat.{add-zero, add-suc, add-assoc}
 use native.Mathlib.Decide.{ℕ-discrete, decLe, decLt}
 use native.Mathlib.Numerals.{add-one}
 use native.Mathlib.Omega.{arith}
 use borrow.Author.Tests.{eq-eqb, ne-eqb, lt-ltb, le-ltb, le-leb, lt-leb}
+use lib.Bits.{bitOr, or-zero-l, or-add-and, and-le-r}
 use lib.Dec.{eqb, leb, ltb, leb·zero, eqb→eq}
 use lib.ListN.{getD}
 use Rattle.base.specs.Says.{every, bool, Says}
@@ -78,26 +80,15 @@ rated-never x never e k l = rw (lt-leb 255 k l, eq-eqb x never e)
 pub rated-else : (x never : ℕ) → (x ≡ never → ⊥) → (k : ℕ) → k < 255 → leb x k ≡ not (eqb x never) && leb x k
 rated-else x never n k l = rw (ne-eqb x never n)
 
-at-most-0 : (x : ℕ) → leb x 0 ≡ eqb x 0
-at-most-0 x = go (ℕ-discrete x 0)
+-- two joined are 0 exactly where both are
+pub joined-0 : (a b : ℕ) → eqb (bitOr a b) 0 ≡ eqb a 0 && eqb b 0
+joined-0 a b = go (ℕ-discrete a 0)
   where
-    go : Dec (x ≡ 0) → leb x 0 ≡ eqb x 0
-    go (yes e) = rw e
-    go (no n) = rw (ne-eqb x 0 n, lt-leb x 0 (omega arith))
-
--- and 255 is none such
-rated-0 : (x : ℕ) → not (eqb x 255) && leb x 0 ≡ eqb x 0
-rated-0 x = go (ℕ-discrete x 0)
-  where
-    go : Dec (x ≡ 0) → not (eqb x 255) && leb x 0 ≡ eqb x 0
-    go (yes e) = rw e
-    go (no n) = rw (ne-eqb x 0 n, lt-leb x 0 (omega arith)) (and-false (not (eqb x 255)))
+    go : Dec (a ≡ 0) → eqb (bitOr a b) 0 ≡ eqb a 0 && eqb b 0
+    go (yes e) = rw (e, or-zero-l b)
+    go (no n) = rw (ne-eqb a 0 n, ne-eqb (bitOr a b) 0 (λ e. n (omega (arith, or-add-and a b, and-le-r a b))))
 
 module _ (marks : List ℕ) (from : ℕ) where
-  pub all-blank : (n r : ℕ) → leb r 0 ≡ every n (λ j. not (eqb (getD marks (from + j) 0) 255) && leb (getD marks (from + j) 0) 0)
-      → eqb r 0 ≡ every n (λ j. eqb (getD marks (from + j) 0) 0)
-  all-blank n r e = sym (at-most-0 r) ∙ e ∙ all-same _ _ n (λ j l. rated-0 (getD marks (from + j) 0))
-
   -- 64 marks: the first n, and the others
   module _ (n most never : ℕ) (l : n ≤ 64) (z : 0 < never) where
     abbrev inFront : ℕ → Bool
@@ -129,16 +120,16 @@ module _ (marks : List ℕ) (from : ℕ) where
         → b ≡ every (64 - n) (λ j. eqb (getD marks (from + n + j) 0) 0) → b ≡ every 64 inLine
     line-within {r} e u h = h ∙ sym (in-parts ∙ rw (sym e ∙ le-leb r most u))
 
--- the loop that goes on while 16 marks are 0: those of nodes after m are, and 16 more
-pub blank-more : (marks : List ℕ) (m n : ℕ) {b : Bool} → ((i : ℕ) → m < i → i < n → getD marks i 0 ≡ 0)
-    → b ≡ every 16 (λ j. eqb (getD marks (n + j) 0) 0) → b ≡ true → (i : ℕ) → m < i → i < n + 16 → getD marks i 0 ≡ 0
-blank-more marks m n h e t i u v = go (decLt i n)
-  where
-    go : Dec (i < n) → getD marks i 0 ≡ 0
-    go (yes l) = h i u l
-    go (no l) =
-        let q : n + (i - n) ≡ i = omega arith in
-        eqb→eq (getD marks i 0) 0 (rw q at (every-at (λ j. eqb (getD marks (n + j) 0) 0) 16 (i - n) (T-true (sym e ∙ t)) (omega arith)))
+-- absent pairs: k marks that are all 0, and such as follow others
+module _ (marks : List ℕ) (n : ℕ) where
+  pub absent-all : (k : ℕ) {b : Bool} → b ≡ every k (λ j. eqb (getD marks (n + j) 0) 0) → b ≡ true → (i : ℕ) → n ≤ i → i < n + k → getD marks i 0 ≡ 0
+  absent-all k e t i u v =
+      let q : n + (i - n) ≡ i = omega arith in
+      eqb→eq (getD marks i 0) 0 (rw q at (every-at (λ j. eqb (getD marks (n + j) 0) 0) k (i - n) (T-true (sym e ∙ t)) (omega arith)))
+
+  pub absent-on : (m r : ℕ) → ((i : ℕ) → m < i → i < n → getD marks i 0 ≡ 0) → ((i : ℕ) → n ≤ i → i < r → getD marks i 0 ≡ 0)
+      → (i : ℕ) → m < i → i < r → getD marks i 0 ≡ 0
+  absent-on m r g h i u v = dite (decLt i n) (λ l. g i u l) (λ l. h i (omega arith) v)
 
 -- what a mark other than 0 is, on a pair and on a kept node
 pair-mark : (x : ℕ) → (x ≡ 0 → ⊥) → not (eqb x 2) && leb x 4 ≡ eqb x 1 || (eqb x 3 || eqb x 4)

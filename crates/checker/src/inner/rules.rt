@@ -1,6 +1,6 @@
 // All rules of refusal 32, in order: the start, then the targets by index.
 ghost use mathlib.Core.Path.{_≡_};
-ghost use Prim.Native.Nat.{ℕ, _<_, _≤_};
+ghost use Prim.Native.Nat.{ℕ, _+_, _%_, _<_, _≤_};
 ghost use lib.ListN.{length, getD};
 ghost use Rattle.base.specs.Options.{missing, firstOf};
 ghost use Rattle.base.specs.Says.{bool};
@@ -174,7 +174,23 @@ fn pair_fault<'a>(
     )
 }
 
-// A later pair up to which all are absent: groups of 16 absent pairs, most of most records, are passed over at once.
+// How many absent pairs from n on are passed over at once: those of a whole old place, a group of 16, or none.
+fn gap(marks: &[u8], n: usize) -> usize
+    requires { ⌜ (n < 4096) × (n % 16 ≡ 0) × (length (now marks) ≡ 4160) ⌝ }
+    ensures { λ r. ⌜ (n + r ≤ 4096) × ((i : ℕ) → n ≤ i → i < n + r → getD (now (marks .entry)) i 0 ≡ 0) ⌝ }
+{
+    if n % 64 == 0 {
+        if blank(marks, n, 64) {
+            return 64;
+        }
+    }
+    if blank(marks, n, 16) {
+        return 16;
+    }
+    0
+}
+
+// A later pair up to which all are absent. Most pairs of most records are.
 fn next_pair(marks: &[u8], m: usize) -> usize
     requires { ⌜ (m < 4096) × (length (now marks) ≡ 4160) ⌝ }
     ensures { λ r. ⌜ (m < r) × (r ≤ 4096) × ((i : ℕ) → m < i → i < r → getD (now (marks .entry)) i 0 ≡ 0) ⌝ }
@@ -184,10 +200,11 @@ fn next_pair(marks: &[u8], m: usize) -> usize
         if 4096 <= n {
             return n;
         }
-        if !blank(marks, n, 16) {
+        let absent = gap(marks, n);
+        if absent == 0 {
             return n;
         }
-        n += 16;
+        n += absent;
     }
     n
 }

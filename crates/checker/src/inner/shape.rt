@@ -53,12 +53,18 @@ fn worst(marks: &[u8], from: usize, n: usize, never: u8) -> u8
     w
 }
 
-// Whether n marks are all 0.
+// Whether n marks are all 0. They are joined, which the compiler tests at once; the largest of them would cost it far more.
 pub fn blank(marks: &[u8], from: usize, n: usize) -> bool
     requires { ⌜ from + n ≤ length (now marks) ⌝ }
     ensures { λ r. ⌜ r ≡ bool (each n (λ j. eq (getD (now (marks .entry)) (from + j) 0) 0)) ⌝ }
 {
-    worst(marks, from, n, 255) == 0
+    let mut all = 0;
+    let mut j = 0;
+    while j < n {
+        all = all | marks[from + j];
+        j += 1;
+    }
+    all == 0
 }
 
 // Of 64 marks, whether the first n are at most `most` and not `never`, and the others 0.

@@ -4,8 +4,7 @@ use Prim.Native.Nat.{ℕ, _-_, _≤_, _<_}
 use native.Mathlib.Omega.{arith}
 use lib.ListN.{getD}
 use borrow.Author.Needs.{needs}
-use borrow.Author.Tests.{not-false}
-use Rattle.checker.proofs.Shapes.{blank-more}
+use Rattle.checker.proofs.Shapes.{absent-on}
 use Rattle.checker.proofs.inner.rules.next_pair.Statement.{statement}
 use Rattle.checker.proofs.inner.rules.next_pair.Tie as tie
 
@@ -24,8 +23,8 @@ loop-holds c = (omega arith, omega arith, λ i u v. absurd (omega arith))
 returns : tie.Need-returns Inv-loop μ-loop
 returns c = c .before .before .loop .inv
 
-blank-requires : tie.Need-blank-requires Inv-loop μ-loop
-blank-requires c κs = omega arith
+gap-requires : tie.Need-gap-requires Inv-loop μ-loop
+gap-requires c κs = (omega arith, omega arith, omega arith)
 
 returns-2 : tie.Need-returns-2 Inv-loop μ-loop
 returns-2 c = c .before .before .before .before .loop .inv
@@ -37,7 +36,7 @@ loop-less : tie.Need-loop-less Inv-loop μ-loop
 loop-less c = omega arith
 
 loop-again : tie.Need-loop-again Inv-loop μ-loop
-loop-again c = (omega arith, omega arith, blank-more (c .before .before .before .before .before .before .args .marks .now) _ (c .before .before .before .before .loop .n) (c .before .before .before .before .loop .inv .2) (c .before .blank .ensures) (not-false _ (c .if2 .left)))
+loop-again c = (omega arith, omega arith, absent-on (c .before .before .before .before .before .before .args .marks .now) _ _ _ (c .before .before .before .before .loop .inv .2) (c .before .gap .ensures .1))
 
 returns-3 : tie.Need-returns-3 Inv-loop μ-loop
 returns-3 c = c .before .loop .inv
@@ -51,7 +50,7 @@ next-pair-spec =
     add-n
     loop-holds
     returns
-    blank-requires
+    gap-requires
     returns-2
     add-n-2
     loop-less
