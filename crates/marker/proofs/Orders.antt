@@ -4,11 +4,11 @@ use mathlib.Core.Bool.{Bool, true, false}
 use mathlib.Core.Logic.{_⊎_, inl, inr, ⊎-elim, dite}
 use mathlib.Core.List.{List, [], _∷_}
 use mathlib.Core.Option.{none, some}
-use Prim.Native.Nat.{ℕ, suc, _+_, _*_, _-_, _≤_, _<_}
+use Prim.Native.Nat.{ℕ, suc, _+_, _-_, _≤_, _<_}
 use native.Mathlib.Nat.{add-suc}
 use native.Mathlib.Omega.{arith}
 use native.Mathlib.Decide.{ℕ-discrete, decLt}
-use borrow.Author.Tests.{eqb-true}
+use borrow.Author.Tests.{eqb-true, ne-eqb}
 use lib.Dec.{T, eqb, eqb→eq}
 use lib.ListN.{length, getD, set, take, length-set}
 use lib.Seq.{getD-set-same, getD-set-other, getD-take, length-take-le, ext-getD}
@@ -16,9 +16,9 @@ use Rattle.base.specs.Walks.{firstFrom}
 use Rattle.base.proofs.Repeat.{repeated-keeps}
 use Rattle.base.proofs.Tests.{T-or, T-true, and-true}
 use Rattle.checker.specs.Records.{index}
-use Rattle.marker.specs.Spans.{allAre}
+use Rattle.words.specs.Words.{First, Last}
+use Rattle.marker.specs.Seen.{HoldsBeyond}
 use Rattle.marker.specs.Marks.{inQ, opening, nextOpening, opened, allOpened, Opened, none-yet, one-more, Tried, Swept}
-use Rattle.marker.proofs.Spans.{all-at}
 use Rattle.marker.proofs.Marks.{opening-why, fours, open-less, left-beyond, all-rest}
 
 -- none is found where none passes
@@ -66,7 +66,7 @@ module _ (t : List ℕ) where
 
   module _ {x : List ℕ} (l : length x ≡ 4160) where
     -- a mark is as it was, or was 4 and is 1
-    opened-at : {y : List ℕ} {n : ℕ} → Opened t x n y → (k : ℕ) → (getD y k 0 ≡ getD x k 0) ⊎ ((getD x k 0 ≡ 4) × (getD y k 0 ≡ 1))
+    pub opened-at : {y : List ℕ} {n : ℕ} → Opened t x n y → (k : ℕ) → (getD y k 0 ≡ getD x k 0) ⊎ ((getD x k 0 ≡ 4) × (getD y k 0 ≡ 1))
     opened-at none-yet k = inl refl
     opened-at (one-more {y = y} i o b e) k =
         dite (ℕ-discrete k i)
@@ -107,7 +107,7 @@ module _ (t : List ℕ) where
         go k (inr a) (inl b) = a .1 ∙ sym (under p g o k (a .1))
         go k (inr a) (inr b) = a .1 ∙ sym (b .1)
 
-    some-opened : (n : ℕ) × Opened t x n (allOpened t x)
+    pub some-opened : (n : ℕ) × Opened t x n (allOpened t x)
     unfolding allOpened
     some-opened =
         repeated-keeps (nextOpening t) opened (λ y. (n : ℕ) × Opened t x n y) (λ y i s e. next y i s e) 4096 x (0, none-yet)
@@ -125,67 +125,73 @@ module _ (t : List ℕ) where
 module _ (t : List ℕ) where
   module _ {x : List ℕ} (i : ℕ) {b : Bool} (e : b ≡ opening t x i (getD x i 0)) where
     pub tried-yes : {y : List ℕ} → i < 4096 → b ≡ true → y ≡ set x i 1 → Tried t x i 1 y
-    tried-yes l h q = rw q (record { did = one-more i none-yet l (sym e ∙ h); most = omega arith; else-not = λ z. absurd (omega arith) })
+    tried-yes l h q = rw q (record { did = one-more i none-yet l (sym e ∙ h); most = omega arith; here = λ z. refl; else-not = λ z. absurd (omega arith) })
 
     pub tried-no : b ≡ false → Tried t x i 0 x
-    tried-no h = record { did = none-yet; most = omega arith; else-not = λ z. (refl, sym e ∙ h) }
+    tried-no h = record { did = none-yet; most = omega arith; here = λ z. absurd (z refl); else-not = λ z. (refl, sym e ∙ h) }
 
-  pub sweep-start : (x : List ℕ) (e : ℕ) → Swept t x e e 0 x
+  sweep-start : (x : List ℕ) (e : ℕ) → Swept t x e e 0 x
   sweep-start x e = record { did = none-yet; long = refl; near = omega arith; most = omega arith; else-not = λ z. (refl, λ k a b. absurd (omega arith)) }
 
-  -- lower pairs after higher ones
-  pub swept-then : {x y z : List ℕ} {i j e n r : ℕ} → Swept t x j e n y → Swept t y i j r z → Swept t x i e (n + r) z
-  swept-then {x} {y} {z} {i} {j} {e} {n} {r} S R =
-      record {
-        did = opened-then t (S .did) (R .did);
-        long = R .long ∙ S .long;
-        near = omega (arith, S .near, R .near);
-        most = omega (arith, S .most, S .near, R .most, R .near);
-        else-not = λ h. (
-          R .else-not (omega arith) .0 ∙ S .else-not (omega arith) .0,
-          λ k a b. dite (decLt k j)
-              (λ q. subst (λ (w : List ℕ). opening t w k (getD w k 0) ≡ false) (S .else-not (omega arith) .0) (R .else-not (omega arith) .1 k a q))
-              (λ q. S .else-not (omega arith) .1 k (omega arith) b),
-        );
-      }
+  module _ {x y : List ℕ} {a b n : ℕ} (S : Swept t x a b n y) (i e : ℕ) where
+    -- what the pass found of y it found of x, as it opened none
+    same-pair : n ≡ 0 → (k : ℕ) → opening t y k (getD y k 0) ≡ false → opening t x k (getD x k 0) ≡ false
+    same-pair h k f = subst (λ (w : List ℕ). opening t w k (getD w k 0) ≡ false) (S .else-not h .0) f
 
-  tried-span : {x y : List ℕ} {i n : ℕ} → Tried t x i n y → Swept t x i (i + 1) n y
-  tried-span {i = i} T =
-      record {
-        did = T .did;
-        long = opened-long t (T .did);
-        near = omega arith;
-        most = omega (arith, T .most);
-        else-not = λ h. (T .else-not h .0, λ k a b. let e : k ≡ i = omega arith in rw e (T .else-not h .1));
-      }
+    -- the span grows by pair j
+    sweep-more : {z : List ℕ} {j r : ℕ} → Tried t y j r z → suc (b - a) ≤ e - i → ((k : ℕ) → i ≤ k → k < e → (k ≡ j → ⊥) → (a ≤ k) × (k < b)) → Swept t x i e (n + r) z
+    sweep-more {j = j} T l others =
+        record {
+          did = opened-then t (S .did) (T .did);
+          long = opened-long t (T .did) ∙ S .long;
+          near = omega arith;
+          most = omega (arith, S .most, T .most);
+          else-not = λ h. (
+            T .else-not (omega arith) .0 ∙ S .else-not (omega arith) .0,
+            λ k p q. dite (ℕ-discrete k j) (λ f. same-pair (omega arith) k (rw f (T .else-not (omega arith) .1)))
+                (λ f. let w = others k p q f in S .else-not (omega arith) .1 k (w .0) (w .1)),
+          );
+        }
 
-  pub sweep-more : {x y z : List ℕ} {a i e n r : ℕ} → Swept t x i e n y → a < i → Tried t y (i - 1) r z → Swept t x (i - 1) e (n + r) z
-  sweep-more {y = y} {z = z} {i = i} {r = r} S l T =
-      let e : i - 1 + 1 ≡ i = omega arith in
-      swept-then S (subst (λ (k : ℕ). Swept t y (i - 1) k r z) e (tried-span T))
+    -- it grows over pairs that are not beyond
+    sweep-past : i ≤ a → b ≤ e → ((k : ℕ) → i ≤ k → k < e → getD y k 0 ≡ 4 → (a ≤ k) × (k < b)) → Swept t x i e n y
+    unfolding opening
+    sweep-past l m others =
+        record {
+          did = S .did;
+          long = S .long;
+          near = omega (arith, S .near);
+          most = omega (arith, S .most, S .near);
+          else-not = λ h. (
+            S .else-not h .0,
+            λ k p q. dite (ℕ-discrete (getD y k 0) 4) (λ f. let w = others k p q f in S .else-not h .1 k (w .0) (w .1))
+                (λ f. same-pair h k (rw (ne-eqb (getD y k 0) 4 f))),
+          );
+        }
 
-  pub sweep-end : {x y : List ℕ} {i n : ℕ} (a e : ℕ) → Swept t x i e n y → i ≤ a → a ≤ i → Swept t x a e n y
-  sweep-end {x} {y} {i} {n} a e S p q = let h : i ≡ a = omega arith in subst (λ (k : ℕ). Swept t x k e n y) h S
+  -- ---- down: the pairs from i on are done
+  pub down-start : {w x : List ℕ} {i : ℕ} → HoldsBeyond w x → Last w 4096 i → Swept t x i 4096 0 x
+  down-start {x = x} {i = i} H L = sweep-past (sweep-start x 4096) i 4096 (L .most) (omega arith) (λ k p q f. absurd (L .none k p q (H .has k q f)))
 
-  -- where no pair is there, none is opened
-  pub sweep-none : {x : List ℕ} (i : ℕ) {b : Bool} → b ≡ allAre 0 i (i + 16) x → b ≡ true → Swept t x i (i + 16) 0 x
-  unfolding opening
-  sweep-none {x} i a h =
-      record {
-        did = none-yet;
-        long = refl;
-        near = omega arith;
-        most = omega arith;
-        else-not = λ z. (refl, λ k p q. rw (all-at 0 i (i + 16) x (sym a ∙ h) k p q));
-      }
+  pub down-more : {w x y z : List ℕ} {i j n r : ℕ} → Swept t x i 4096 n y → 0 < i → Tried t y (i - 1) r z → HoldsBeyond w z → Last w (i - 1) j → Swept t x j 4096 (n + r) z
+  down-more {i = i} {j = j} S l T H L =
+      sweep-past (sweep-more S (i - 1) 4096 T (omega (arith, S .near)) (λ k p q f. (omega arith, q))) j 4096 (L .most) (omega arith)
+      (λ k p q f. dite (decLt k (i - 1)) (λ h. absurd (L .none k p h (H .has k q f))) (λ h. (omega arith, q)))
 
-  pub sweep-group : {x y z : List ℕ} {g n r : ℕ} → Swept t x (16 * g) 4096 n y → 0 < g → Swept t y (16 * (g - 1)) (16 * (g - 1) + 16) r z → Swept t x (16 * (g - 1)) 4096 (n + r) z
-  sweep-group {y = y} {z = z} {g = g} {r = r} S l R =
-      let e : 16 * (g - 1) + 16 ≡ 16 * g = omega arith in
-      swept-then S (subst (λ (k : ℕ). Swept t y (16 * (g - 1)) k r z) e R)
+  pub down-end : {x y : List ℕ} {i n : ℕ} → Swept t x i 4096 n y → i ≤ 0 → Swept t x 0 4096 n y
+  down-end {i = i} S l = let e : i ≡ 0 = omega arith in rw e at S
 
-  pub sweep-all : {x y : List ℕ} {g n : ℕ} → Swept t x (16 * g) 4096 n y → g ≤ 0 → Swept t x 0 4096 n y
-  sweep-all {g = g} S l = sweep-end 0 4096 S (omega arith) (omega arith)
+  -- ---- up: the pairs below i are done
+  pub up-start : {w x : List ℕ} {i : ℕ} → HoldsBeyond w x → First w 0 i → Swept t x 0 i 0 x
+  up-start {x = x} {i = i} H F = sweep-past (sweep-start x 0) 0 i (omega arith) (omega arith) (λ k p q f. absurd (F .none k p q (H .has k (omega (arith, F .most)) f)))
+
+  pub up-more : {w x y z : List ℕ} {i j n r : ℕ} → Swept t x 0 i n y → i < 4096 → Tried t y i r z → HoldsBeyond w z → First w (i + 1) j → Swept t x 0 j (n + r) z
+  up-more {i = i} {j = j} S l T H F =
+      sweep-past (sweep-more S 0 (i + 1) T (omega arith) (λ k p q f. (p, omega arith))) 0 j (omega arith) (F .least)
+      (λ k p q f. dite (decLt k (i + 1)) (λ h. (p, h)) (λ h. absurd (F .none k (omega arith) q (H .has k (omega (arith, F .most)) f))))
+
+  pub up-end : {x y : List ℕ} {i n : ℕ} → Swept t x 0 i n y → i ≤ 4096 → 4096 ≤ i → Swept t x 0 4096 n y
+  up-end {i = i} S l m = let e : i ≡ 4096 = omega arith in rw e at S
 
   -- a pass that opened none leaves none to open
   pub swept-rests : {x y : List ℕ} → length x ≡ 4160 → Swept t x 0 4096 0 y → nextOpening t y ≡ none

@@ -1,9 +1,9 @@
 -- Algorithm 1 in the form in which the code meets it. Assumes nothing.
 use mathlib.Core.Path.{_≡_, refl, sym, ap, _∙_}
-use mathlib.Core.Bool.{Bool, true, false}
+use mathlib.Core.Bool.{Bool, true, false, _||_}
 use mathlib.Core.List.{List, [], _∷_}
 use mathlib.Core.Logic.{dite}
-use Prim.Native.Nat.{ℕ, zero, suc, _+_, _*_, _-_, _≤_, _<_}
+use Prim.Native.Nat.{ℕ, suc, _+_, _*_, _≤_, _<_}
 use native.Mathlib.Numerals.{add-one}
 use native.Mathlib.Omega.{arith}
 use native.Mathlib.Decide.{ℕ-discrete, decLt}
@@ -12,10 +12,14 @@ use lib.Dec.{eqb}
 use lib.ListN.{length, getD, set, drop, length-set, length-drop, drop-of-length-le, List·getD-eq-default}
 use lib.Seq.{drop-cons, getD-drop, getD-set-same, getD-set-other}
 use Rattle.checker.specs.Records.{index}
-use Rattle.marker.specs.Spans.{allAre, remade}
-use Rattle.marker.specs.Marks.{plainMark, plainAs, plainMarks, inQ, opening, allOpened, transitions, cover, covered, coverFrom, coverSpan, allCovered, finalMarks}
+use Rattle.words.specs.Words.{First}
+use Rattle.marker.specs.Spans.{remade}
+use Rattle.marker.specs.Seen.{Holds}
+use Rattle.marker.specs.Marks.{plainMark, plainAs, plainMarks, inQ, opening, allOpened, transitions, cover, covered, coverFrom, allCovered, finalMarks}
 use Rattle.graph.proofs.Stores.{passing-none, passing-all}
-use Rattle.marker.proofs.Spans.{all-at, passing-span}
+use Rattle.marker.proofs.Marks.{cover-same}
+use Rattle.marker.proofs.Spans.{up-to, passing-span}
+use Rattle.marker.proofs.Seen.{holds-kept}
 
 -- ---- plain marks
 module _ (v x : ℕ) where
@@ -73,13 +77,9 @@ module _ (t m : List ℕ) (i x : ℕ) where
   unfolding opening
   opens-not e = rw (ne-eqb x 4 e)
 
-  pub opens-first : {r : Bool} → x ≡ 4 → r ≡ inQ m (getD t (2 * i) 0) → r ≡ true → true ≡ opening t m i x
+  pub opens-either : {r s : Bool} → x ≡ 4 → r ≡ inQ m (getD t (2 * i) 0) → s ≡ inQ m (getD t (2 * i + 1) 0) → r || s ≡ opening t m i x
   unfolding opening
-  opens-first e b c = let z : index i 0 ≡ 2 * i = omega arith in rw (e, z, sym b ∙ c)
-
-  pub opens-second : {r s : Bool} → x ≡ 4 → r ≡ inQ m (getD t (2 * i) 0) → r ≡ false → s ≡ inQ m (getD t (2 * i + 1) 0) → s ≡ opening t m i x
-  unfolding opening
-  opens-second e b c d = let z : index i 0 ≡ 2 * i = omega arith in rw (e, z, sym b ∙ c) d
+  opens-either e b c = let z : index i 0 ≡ 2 * i = omega arith in rw (e, z, b, c)
 
 -- ---- covering
 module _ (m : List ℕ) (n : ℕ) where
@@ -135,6 +135,15 @@ module _ (t m : List ℕ) (i : ℕ) where
       (λ e. ap length (from-is e) ∙ length-cover (cover m (getD t (index i 0) 0)) (getD t (index i 1) 0) ∙ length-cover m (getD t (index i 0) 0))
       (λ e. ap length (sym (from-not e)))
 
+  pub holds-from : {w m₁ : List ℕ} → Holds w m → m₁ ≡ coverFrom t m i → Holds w m₁
+  holds-from H e = rw e (holds-kept H (λ k z. go k z (ℕ-discrete (getD m i 0) 1)))
+    where
+      go : (k : ℕ) → getD m k 0 ≡ 0 → Dec (getD m i 0 ≡ 1) → getD (coverFrom t m i) k 0 ≡ 0
+      go k z (no q) = rw (← from-not q) z
+      go k z (yes q) =
+          let a = cover-same m (getD t (index i 0) 0) k (λ h. omega arith) ∙ z in
+          rw (from-is q) (cover-same (cover m (getD t (index i 0) 0)) (getD t (index i 1) 0) k (λ h. omega arith) ∙ a)
+
 -- lists with the same open pairs have the same transitions
 same-transitions : (x y t : List ℕ) → length x ≡ length y → ((k : ℕ) → eqb (getD x k 0) 1 ≡ eqb (getD y k 0) 1) → transitions x t ≡ transitions y t
 unfolding transitions
@@ -148,14 +157,15 @@ same-transitions (a ∷ x) (b ∷ y) (u ∷ (v ∷ t)) l h =
     λ i. elim (h 0 i) [ true ↦ u ∷ (v ∷ z i) | false ↦ z i ]
 
 -- the loop that covers: what is left to do leads to the whole
-pub record Covering (t m₀ m : List ℕ) (i : ℕ) : Type 0 where
+pub record Covering (t w m₀ m : List ℕ) (i : ℕ) : Type 0 where
   pub long : length m ≡ 4160
+  pub held : Holds w m
   pub most : i ≤ 4096
   pub same : allCovered t m₀ ≡ covered m (transitions (drop i m) (drop (2 * i) t))
 
-pub cover-start : (t m : List ℕ) → length m ≡ 4160 → Covering t m m 0
+cover-begin : (t : List ℕ) {w m : List ℕ} → length m ≡ 4160 → Holds w m → Covering t w m m 0
 unfolding allCovered
-cover-start t m l = record { long = l; most = omega arith; same = refl }
+cover-begin t l H = record { long = l; held = H; most = omega arith; same = refl }
 
 module _ (t : List ℕ) (w : length t ≡ 8192) where
   heads : (i : ℕ) → i < 4096 → drop (2 * i) t ≡ getD t (index i 0) 0 ∷ (getD t (index i 1) 0 ∷ drop (2 * (i + 1)) t)
@@ -171,11 +181,12 @@ module _ (t : List ℕ) (w : length t ≡ 8192) where
       rw (drop-cons m i 0 (omega arith), heads i l, add-one i)
       (dite (ℕ-discrete (getD m i 0) 1) (λ e. rw (e, transitions) (rw (from-is t m i e))) (λ e. rw (ne-eqb (getD m i 0) 1 e, transitions) (rw (← from-not t m i e))))
 
-  pub cover-more : {m₀ m m′ : List ℕ} {i : ℕ} → Covering t m₀ m i → i < 4096 → m′ ≡ coverFrom t m i → Covering t m₀ m′ (i + 1)
+  cover-more : {v m₀ m m′ : List ℕ} {i : ℕ} → Covering t v m₀ m i → i < 4096 → m′ ≡ coverFrom t m i → Covering t v m₀ m′ (i + 1)
   cover-more {m = m} {m′ = m′} {i = i} C l e =
       rw e
       (record {
         long = length-from t m i ∙ C .long;
+        held = holds-from t m i (C .held) refl;
         most = omega arith;
         same =
             C .same ∙ open-step m i l (C .long)
@@ -184,73 +195,27 @@ module _ (t : List ℕ) (w : length t ≡ 8192) where
             (λ k. rw (getD-drop, getD-drop) (from-ones t m i (i + 1 + k)))));
       })
 
-  -- n pairs more
-  cover-span : {m₀ m : List ℕ} {i : ℕ} (n : ℕ) → Covering t m₀ m i → i + n ≤ 4096 → Covering t m₀ (coverSpan t i n m) (i + n)
-  unfolding coverSpan
-  cover-span {i = i} zero C l = let e : i + 0 ≡ i = omega arith in rw e C
-  cover-span {m = m} {i = i} (suc n) C l =
-      let e : i + suc n ≡ i + n + 1 = omega arith in
-      rw e (cover-more (cover-span n C (omega arith)) (omega arith) refl)
+  -- up to the next member, none covers
+  cover-over : {v m₀ m : List ℕ} {i j : ℕ} → Covering t v m₀ m i → First v i j → Covering t v m₀ m j
+  cover-over {v} {m₀} {m} {i} {j} C F =
+      up-to (Covering t v m₀ m) j (F .least) C
+      (λ k p q D. cover-more D (omega (arith, F .most)) (from-not t m k (λ e. F .none k p q (C .held .has k (omega (arith, F .most)) (omega arith)))))
 
-  pub cover-group : {m₀ m m′ : List ℕ} {g : ℕ} → Covering t m₀ m (16 * g) → g < 256 → m′ ≡ coverSpan t (16 * g) 16 m → Covering t m₀ m′ (16 * (g + 1))
-  cover-group {g = g} C l e =
-      let z : 16 * (g + 1) ≡ 16 * g + 16 = omega arith in
-      rw (z, e) (cover-span 16 C (omega arith))
+  pub cover-start : {v m : List ℕ} {j : ℕ} → length m ≡ 4160 → Holds v m → First v 0 j → Covering t v m m j
+  cover-start l H F = cover-over (cover-begin t l H) F
 
-  cover-done : {m₀ m : List ℕ} {i : ℕ} → Covering t m₀ m i → 4096 ≤ i → m ≡ allCovered t m₀
+  pub cover-next : {v m₀ m m′ : List ℕ} {i j : ℕ} → Covering t v m₀ m i → i < 4096 → m′ ≡ coverFrom t m i → First v (i + 1) j → Covering t v m₀ m′ j
+  cover-next C l e F = cover-over (cover-more C l e) F
+
+  pub cover-end : {v m₀ m : List ℕ} {i : ℕ} → Covering t v m₀ m i → 4096 ≤ i → m ≡ allCovered t m₀
   unfolding covered transitions
-  cover-done {m = m} {i = i} C l =
+  cover-end {m = m} {i = i} C l =
       let e : drop (2 * i) t ≡ [] = drop-of-length-le t {i = 2 * i} (omega arith) in
       sym (C .same ∙ rw e (none-left (drop i m)))
     where
       none-left : (x : List ℕ) → covered m (transitions x []) ≡ m
       none-left [] = refl
       none-left (a ∷ x) = refl
-
-  pub cover-end : {m₀ m : List ℕ} {g : ℕ} → Covering t m₀ m (16 * g) → 256 ≤ g → m ≡ allCovered t m₀
-  cover-end C l = cover-done C (omega arith)
-
--- the loop over a span
-pub record Spanning (t : List ℕ) (a b : ℕ) (m₀ m : List ℕ) (i : ℕ) : Type 0 where
-  pub least : a ≤ i
-  pub most : i ≤ b
-  pub long : length m ≡ 4160
-  pub is : m ≡ coverSpan t a (i - a) m₀
-
-module _ (t : List ℕ) (a b : ℕ) where
-  pub span-start : {m : List ℕ} → length m ≡ 4160 → a ≤ b → Spanning t a b m m a
-  unfolding coverSpan
-  span-start l h = let z : a - a ≡ 0 = omega arith in record { least = omega arith; most = h; long = l; is = rw z }
-
-  pub span-more : {m₀ m m′ : List ℕ} {i : ℕ} → Spanning t a b m₀ m i → i < b → m′ ≡ coverFrom t m i → Spanning t a b m₀ m′ (i + 1)
-  unfolding coverSpan
-  span-more {m₀} {m} {i = i} S l e =
-      let z : i + 1 - a ≡ suc (i - a) = omega (arith, S .least) in
-      let w : a + (i - a) ≡ i = omega (arith, S .least) in
-      record {
-        least = omega (arith, S .least);
-        most = omega arith;
-        long = ap length e ∙ length-from t m i ∙ S .long;
-        is = e ∙ rw (z, coverSpan, w) (ap (λ (x : List ℕ). coverFrom t x i) (S .is));
-      }
-
-  pub span-end : {m₀ m : List ℕ} {i : ℕ} → Spanning t a b m₀ m i → b ≤ i → m ≡ coverSpan t a (b - a) m₀
-  span-end {m₀} {i = i} S l = let e : i ≡ b = omega (arith, S .most) in S .is ∙ ap (λ (x : ℕ). coverSpan t a (x - a) m₀) e
-
-module _ (t m : List ℕ) (i : ℕ) where
-  -- where no pair is there, none covers
-  span-none : (n : ℕ) → ((k : ℕ) → i ≤ k → k < i + n → getD m k 0 ≡ 0) → coverSpan t i n m ≡ m
-  unfolding coverSpan
-  span-none zero h = refl
-  span-none (suc n) h =
-      rw (span-none n (λ k p q. h k p (omega arith)))
-      (sym (from-not t m (i + n) (λ e. omega (arith, h (i + n) (omega arith) (omega arith)))))
-
-  pub group-none : {r : Bool} → r ≡ allAre 0 i (i + 16) m → r ≡ true → m ≡ coverSpan t i 16 m
-  group-none e h = sym (span-none 16 (all-at 0 i (i + 16) m (sym e ∙ h)))
-
-  pub group-some : {m′ : List ℕ} → m′ ≡ coverSpan t i (i + 16 - i) m → m′ ≡ coverSpan t i 16 m
-  group-some e = let z : i + 16 - i ≡ 16 = omega arith in e ∙ rw z
 
 -- ---- all of it
 pub rank-is : (n : ℕ) (t m : List ℕ) {m₁ m₂ m₃ m₄ : List ℕ} → m₁ ≡ plainMarks m → m₂ ≡ set m₁ n 1 → m₃ ≡ allOpened t m₂ → m₄ ≡ allCovered t m₃ → m₄ ≡ finalMarks n t m

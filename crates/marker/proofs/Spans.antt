@@ -3,9 +3,9 @@ use mathlib.Core.Path.{_≡_, refl, sym, ap, _∙_}
 use mathlib.Core.Bool.{Bool, true, _&&_}
 use mathlib.Core.Logic.{dite}
 use mathlib.Core.List.{List}
-use Prim.Native.Nat.{ℕ, suc, _+_, _-_, _≤_, _<_}
+use Prim.Native.Nat.{ℕ, zero, suc, _+_, _-_, _≤_, _<_}
 use native.Mathlib.Omega.{arith}
-use native.Mathlib.Decide.{decLt}
+use native.Mathlib.Decide.{ℕ-discrete, decLt}
 use borrow.Author.Tests.{lt-ltb, le-ltb}
 use lib.Dec.{eqb, eqb→eq}
 use lib.ListN.{length, getD, set, length-set, List·getD-eq-default}
@@ -16,6 +16,15 @@ use Rattle.base.proofs.Tests.{T-true}
 use Rattle.base.proofs.Walks.{length-pass, pass-at, pass-is}
 use Rattle.marker.specs.Spans.{allAre, among, remade}
 use Rattle.graph.proofs.Stores.{Passing, passing-more}
+
+-- what holds at i and passes from each number to the next holds at j
+pub up-to : (P : ℕ → Type 0) {i : ℕ} (j : ℕ) → i ≤ j → P i → ((k : ℕ) → i ≤ k → k < j → P k → P (k + 1)) → P j
+up-to P {i} zero l p f = let e : i ≡ 0 = omega arith in rw e at p
+up-to P {i} (suc j) l p f = go (ℕ-discrete i (suc j)) (λ h. up-to P j h p (λ k a b. f k a (omega arith)))
+  where
+    go : Dec (i ≡ suc j) → (i ≤ j → P j) → P (suc j)
+    go (yes e) ih = rw e at p
+    go (no e) ih = let z : j + 1 ≡ suc j = omega arith in rw z at (f j (omega arith) (omega arith) (ih (omega arith)))
 
 -- ---- the loop that asks whether all elements from a up to b are v: of those below i, r says whether they are
 pub record Alike (v a b : ℕ) (l : List ℕ) (r : Bool) (i : ℕ) : Type 0 where

@@ -7,9 +7,11 @@ use native.Mathlib.Omega.{arith}
 use native.Mathlib.Decide.{ℕ-discrete}
 use lib.ListN.{length}
 use Rattle.align.specs.Sets.{joined}
-use Rattle.marker.specs.Marks.{allOpened, Opened, none-yet, Tried, Swept}
+use Rattle.marker.specs.Marks.{allOpened, none-yet, Tried, Swept}
+use Rattle.marker.specs.Seen.{HoldsBeyond}
 use Rattle.marker.specs.Spreads.{Spread}
 use Rattle.marker.proofs.Marks.{fours}
+use Rattle.marker.proofs.Seen.{beyond-spread}
 use Rattle.marker.proofs.Orders.{opened-long, opened-then, opened-fours, Sweeping, sweeping-again, sweeping-less, sweeping-done}
 
 joined-none : _≡_ {A = ℕ} (joined 0 0) 0
@@ -65,9 +67,19 @@ module _ (t : List ℕ) where
       let A : Sweeping t _ _ = record { long = l; same = W .same ∙ F .long; count = r + W .count; did = opened-then t (F .did) (W .did) } in
       sweeping-done t A S e
 
-  module _ {x y z w : List ℕ} {r s : ℕ} (W : Sweeping t x y) (S : Swept t y 0 4096 r z) (R : Spread t z s w) where
-    pub passes-again : Sweeping t x w
-    passes-again = rounds-again (sweeping-again t W S) R
+  module _ {x y z w : List ℕ} {r s : ℕ} (W : Sweeping t x y) (S : Swept t y 0 4096 r z) (R : Swept t z 0 4096 s w) where
+    pub passes-end : {o : List ℕ} {q : ℕ} → length o ≡ 4160 → Swept t o 0 4096 q x → s ≡ 0 → w ≡ allOpened t o
+    passes-end l F e = passes-done l F (sweeping-again t W S) R e
 
-    pub passes-less : (r ≡ 0 → ⊥) → fours t w < fours t y
-    passes-less h = omega (arith, sweeping-less t W S h, opened-fours t (S .long ∙ W .same ∙ W .long) (R .did))
+    module _ {v : List ℕ} {q : ℕ} (P : Spread t w q v) where
+      pub passes-again : Sweeping t x v
+      passes-again = rounds-again (sweeping-again t (sweeping-again t W S) R) P
+
+      long : length z ≡ 4160
+      long = S .long ∙ W .same ∙ W .long
+
+      pub passes-rest : {u : List ℕ} → HoldsBeyond u w → HoldsBeyond u v
+      passes-rest H = beyond-spread H (R .long ∙ long) P
+
+      pub passes-less : (r ≡ 0 → ⊥) → fours t v < fours t y
+      passes-less h = omega (arith, sweeping-less t W S h, opened-fours t long (R .did), opened-fours t (R .long ∙ long) (P .did))

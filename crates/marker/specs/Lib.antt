@@ -1,4 +1,5 @@
 -- Algorithm 1 over the buffers.
 pub mod Spans
+pub mod Seen
 pub mod Marks
 pub mod Spreads

@@ -3,7 +3,7 @@ use mathlib.Core.Path.{_≡_}
 use mathlib.Core.Bool.{Bool, true, false, _&&_, _||_}
 use mathlib.Core.List.{List, [], _∷_}
 use mathlib.Core.Option.{Option}
-use Prim.Native.Nat.{ℕ, zero, suc, _+_, _-_, _≤_, _<_}
+use Prim.Native.Nat.{ℕ, suc, _-_, _≤_, _<_}
 use lib.Dec.{eqb, ltb}
 use lib.ListN.{length, getD, set, take}
 use Rattle.base.specs.Walks.{pass, firstFrom}
@@ -49,6 +49,7 @@ pub data Opened (t x : List ℕ) : ℕ → List ℕ → Type 0 where
 pub record Tried (t x : List ℕ) (i n : ℕ) (y : List ℕ) : Type 0 where
   pub did : Opened t x n y
   pub most : n ≤ 1
+  pub here : (n ≡ 0 → ⊥) → y ≡ set x i 1
   pub else-not : n ≡ 0 → (y ≡ x) × (opening t x i (getD x i 0) ≡ false)
 
 -- so were the pairs from i up to e
@@ -77,11 +78,6 @@ covered m (n ∷ l) = covered (cover m n) l
 -- the same of pair i alone, over the targets t
 unfoldable pub coverFrom : List ℕ → List ℕ → ℕ → List ℕ
 coverFrom t m i = elim (eqb (getD m i 0) 1) [ true ↦ cover (cover m (getD t (index i 0) 0)) (getD t (index i 1) 0) | false ↦ m ]
-
--- the same of n pairs from i on, one after another
-unfoldable pub coverSpan : List ℕ → ℕ → ℕ → List ℕ → List ℕ
-coverSpan t i zero m = m
-coverSpan t i (suc n) m = coverFrom t (coverSpan t i n m) (i + n)
 
 -- Algorithm 1 from the start pair n, the marks between turns and the final targets
 unfoldable pub allCovered : List ℕ → List ℕ → List ℕ

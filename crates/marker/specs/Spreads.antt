@@ -1,8 +1,12 @@
 -- Pairs opened between two full passes (lines 2 to 5 of Algorithm 1).
 use mathlib.Core.Path.{_≡_}
+use mathlib.Core.Bool.{true, false}
 use mathlib.Core.List.{List}
-use Prim.Native.Nat.{ℕ, _<_}
-use lib.ListN.{length}
+use Prim.Native.Nat.{ℕ, zero, suc, _%_, _<_}
+use lib.Dec.{eqb, ltb}
+use lib.ListN.{length, getD, set}
+use Rattle.align.specs.Sets.{with}
+use Rattle.checker.specs.Records.{index}
 use Rattle.marker.specs.Marks.{Opened}
 
 -- pairs were opened, one after another: y is what x has become. There was one at least, if r is not 0
@@ -11,3 +15,17 @@ pub record Spread (t x : List ℕ) (r : ℕ) (y : List ℕ) : Type 0 where
   pub did : Opened t x count y
   pub long : length y ≡ length x
   pub some : (r ≡ 0 → ⊥) → 0 < count
+
+-- ---- which of these to try first: for each new place a set of new places. No rule of document 01 speaks of them
+-- that of place q with the new place of node n, if n is a pair
+unfoldable pub ledTo : List ℕ → ℕ → ℕ → List ℕ
+ledTo l q n = elim (ltb n 4096) [ true ↦ set l q (with (getD l q 0) (n % 64)) | false ↦ l ]
+
+-- that of pair i's new place with those of its targets, if it is beyond
+unfoldable pub ledFrom : List ℕ → List ℕ → List ℕ → ℕ → List ℕ
+ledFrom t m l i = elim (eqb (getD m i 0) 4) [ true ↦ ledTo (ledTo l (i % 64) (getD t (index i 0) 0)) (i % 64) (getD t (index i 1) 0) | false ↦ l ]
+
+-- so for the first n pairs
+unfoldable pub ledBy : List ℕ → List ℕ → ℕ → List ℕ → List ℕ
+ledBy t m zero l = l
+ledBy t m (suc n) l = ledFrom t m (ledBy t m n l) n

@@ -1,12 +1,14 @@
 // Algorithm 1: the final marks, from those between turns and the final targets.
 ghost use mathlib.Core.Path.{_≡_};
-ghost use Prim.Native.Nat.{_+_, _-_, _≤_, _<_};
+ghost use Prim.Native.Nat.{_≤_, _<_};
 ghost use lib.ListN.{length, getD};
-ghost use Rattle.marker.specs.Spans.{allAre, remade};
+ghost use Rattle.marker.specs.Spans.{remade};
+ghost use Rattle.marker.specs.Seen.{Holds, HoldsBeyond};
 ghost use Rattle.marker.specs.Marks.{plainAs, plainMarks, inQ, opening, Tried, Swept, allOpened};
-ghost use Rattle.marker.specs.Marks.{cover, coverFrom, coverSpan, allCovered, finalMarks};
+ghost use Rattle.marker.specs.Marks.{cover, coverFrom, allCovered, finalMarks};
 use crate::inner::spread::spread;
 use graph::inner::buffers;
+use words::inner::members;
 
 fn plain_mark(v: u8, x: u8) -> u8
     ensures { λ r. ⌜ r ≡ plainAs v x ⌝ }
@@ -58,7 +60,7 @@ fn in_q(marks: &[u8], n: u16) -> bool
     x == 2
 }
 
-// Whether pair i is beyond and has such a target.
+// Whether pair i is beyond and has such a target. Both are asked in any case, which spares a jump.
 fn opens(marks: &[u8], targets: &[u16], i: usize) -> bool
     requires { ⌜ (length (now marks) ≡ 4160) × (length (now targets) ≡ 8192) × (i < 4096) ⌝ }
     ensures { λ r. ⌜ r ≡ opening (now (targets .entry)) (now (marks .entry)) i (getD (now (marks .entry)) i 0) ⌝ }
@@ -67,10 +69,7 @@ fn opens(marks: &[u8], targets: &[u16], i: usize) -> bool
         return false;
     }
     let at = 2 * i;
-    if in_q(marks, targets[at]) {
-        return true;
-    }
-    in_q(marks, targets[at + 1])
+    in_q(marks, targets[at]) | in_q(marks, targets[at + 1])
 }
 
 // Opens pair i, if it is to be opened, and says how many that were.
@@ -85,72 +84,86 @@ pub fn open_if(marks: &mut [u8], targets: &[u16], i: usize) -> usize
     0
 }
 
-// Whether the marks of a span are all 0. No early end, so that many are looked at together.
-fn none_of(marks: &[u8], from: usize, to: usize) -> bool
-    requires { ⌜ (from ≤ to) × (to ≤ length (now marks)) ⌝ }
-    ensures { λ r. ⌜ r ≡ allAre 0 from to (now (marks .entry)) ⌝ }
+// The same; a pair that was opened leaves rest, the pairs that may still be.
+fn open_out(marks: &mut [u8], targets: &[u16], rest: &mut [u64], i: usize) -> usize
+    requires { ⌜ (length (now marks) ≡ 4160) × (length (now targets) ≡ 8192) × (i < 4096) × HoldsBeyond (now rest) (now marks) ⌝ }
+    ensures { λ r. ⌜ Tried (now (targets .entry)) (now (marks .entry)) i r (now (marks .exit)) × HoldsBeyond (now (rest .exit)) (now (marks .exit)) ⌝ }
 {
-    let mut none = true;
-    let mut i = from;
-    while i < to {
-        none = none & (marks[i] == 0);
-        i += 1;
+    let n = open_if(marks, targets, i);
+    if n == 0 {
+        return n;
     }
-    none
+    members::remove(rest, i);
+    n
 }
 
-// Opens every pair of a span that is to be opened when its turn comes, from the highest down, and says how many that were.
-fn sweep_some(marks: &mut [u8], targets: &[u16], from: usize, to: usize) -> usize
-    requires { ⌜ (length (now marks) ≡ 4160) × (length (now targets) ≡ 8192) × (from ≤ to) × (to ≤ 4096) ⌝ }
-    ensures { λ r. ⌜ Swept (now (targets .entry)) (now (marks .entry)) from to r (now (marks .exit)) ⌝ }
+// Opens every pair that is to be opened when its turn comes, from the highest of rest down, and says how many that were. Rows mostly lead to
+// higher nodes, so that few such passes are needed.
+fn sweep_down(marks: &mut [u8], targets: &[u16], rest: &mut [u64]) -> usize
+    requires { ⌜ (length (now marks) ≡ 4160) × (length (now targets) ≡ 8192) × HoldsBeyond (now rest) (now marks) ⌝ }
+    ensures { λ r. ⌜ Swept (now (targets .entry)) (now (marks .entry)) 0 4096 r (now (marks .exit)) × HoldsBeyond (now (rest .exit)) (now (marks .exit)) ⌝ }
 {
     let mut n = 0;
-    let mut i = to;
-    while from < i {
+    let mut i = members::last(&*rest, 4096);
+    while 0 < i {
         i -= 1;
-        n += open_if(marks, targets, i);
+        n += open_out(marks, targets, rest, i);
+        i = members::last(&*rest, i);
     }
     n
 }
 
-// 16 pairs from i on; where none is there, none is opened.
-fn sweep_group(marks: &mut [u8], targets: &[u16], i: usize) -> usize
-    requires { ⌜ (length (now marks) ≡ 4160) × (length (now targets) ≡ 8192) × (i + 16 ≤ 4096) ⌝ }
-    ensures { λ r. ⌜ Swept (now (targets .entry)) (now (marks .entry)) i (i + 16) r (now (marks .exit)) ⌝ }
-{
-    if none_of(&*marks, i, i + 16) {
-        return 0;
-    }
-    sweep_some(marks, targets, i, i + 16)
-}
-
-// All pairs, from the highest group down. Rows mostly lead to higher nodes, so that few such passes are needed.
-fn sweep(marks: &mut [u8], targets: &[u16]) -> usize
-    requires { ⌜ (length (now marks) ≡ 4160) × (length (now targets) ≡ 8192) ⌝ }
-    ensures { λ r. ⌜ Swept (now (targets .entry)) (now (marks .entry)) 0 4096 r (now (marks .exit)) ⌝ }
+// The same from the lowest up, for chains that lead to lower nodes.
+fn sweep_up(marks: &mut [u8], targets: &[u16], rest: &mut [u64]) -> usize
+    requires { ⌜ (length (now marks) ≡ 4160) × (length (now targets) ≡ 8192) × HoldsBeyond (now rest) (now marks) ⌝ }
+    ensures { λ r. ⌜ Swept (now (targets .entry)) (now (marks .entry)) 0 4096 r (now (marks .exit)) × HoldsBeyond (now (rest .exit)) (now (marks .exit)) ⌝ }
 {
     let mut n = 0;
-    let mut group = 256;
-    while 0 < group {
-        group -= 1;
-        n += sweep_group(marks, targets, 16 * group);
+    let mut i = members::first(&*rest, 0);
+    while i < 4096 {
+        n += open_out(marks, targets, rest, i);
+        i = members::first(&*rest, i + 1);
     }
     n
 }
 
-// All pairs from which an open or kept node is a target. That none is left is shown by the last pass. Where the second pass still opens pairs,
-// they stand on chains that go down, which rounds over few new places follow with less work than passes.
-fn open_all(marks: &mut [u8], targets: &[u16])
-    requires { ⌜ (length (now marks) ≡ 4160) × (length (now targets) ≡ 8192) ⌝ }
+// All pairs from which an open or kept node is a target. That none is left is shown by the last pass. Where passes both ways still open pairs,
+// they stand on chains that go up and down, which rounds over few new places follow with less work than passes.
+fn open_rest(marks: &mut [u8], targets: &[u16], rest: &mut [u64])
+    requires { ⌜ (length (now marks) ≡ 4160) × (length (now targets) ≡ 8192) × HoldsBeyond (now rest) (now marks) ⌝ }
     ensures { λ _. ⌜ now (marks .exit) ≡ allOpened (now (targets .entry)) (now (marks .entry)) ⌝ }
 {
-    sweep(marks, targets);
+    sweep_down(marks, targets, rest);
     loop {
-        if sweep(marks, targets) == 0 {
+        if sweep_up(marks, targets, rest) == 0 {
             return;
         }
-        spread(marks, targets);
+        if sweep_down(marks, targets, rest) == 0 {
+            return;
+        }
+        spread(marks, targets, &*rest);
     }
+}
+
+fn copy(from: &[u64], to: &mut [u64])
+    requires { ⌜ (length (now from) ≡ 64) × (length (now to) ≡ 64) ⌝ }
+    ensures { λ _. ⌜ now (to .exit) ≡ now (from .entry) ⌝ }
+{
+    let mut p = 0;
+    while p < 64 {
+        to[p] = from[p];
+        p += 1;
+    }
+}
+
+// At first any pair seen may be opened.
+fn open_all(marks: &mut [u8], targets: &[u16], seen: &[u64])
+    requires { ⌜ (length (now marks) ≡ 4160) × (length (now targets) ≡ 8192) × Holds (now seen) (now marks) ⌝ }
+    ensures { λ _. ⌜ (now (marks .exit) ≡ allOpened (now (targets .entry)) (now (marks .entry))) × Holds (now (seen .entry)) (now (marks .exit)) ⌝ }
+{
+    let mut rest = [0u64; 64];
+    copy(seen, &mut rest);
+    open_rest(marks, targets, &mut rest);
 }
 
 // A target of an open pair that is beyond becomes covered.
@@ -177,48 +190,26 @@ fn cover_from(marks: &mut [u8], targets: &[u16], i: usize)
     }
 }
 
-// Those of the pairs of a span.
-fn cover_some(marks: &mut [u8], targets: &[u16], from: usize, to: usize)
-    requires { ⌜ (length (now marks) ≡ 4160) × (length (now targets) ≡ 8192) × (from ≤ to) × (to ≤ 4096) ⌝ }
-    ensures { λ _. ⌜ now (marks .exit) ≡ coverSpan (now (targets .entry)) from (to - from) (now (marks .entry)) ⌝ }
-{
-    let mut i = from;
-    while i < to {
-        cover_from(marks, targets, i);
-        i += 1;
-    }
-}
-
-// 16 pairs from i on; where none is there, none covers.
-fn cover_group(marks: &mut [u8], targets: &[u16], i: usize)
-    requires { ⌜ (length (now marks) ≡ 4160) × (length (now targets) ≡ 8192) × (i + 16 ≤ 4096) ⌝ }
-    ensures { λ _. ⌜ now (marks .exit) ≡ coverSpan (now (targets .entry)) i 16 (now (marks .entry)) ⌝ }
-{
-    if none_of(&*marks, i, i + 16) {
-        return;
-    }
-    cover_some(marks, targets, i, i + 16);
-}
-
-// The other targets of open pairs.
-fn cover_all(marks: &mut [u8], targets: &[u16])
-    requires { ⌜ (length (now marks) ≡ 4160) × (length (now targets) ≡ 8192) ⌝ }
+// The other targets of open pairs. Those not seen have no mark, and are not open.
+fn cover_all(marks: &mut [u8], targets: &[u16], seen: &[u64])
+    requires { ⌜ (length (now marks) ≡ 4160) × (length (now targets) ≡ 8192) × Holds (now seen) (now marks) ⌝ }
     ensures { λ _. ⌜ now (marks .exit) ≡ allCovered (now (targets .entry)) (now (marks .entry)) ⌝ }
 {
-    let mut group = 0;
-    while group < 256 {
-        cover_group(marks, targets, 16 * group);
-        group += 1;
+    let mut i = members::first(seen, 0);
+    while i < 4096 {
+        cover_from(marks, targets, i);
+        i = members::first(seen, i + 1);
     }
 }
 
-// All of it, from the start pair n.
-pub fn rank(marks: &mut [u8], targets: &[u16], n: usize)
-    requires { ⌜ (length (now marks) ≡ 4160) × (length (now targets) ≡ 8192) × (n < 4096) ⌝ }
-    ensures { λ _. ⌜ now (marks .exit) ≡ finalMarks n (now (targets .entry)) (now (marks .entry)) ⌝ }
+// All of it, from the start pair n. The pairs seen have every pair with a mark, before and after.
+pub fn rank(marks: &mut [u8], targets: &[u16], n: usize, seen: &mut [u64])
+    requires { ⌜ (length (now marks) ≡ 4160) × (length (now targets) ≡ 8192) × (n < 4096) × Holds (now seen) (now marks) ⌝ }
+    ensures { λ _. ⌜ (now (marks .exit) ≡ finalMarks n (now (targets .entry)) (now (marks .entry))) × Holds (now (seen .exit)) (now (marks .exit)) ⌝ }
 {
+    members::add(seen, n);
     plain(marks);
     buffers::put8(marks, n, 1);
-    open_all(marks, targets);
-    cover_all(marks, targets);
+    open_all(marks, targets, &*seen);
+    cover_all(marks, targets, &*seen);
 }

@@ -1,26 +1,31 @@
 // Open marks along chains of pairs, in rounds: each looks only at the new places from which a row leads to a new place where the round before
-// opened a pair. Which places these are no contract says: it is each opening that has to be right.
+// opened a pair. Which places these are changes no mark: it is each opening that has to be right.
 ghost use mathlib.Core.Path.{_≡_};
 ghost use Prim.Native.Nat.{_<_};
 ghost use lib.ListN.{length};
-ghost use Rattle.marker.specs.Spreads.{Spread};
+ghost use Rattle.marker.specs.Seen.{HoldsBeyond};
+ghost use Rattle.marker.specs.Spreads.{Spread, ledTo, ledFrom, ledBy};
 use crate::inner::marks::open_if;
+use align::inner::sets::alone;
 use align::inner::sets::joined;
 use align::inner::sets::meets;
+use align::inner::sets::with;
+use words::inner::members;
 
 // New place q leads to the new place of a target that is a pair.
 fn lead(leads: &mut [u64], q: usize, target: u16)
     requires { ⌜ (length (now leads) ≡ 64) × (q < 64) ⌝ }
+    ensures { λ _. ⌜ now (leads .exit) ≡ ledTo (now (leads .entry)) q target ⌝ }
 {
     if target < 4096 {
-        let to = 1u64 << (target % 64);
-        leads[q] = joined(leads[q], to);
+        leads[q] = with(leads[q], (target % 64) as u32);
     }
 }
 
 // Likewise the targets of pair i, if it is beyond.
 fn lead_from(marks: &[u8], targets: &[u16], leads: &mut [u64], i: usize)
     requires { ⌜ (length (now marks) ≡ 4160) × (length (now targets) ≡ 8192) × (length (now leads) ≡ 64) × (i < 4096) ⌝ }
+    ensures { λ _. ⌜ now (leads .exit) ≡ ledFrom (now (targets .entry)) (now (marks .entry)) (now (leads .entry)) i ⌝ }
 {
     if marks[i] == 4 {
         let at = 2 * i;
@@ -29,14 +34,15 @@ fn lead_from(marks: &[u8], targets: &[u16], leads: &mut [u64], i: usize)
     }
 }
 
-// For each new place the set of those to which pairs beyond lead.
-fn lead_all(marks: &[u8], targets: &[u16], leads: &mut [u64])
-    requires { ⌜ (length (now marks) ≡ 4160) × (length (now targets) ≡ 8192) × (length (now leads) ≡ 64) ⌝ }
+// For each new place the set of those to which pairs beyond lead. All of these are members of rest.
+fn lead_all(marks: &[u8], targets: &[u16], rest: &[u64], leads: &mut [u64])
+    requires { ⌜ (length (now marks) ≡ 4160) × (length (now targets) ≡ 8192) × HoldsBeyond (now rest) (now marks) × (length (now leads) ≡ 64) ⌝ }
+    ensures { λ _. ⌜ now (leads .exit) ≡ ledBy (now (targets .entry)) (now (marks .entry)) 4096 (now (leads .entry)) ⌝ }
 {
-    let mut i = 0;
+    let mut i = members::first(rest, 0);
     while i < 4096 {
         lead_from(marks, targets, leads, i);
-        i += 1;
+        i = members::first(rest, i + 1);
     }
 }
 
@@ -65,7 +71,7 @@ fn spread_to(marks: &mut [u8], targets: &[u16], leads: u64, places: u64, q: usiz
     if open_place(marks, targets, q) == 0 {
         return 0;
     }
-    1u64 << q
+    alone(q as u32)
 }
 
 // A round: the new places where it opened a pair.
@@ -84,12 +90,12 @@ fn spread_once(marks: &mut [u8], targets: &[u16], leads: &[u64], places: u64) ->
 }
 
 // Rounds, until one opens nothing. The first looks at every new place.
-pub fn spread(marks: &mut [u8], targets: &[u16])
-    requires { ⌜ (length (now marks) ≡ 4160) × (length (now targets) ≡ 8192) ⌝ }
+pub fn spread(marks: &mut [u8], targets: &[u16], rest: &[u64])
+    requires { ⌜ (length (now marks) ≡ 4160) × (length (now targets) ≡ 8192) × HoldsBeyond (now rest) (now marks) ⌝ }
     ensures { λ _. ⌜ Spread (now (targets .entry)) (now (marks .entry)) 0 (now (marks .exit)) ⌝ }
 {
     let mut leads = [0u64; 64];
-    lead_all(&*marks, targets, &mut leads);
+    lead_all(&*marks, targets, rest, &mut leads);
     let mut places = 18446744073709551615;
     loop {
         places = spread_once(marks, targets, &leads, places);

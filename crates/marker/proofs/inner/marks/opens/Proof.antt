@@ -1,5 +1,5 @@
 -- `marker::inner::marks::opens` meets its contract. Assumes nothing.
-use Rattle.marker.proofs.Ranking.{opens-not, opens-first, opens-second}
+use Rattle.marker.proofs.Ranking.{opens-not, opens-either}
 use borrow.Author.Needs.{needs}
 use Rattle.marker.proofs.inner.marks.opens.Statement.{statement}
 use Rattle.marker.proofs.inner.marks.opens.Tie as tie
@@ -22,9 +22,6 @@ shared-slice-read-in-q c = search needs
 in-q-requires : tie.Need-in-q-requires
 in-q-requires c κs = search needs
 
-returns-2 : tie.Need-returns-2
-returns-2 c = search opens-first
-
 add-in-q : tie.Need-add-in-q
 add-in-q c = search needs
 
@@ -37,8 +34,8 @@ shared-slice-read-in-q-2 c = search needs
 in-q-requires-2 : tie.Need-in-q-requires-2
 in-q-requires-2 c κs = search needs
 
-returns-3 : tie.Need-returns-3
-returns-3 c = search opens-second
+returns-2 : tie.Need-returns-2
+returns-2 c = search opens-either
 
 pub opens-spec : {M : Type 1} → statement M
 opens-spec =
@@ -50,9 +47,8 @@ opens-spec =
     mul-in-q
     shared-slice-read-in-q
     in-q-requires
-    returns-2
     add-in-q
     mul-in-q-2
     shared-slice-read-in-q-2
     in-q-requires-2
-    returns-3)
+    returns-2)

@@ -1,8 +1,12 @@
 -- `marker::inner::marks::rank` meets its contract. Assumes nothing.
 use Rattle.marker.proofs.Ranking.{rank-is}
+use Rattle.marker.proofs.Seen.{holds-started, holds-covered}
 use borrow.Author.Needs.{needs}
 use Rattle.marker.proofs.inner.marks.rank.Statement.{statement}
 use Rattle.marker.proofs.inner.marks.rank.Tie as tie
+
+add-requires : tie.Need-add-requires
+add-requires c κs = search needs
 
 plain-requires : tie.Need-plain-requires
 plain-requires c κs = search needs
@@ -11,7 +15,7 @@ put8-requires : tie.Need-put8-requires
 put8-requires c κs = search needs
 
 open-all-requires : tie.Need-open-all-requires
-open-all-requires c κs = search needs
+open-all-requires c κs = (search needs, search needs, search holds-started)
 
 cover-all-requires : tie.Need-cover-all-requires
 cover-all-requires c κs = search needs
@@ -19,16 +23,21 @@ cover-all-requires c κs = search needs
 same-length : tie.Need-same-length
 same-length c = search needs
 
+same-length-2 : tie.Need-same-length-2
+same-length-2 c = search needs
+
 returns : tie.Need-returns
-returns c = search rank-is
+returns c = (search rank-is, search holds-covered)
 
 pub rank-spec : {M : Type 1} → statement M
 rank-spec =
     tie.close
     (tie.spec
+    add-requires
     plain-requires
     put8-requires
     open-all-requires
     cover-all-requires
     same-length
+    same-length-2
     returns)

@@ -1,37 +1,42 @@
 -- `marker::inner::spread::lead_all` meets its contract. Assumes nothing.
-use mathlib.Core.Path.{_≡_}
 use Prim.Native.Nat.{_-_}
-use lib.ListN.{length}
+use Rattle.marker.proofs.Leads.{Leading, lead-start, lead-next, lead-end}
 use borrow.Author.Needs.{needs}
 use Rattle.marker.proofs.inner.spread.lead_all.Statement.{statement}
 use Rattle.marker.proofs.inner.spread.lead_all.Tie as tie
 
 abbrev Inv-loop : tie.InvT-loop
-Inv-loop marks targets leads₀ i₀ leads i = length leads ≡ 64
+Inv-loop marks targets rest leads₀ i₀ leads i = Leading targets marks leads₀ leads i
 
 abbrev μ-loop : tie.MeasureT-loop
-μ-loop marks targets leads₀ i₀ leads i = 4096 - i
+μ-loop marks targets rest leads₀ i₀ leads i = 4096 - i
+
+first-requires : tie.Need-first-requires Inv-loop μ-loop
+first-requires c κs = search needs
 
 loop-holds : tie.Need-loop-holds Inv-loop μ-loop
-loop-holds c = search needs
+loop-holds c = search lead-start
 
 lead-from-requires : tie.Need-lead-from-requires Inv-loop μ-loop
 lead-from-requires c κs = search needs
 
-add-i : tie.Need-add-i Inv-loop μ-loop
-add-i c = search needs
+add-first : tie.Need-add-first Inv-loop μ-loop
+add-first c = search needs
+
+first-requires-2 : tie.Need-first-requires-2 Inv-loop μ-loop
+first-requires-2 c κs = search needs
 
 loop-less : tie.Need-loop-less Inv-loop μ-loop
 loop-less c = search needs
 
 loop-again : tie.Need-loop-again Inv-loop μ-loop
-loop-again c = search needs
+loop-again c = search lead-next
 
 same-length : tie.Need-same-length Inv-loop μ-loop
 same-length c = search needs
 
 returns : tie.Need-returns Inv-loop μ-loop
-returns c = search needs
+returns c = search lead-end
 
 pub lead-all-spec : {M : Type 1} → statement M
 lead-all-spec =
@@ -39,9 +44,11 @@ lead-all-spec =
     (tie.spec
     Inv-loop
     μ-loop
+    first-requires
     loop-holds
     lead-from-requires
-    add-i
+    add-first
+    first-requires-2
     loop-less
     loop-again
     same-length

@@ -7,10 +7,10 @@ use Rattle.marker.proofs.inner.spread.spread.Statement.{statement}
 use Rattle.marker.proofs.inner.spread.spread.Tie as tie
 
 abbrev Inv-loop : tie.InvT-loop
-Inv-loop marks₀ targets leads places₀ marks places = Sweeping targets marks₀ marks
+Inv-loop marks₀ targets rest leads places₀ marks places = Sweeping targets marks₀ marks
 
 abbrev μ-loop : tie.MeasureT-loop
-μ-loop marks₀ targets leads places₀ marks places = fours targets marks
+μ-loop marks₀ targets rest leads places₀ marks places = fours targets marks
 
 slice-aggregate-lead-all : tie.Need-slice-aggregate-lead-all Inv-loop μ-loop
 slice-aggregate-lead-all c = search needs

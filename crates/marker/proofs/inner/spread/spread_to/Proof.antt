@@ -19,8 +19,11 @@ same-length c = search needs
 returns-2 : tie.Need-returns-2
 returns-2 c = search spread-zero
 
-shl-result : tie.Need-shl-result
-shl-result c = search needs
+cast-alone : tie.Need-cast-alone
+cast-alone c = search needs
+
+alone-requires : tie.Need-alone-requires
+alone-requires c κs = search needs
 
 same-length-2 : tie.Need-same-length-2
 same-length-2 c = search needs
@@ -37,6 +40,7 @@ spread-to-spec =
     open-place-requires
     same-length
     returns-2
-    shl-result
+    cast-alone
+    alone-requires
     same-length-2
     returns-3)

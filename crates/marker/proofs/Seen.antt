@@ -1,0 +1,75 @@
+-- Sets of pairs that say where to look, as marks and sets change. Assumes nothing.
+use mathlib.Core.Path.{_≡_, refl, sym, _∙_}
+use mathlib.Core.List.{List}
+use mathlib.Core.Logic.{⊎-elim, dite}
+use Prim.Native.Nat.{ℕ, _+_, _≤_, _<_}
+use native.Mathlib.Omega.{arith}
+use native.Mathlib.Decide.{ℕ-discrete}
+use lib.ListN.{length, getD, set}
+use lib.Seq.{getD-set-same, getD-set-other, ext-getD}
+use Rattle.words.specs.Words.{added, removed}
+use Rattle.words.proofs.Words.{length-added, length-removed, added-here, added-old, removed-other}
+use Rattle.graph.proofs.Stores.{Passing, passing-more}
+use Rattle.marker.specs.Seen.{Holds, HoldsBeyond}
+use Rattle.marker.specs.Marks.{plainMarks, allOpened, Tried, allCovered, transitions}
+use Rattle.marker.specs.Spreads.{Spread}
+use Rattle.marker.proofs.Marks.{plain-ranks, covered-same}
+use Rattle.marker.proofs.Orders.{opened-at, some-opened}
+
+-- ---- every pair with a mark
+-- where what has no mark gets none
+pub holds-kept : {w x y : List ℕ} → Holds w x → ((k : ℕ) → getD x k 0 ≡ 0 → getD y k 0 ≡ 0) → Holds w y
+holds-kept {x = x} H z =
+    record { long = H .long; has = λ n b p. H .has n b (dite (ℕ-discrete (getD x n 0) 0) (λ e. absurd (omega (arith, z n e))) (λ e. omega arith)) }
+
+module _ {w x : List ℕ} (H : Holds w x) where
+  pub holds-copied : {v : List ℕ} → v ≡ w → HoldsBeyond v x
+  holds-copied e = rw e (record { long = H .long; has = λ n b p. H .has n b (omega arith) })
+
+  -- the start pair, which becomes open, is added
+  pub holds-started : {v y z : List ℕ} {n : ℕ} → length x ≡ 4160 → n < 4096 → v ≡ added w n → y ≡ plainMarks x → z ≡ set y n 1 → Holds v z
+  holds-started {n = n} l b e f g =
+      let P = holds-kept {y = plainMarks x} H (plain-ranks x l .absent) in
+      rw (g, f, e)
+      (record {
+        long = length-added w n ∙ H .long;
+        has = λ k c p. dite (ℕ-discrete k n) (λ q. rw q (added-here w n (H .long) b))
+            (λ q. added-old w n (H .long) b k (P .has k c (omega (arith, getD-set-other (plainMarks x) n k 1 0 q))));
+      })
+
+  pub holds-opened : (t : List ℕ) {y : List ℕ} → length x ≡ 4160 → y ≡ allOpened t x → Holds w y
+  holds-opened t l e = rw e (holds-kept H (λ k z. ⊎-elim (λ s. s ∙ z) (λ s. absurd (omega (arith, s .0))) (opened-at t l (some-opened t l .1) k)))
+
+  pub holds-covered : (t : List ℕ) {y : List ℕ} → y ≡ allCovered t x → Holds w y
+  unfolding allCovered
+  holds-covered t e = rw e (holds-kept H (λ k z. covered-same (transitions x t) x k (λ q. omega arith) ∙ z))
+
+-- ---- every pair beyond
+module _ {w x : List ℕ} (H : HoldsBeyond w x) where
+  pub beyond-spread : {t y : List ℕ} {r : ℕ} → length x ≡ 4160 → Spread t x r y → HoldsBeyond w y
+  beyond-spread {t} l S =
+      record { long = H .long; has = λ k b p. H .has k b (⊎-elim (λ s. sym s ∙ p) (λ s. s .0) (opened-at t l (S .did) k)) }
+
+  module _ {t y : List ℕ} {i r : ℕ} (T : Tried t x i r y) where
+    pub beyond-same : r ≡ 0 → HoldsBeyond w y
+    beyond-same e = rw (T .else-not e .0) H
+
+    pub beyond-out : {v : List ℕ} → i < 4096 → (r ≡ 0 → ⊥) → v ≡ removed w i → length x ≡ 4160 → HoldsBeyond v y
+    beyond-out b h e l =
+        rw (e, T .here h)
+        (record {
+          long = length-removed w i ∙ H .long;
+          has = λ k c p. dite (ℕ-discrete k i) (λ q. absurd (omega (arith, rw q at p, getD-set-same x i 1 0 (omega arith))))
+              (λ q. removed-other w i (H .long) b k c q (H .has k c (sym (getD-set-other x i k 1 0 q) ∙ p)));
+        })
+
+-- ---- a copy, word by word: the first i are those of w
+abbrev pub Copying : List ℕ → List ℕ → List ℕ → ℕ → Type 0
+Copying w d₀ d i = Passing (λ j x. getD w j 0) d₀ d i
+
+module _ (w : List ℕ) {d₀ d : List ℕ} {i : ℕ} (C : Copying w d₀ d i) (l : length d₀ ≡ 64) where
+  pub copy-more : i < 64 → Copying w d₀ (set d i (getD w i 0)) (i + 1)
+  copy-more b = passing-more (λ j x. getD w j 0) C (omega (arith, C .long)) refl
+
+  pub copy-end : length w ≡ 64 → 64 ≤ i → d ≡ w
+  copy-end m h = ext-getD 0 d w (omega (arith, C .long)) (λ j k. C .before j (omega (arith, C .long)))
