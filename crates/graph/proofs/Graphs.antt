@@ -2,7 +2,7 @@
 use mathlib.Core.Path.{_≡_, refl, sym, ap, _∙_}
 use mathlib.Core.Bool.{Bool, true, false, _&&_, _||_, not}
 use mathlib.Core.List.{List}
-use mathlib.Core.Logic.{_⊎_, inl, inr}
+use mathlib.Core.Logic.{_⊎_, inl, inr, dite}
 use Prim.Native.Nat.{ℕ, _-_, _/_, _%_, _^_, _≤_, _<_}
 use native.Mathlib.Omega.{arith}
 use native.Mathlib.Decide.{ℕ-discrete}
@@ -120,6 +120,10 @@ module _ (g : Graph) (q : NewPlace) (S : Sized g) (l : q .0 < 64) where
   keep-nodes k a b n =
       getD-set-other (cleared q (g .marks)) (keptNumber q) k 1 0 n ∙ cleared-past q (g .marks) k (omega (arith, S .marks)) a
 
+  -- a place that is kept stays so
+  pub keep-kept : (k : ℕ) → 4096 ≤ k → k < 4160 → 0 < markAt g k → 0 < markAt (keep g q) k
+  keep-kept k a b p = dite (ℕ-discrete k (keptNumber q)) (λ e. rw e (omega (arith, keep-node))) (λ e. omega (arith, keep-nodes k a b e))
+
   module _ (i : ℕ) (b : i < 4096) where
     -- at a pair with this new place nothing is left
     module _ (e : i % 64 ≡ q .0) where
@@ -203,9 +207,6 @@ module _ (g : Graph) (n r to : ℕ) where
         small = h .small;
       }
 
-  pub aim-shaped : Shaped g → Shaped (aim g n r to)
-  aim-shaped h = by-aim Shaped (λ l. aimed-shaped h) (λ e. h)
-
 -- ---- a pair joins
 pub length-waits : (b : Bool) (w : List ℕ) (n : ℕ) → length (waits b w n) ≡ length w
 unfolding waits
@@ -254,6 +255,10 @@ module _ (alarm : ℕ) (g : Graph) (n v : ℕ) (S : Sized g) (l : n < 4096) wher
     pub join-wait-other : waitAt (join alarm g n v) i ≡ waitAt g i
     unfolding join
     join-wait-other = waits-other (due alarm (g .marks) (g .sets) n v) (g .waiting) n i e
+
+  -- whoever is in the graph stays there
+  pub join-there : (i : ℕ) → 0 < markAt g i → 0 < markAt (join alarm g n v) i
+  join-there i p = dite (ℕ-discrete i n) (λ e. rw e (omega (arith, join-mark))) (λ e. omega (arith, join-mark-other i e))
 
 pub join-target : (alarm : ℕ) (g : Graph) (n v : ℕ) → join alarm g n v .targets ≡ g .targets
 unfolding join

@@ -3,7 +3,7 @@
 use mathlib.Core.Path.{_≡_}
 use mathlib.Core.Bool.{Bool, true, false, _&&_, _||_, not}
 use mathlib.Core.List.{List}
-use Prim.Native.Nat.{ℕ, _/_}
+use Prim.Native.Nat.{ℕ, _/_, _<_}
 use lib.Dec.{eqb, ltb}
 use lib.ListN.{length, getD, set}
 use Rattle.base.specs.Walks.{pass}
@@ -13,6 +13,7 @@ use Rattle.chart.specs.Charts.{Chart}
 use Rattle.align.specs.Sets.{joined, holdsAll}
 use Rattle.checker.specs.Records.{index}
 use Rattle.checker.specs.Rules.{headOf, startPair, startKept}
+use Rattle.words.specs.Words.{Member}
 
 -- "Lent: marks (4,160 bytes), targets (8,192 u16 [..]), sets (4,096 u64 [..]), waiting (4,096 bytes)"
 pub record Graph : Type 0 where
@@ -81,3 +82,10 @@ join alarm g n v =
 -- ---- line 3: a pair is taken from the waiting list
 unfoldable pub unwait : Graph → ℕ → Graph
 unwait g n = graph (g .marks) (g .targets) (g .sets) (set (g .waiting) n 0)
+
+-- ---- where to look: no rule speaks of it
+-- each pair with a mark other than 0 is a member of the set, and each pair with a target other than 65535. A set with more members does too
+pub record Covers (seen : List ℕ) (g : Graph) : Type 0 where
+  pub long : length seen ≡ 64
+  pub marks : (i : ℕ) → i < 4096 → 0 < getD (g .marks) i 0 → Member seen i
+  pub targets : (i r : ℕ) → i < 4096 → r < 2 → (getD (g .targets) (index i r) 0 ≡ 65535 → ⊥) → Member seen i

@@ -2,13 +2,14 @@
 use mathlib.Core.Path.{_≡_, refl, sym, ap, _∙_}
 use mathlib.Core.Logic.{_⊎_, inl, inr, dite}
 use mathlib.Core.List.{List}
-use Prim.Native.Nat.{ℕ, _+_, _*_, _-_, _/_, _%_, _≤_, _<_}
+use Prim.Native.Nat.{ℕ, _+_, _*_, _-_, _/_, _%_, _^_, _≤_, _<_}
 use native.Mathlib.Decide.{ℕ-discrete, decLt}
 use native.Mathlib.Omega.{arith}
-use lib.ListN.{length, getD, set, length-set}
+use lib.ListN.{length, getD, set, replicate, length-set}
 use lib.Seq.{getD-set-same, getD-set-other}
+use Rattle.base.proofs.Walks.{same-at}
 use Rattle.align.specs.Sets.{bit, with, without}
-use Rattle.align.proofs.Sets.{bit-none, with-here, with-old, without-kept}
+use Rattle.align.proofs.Sets.{bit-none, bit-not, with-here, with-old, without-kept}
 use Rattle.words.specs.Words.{Member, added, removed, LowestFrom, HighestBefore, FirstWord, LastWord, First, LastHere, Last}
 
 -- ---- added and removed
@@ -211,3 +212,8 @@ module _ (w : List ℕ) (n : ℕ) (l : n ≤ 4096) where
         where
           pos : 0 < y
           pos = s (L .here (omega arith))
+
+-- ---- each pair is a member of words that have all their bits
+pub all-members : (i : ℕ) → i < 4096 → Member (replicate 64 (2 ^ 64 - 1)) i
+all-members i l =
+    rw (same-at 64 (2 ^ 64 - 1) (i / 64) (omega arith)) (bit-not 64 (i % 64) 0 (omega arith) (omega arith) ∙ ap (λ (x : ℕ). 1 - x) (bit-none (i % 64)))
