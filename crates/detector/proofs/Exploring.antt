@@ -1,11 +1,13 @@
 -- The loop of a build's turns, in the form in which the code meets it. Assumes nothing.
 use mathlib.Core.Path.{_≡_, refl, sym, ap, subst, _∙_}
+use mathlib.Core.Bool.{true}
 use mathlib.Core.List.{List}
 use mathlib.Core.Option.{some}
 use Prim.Native.Nat.{ℕ, _^_, _≤_, _<_}
 use native.Mathlib.Omega.{arith}
 use lib.ListN.{length, set, replicate}
 use Rattle.base.proofs.Repeat.{Going, less-by, again-by, done-by}
+use Rattle.base.proofs.Walks.{same-at}
 use Rattle.chart.specs.declared.charts.Head.{Head}
 use Rattle.chart.specs.Charts.{Chart, charted}
 use Rattle.chart.specs.Faultless.{FaultlessChart}
@@ -13,14 +15,19 @@ use Rattle.align.specs.declared.spots.Found.{Found}
 use Rattle.align.specs.declared.spots.Found.the-variants as founds
 use Rattle.align.specs.Steps.{toldFound}
 use Rattle.checker.specs.Rules.{startPair}
-use Rattle.graph.specs.Graphs.{Graph, graph, Sized}
-use Rattle.detector.specs.Turns.{lowest, next, lowAfter, begun, taken, explored}
+use Rattle.checker.specs.Records.{index}
+use Rattle.words.specs.Words.{added, removed}
+use Rattle.words.proofs.Words.{length-added, added-here}
+use Rattle.graph.specs.Graphs.{Graph, graph, Sized, Covers, firstPair, marked}
+use Rattle.detector.specs.Turns.{lowest, next, begun, taken, explored, Lists, lowAfter, listedAfter}
 use Rattle.graph.proofs.Graphs.{waitAt, Shaped}
 use Rattle.graph.proofs.Parts.{graph-eq}
 use Rattle.detector.proofs.Turns.{next-lowest}
 use Rattle.detector.proofs.Measure.{weight, turns, begun-shaped, begun-weight}
 use Rattle.detector.proofs.Invariant.{Inv, Every, begun-inv, turn-inv}
-use Rattle.detector.proofs.Quiet.{low-most, quiet-after}
+use Rattle.detector.proofs.Ones.{one-only}
+use Rattle.detector.proofs.Looking.{low-most}
+use Rattle.detector.proofs.After.{quiet-after, lists-after, covers-after}
 
 -- four buffers that were filled, and two that were then written, are a graph that has begun
 pub begun-is : (old new : Head) {m t s w m₁ m₂ t₁ s₁ w₁ w₂ : List ℕ} {first : ℕ} → Sized (graph m t s w) → first ≡ startPair old new
@@ -35,19 +42,41 @@ begun-is old new z f a b c d e g o n =
     (d ∙ ap (λ (k : ℕ). replicate k 0) (z .sets))
     (g ∙ (λ i. set (e i) (f i) 1) ∙ ap (λ (k : ℕ). set (replicate k 0) (startPair old new) 1) (z .waiting))
 
--- the loop stands at g, and no pair below `from` waits
-pub record Building (old new : Chart) (g : Graph) (from : ℕ) : Type 0 where
+-- the loop stands at g, no pair below `from` waits, and the two sets have whom they should
+pub record Building (old new : Chart) (g : Graph) (waits seen : List ℕ) (from : ℕ) : Type 0 where
   pub old-faultless : FaultlessChart old
   pub new-faultless : FaultlessChart new
   pub going : Going next (taken old new) weight Shaped (explored old new) g
   pub inv : Inv old new Every g
   pub near : from ≤ 4096
   pub quiet : (i : ℕ) → i < from → waitAt g i ≡ 0
+  pub lists : Lists waits (g .waiting)
+  pub covers : Covers seen g
 
-pub build-begun : (old new : Chart) {g : Graph} → FaultlessChart old → FaultlessChart new → g ≡ begun old new → Building old new g 0
+-- sets that have the first pair are enough at the beginning
+module _ (old new : Chart) (l : List ℕ) (long : length l ≡ 64) where
+  begun-lists : Lists (added l (firstPair old new)) (begun old new .waiting)
+  unfolding begun
+  begun-lists =
+      record {
+        long = length-added l (firstPair old new) ∙ long;
+        each = λ i b p. rw (one-only 4096 (firstPair old new) 1 i p) (added-here l (firstPair old new) long (omega arith));
+      }
+
+  begun-covers : Covers (added l (firstPair old new)) (begun old new)
+  unfolding begun
+  begun-covers =
+      record {
+        long = length-added l (firstPair old new) ∙ long;
+        marks = λ i b p. rw (one-only 4160 (firstPair old new) 1 i p) (added-here l (firstPair old new) long (omega arith));
+        targets = λ i r b c u. absurd (u (same-at 8192 65535 (index i r) (omega arith)));
+      }
+
+pub build-begun : (old new : Chart) {g : Graph} (l s : List ℕ) {l′ s′ : List ℕ} {p q : ℕ} → FaultlessChart old → FaultlessChart new → g ≡ begun old new
+    → length l ≡ 64 → p ≡ firstPair old new → l′ ≡ added l p → length s ≡ 64 → q ≡ firstPair old new → s′ ≡ added s q → Building old new g l′ s′ 0
 unfolding explored
-build-begun old new F G e =
-    rw e
+build-begun old new l s F G e a b c x y z =
+    rw (e, c, b, z, y)
     (record {
       old-faultless = F;
       new-faultless = G;
@@ -55,19 +84,21 @@ build-begun old new F G e =
       inv = begun-inv old new F G;
       near = omega arith;
       quiet = λ i l. absurd (omega arith);
+      lists = begun-lists old new l a;
+      covers = begun-covers old new s x;
     })
 
-module _ (old new : Chart) {g : Graph} {from : ℕ} (B : Building old new g from) where
+module _ (old new : Chart) {g : Graph} {waits seen : List ℕ} {from : ℕ} (B : Building old new g waits seen from) where
   pub build-sized : Sized g
   build-sized = B .going .good .sized
 
-  pub build-looks : (from ≤ length (g .waiting)) × ((i : ℕ) → i < from → waitAt g i ≡ 0)
-  build-looks = (omega (arith, B .near, B .going .good .sized .waiting), B .quiet)
+  pub build-looks : ((from ≤ 4096) × ((i : ℕ) → i < from → waitAt g i ≡ 0)) × ((length (g .waiting) ≡ 4096) × Lists waits (g .waiting))
+  build-looks = ((B .near, B .quiet), (B .going .good .sized .waiting, B .lists))
 
-  module _ {f : Found} (e : toldFound f ≡ lowest (g .waiting)) where
+  module _ {f : Found} {waits₁ : List ℕ} (e : (toldFound f ≡ lowest (g .waiting)) × Lists waits₁ (g .waiting)) where
     found : {n : ℕ} → f ≡ founds.At n → next g ≡ some n
     unfolding next
-    found a = sym e ∙ ap toldFound a
+    found a = sym (e .0) ∙ ap toldFound a
 
     pub build-below : {n : ℕ} → f ≡ founds.At n → n < 4096
     build-below {n} a = omega (arith, next-lowest g n (found a) .below, B .going .good .sized .waiting)
@@ -75,22 +106,30 @@ module _ (old new : Chart) {g : Graph} {from : ℕ} (B : Building old new g from
     pub build-less : {n : ℕ} {h : Graph} → f ≡ founds.At n → h ≡ taken old new g n → weight h < weight g
     build-less a q = less-by next (taken old new) weight Shaped (turns old new (B .old-faultless) (B .new-faultless)) (B .going .good) (found a) q
 
-    pub build-turn : {n r : ℕ} {h : Graph} → f ≡ founds.At n → h ≡ taken old new g n → r ≡ lowAfter (h .marks) (h .targets) (h .waiting) n → Building old new h r
-    build-turn {n} {r} {h} a q z =
-        let w = z ∙ (λ i. lowAfter (q i .marks) (q i .targets) (q i .waiting) n) in
+    pub build-turn : {n r : ℕ} {h : Graph} {waits′ seen′ : List ℕ} → f ≡ founds.At n → h ≡ taken old new g n
+        → (r ≡ lowAfter (h .marks) (h .targets) (h .waiting) n)
+        × (waits′ ≡ listedAfter (h .marks) (h .targets) (marked (h .waiting)) n (removed waits₁ n))
+        × (seen′ ≡ listedAfter (h .marks) (h .targets) (λ _. true) n seen)
+        → Building old new h waits′ seen′ r
+    build-turn {n} {r} {h} a q (x, y, z) =
         let l = build-below a in
+        let F = B .old-faultless in
+        let G = B .new-faultless in
+        let I : Inv old new Every h = rw q (turn-inv old new F G g n (B .inv) (found a)) in
         record {
-          old-faultless = B .old-faultless;
-          new-faultless = B .new-faultless;
-          going = again-by next (taken old new) weight Shaped (turns old new (B .old-faultless) (B .new-faultless)) (B .going) (found a) q;
-          inv = rw q (turn-inv old new (B .old-faultless) (B .new-faultless) g n (B .inv) (found a));
-          near = omega (arith, w, low-most n l (taken old new g n .marks) (taken old new g n .targets) (taken old new g n .waiting));
-          quiet = λ i b. (λ j. waitAt (q j) i) ∙ quiet-after n l old new (B .old-faultless) (B .new-faultless) g (B .inv) (found a) i (subst (λ (x : ℕ). i < x) w b);
+          old-faultless = F;
+          new-faultless = G;
+          going = again-by next (taken old new) weight Shaped (turns old new F G) (B .going) (found a) q;
+          inv = I;
+          near = omega (arith, x, low-most (h .marks) (h .targets) n (h .waiting));
+          quiet = λ i b. quiet-after old new F G g n l (B .inv) (found a) h q i (subst (λ (j : ℕ). i < j) x b);
+          lists = lists-after old new F G g n l (B .inv) (found a) h q (e .1) y;
+          covers = covers-after old new F G g n l (B .inv) (found a) h q (B .covers) z I;
         }
 
-    pub build-done : f ≡ founds.Nothing → g ≡ explored old new
+    pub build-done : f ≡ founds.Nothing → Covers seen g × (g ≡ explored old new)
     unfolding next
-    build-done a = done-by next (taken old new) weight Shaped (turns old new (B .old-faultless) (B .new-faultless)) (B .going) (sym e ∙ ap toldFound a)
+    build-done a = (B .covers, done-by next (taken old new) weight Shaped (turns old new (B .old-faultless) (B .new-faultless)) (B .going) (sym (e .0) ∙ ap toldFound a))
 
 -- lengths that stay
 module _ {m t s w m′ t′ s′ w′ : List ℕ} (z : Sized (graph m t s w)) (z′ : Sized (graph m′ t′ s′ w′)) where

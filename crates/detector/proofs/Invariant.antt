@@ -24,7 +24,7 @@ use Rattle.graph.specs.Graphs.{Graph, Sized, firstPair, firstKept, keep, aim, d
 use Rattle.detector.specs.Turns.{rowsOf, leadsTo, next, setNow, begun, stepOf, rowDone, secondDone, taken, explored}
 use Rattle.detector.proofs.Ones.{one-there, one-other, one-only}
 use Rattle.detector.proofs.Steps.{Fits}
-use Rattle.graph.proofs.Graphs.{markAt, setAt, waitAt, targetAt, Shaped, keep-node, keep-nodes, keep-mark, keep-set, keep-wait, keep-target, keep-mark-other, keep-set-other, keep-wait-other, keep-target-other, keep-shaped, aimed, by-aim, aimed-shaped, join-mark, join-set, join-due, join-not-due, join-mark-other, join-set-other, join-wait-other, join-target, join-shaped, join-small, held, not-due-why, unwait-shaped}
+use Rattle.graph.proofs.Graphs.{markAt, setAt, waitAt, targetAt, Shaped, keep-node, keep-nodes, keep-kept, keep-mark, keep-set, keep-wait, keep-target, keep-mark-other, keep-set-other, keep-wait-other, keep-target-other, keep-shaped, aimed, by-aim, aimed-shaped, join-mark, join-set, join-due, join-not-due, join-mark-other, join-set-other, join-wait-other, join-there, join-target, join-shaped, join-small, held, not-due-why, unwait-shaped}
 use Rattle.detector.proofs.Turns.{by-row, set-now, set-now-small, leads-below, step-of-fits, next-lowest}
 use Rattle.detector.proofs.Measure.{begun-shaped}
 
@@ -96,15 +96,8 @@ module _ (old new : Chart) (F : FaultlessChart old) (G : FaultlessChart new) whe
 
   -- ---- a new place becomes kept
   module _ (g : Graph) (q : NewPlace) (S : Shaped g) (l : q .0 < 64) where
-    keep-kept : (k : ℕ) → 4096 ≤ k → k < 4160 → 0 < markAt g k → 0 < markAt (keep g q) k
-    keep-kept k a b p = go (ℕ-discrete k (keptNumber q))
-      where
-        go : Dec (k ≡ keptNumber q) → 0 < markAt (keep g q) k
-        go (yes e) = rw e (omega (arith, keep-node g q (S .sized) l))
-        go (no e) = omega (arith, keep-nodes g q (S .sized) l k a b e)
-
     keep-to-kept : (i r t : ℕ) → leadsTo new i r .0 < 64 → ToKept old new (g .marks) i r t → ToKept old new (keep g q .marks) i r t
-    keep-to-kept i r t b K = record { kept = keep-kept (keptNumber (leadsTo new i r)) (omega arith) (omega arith) (K .kept); leads = K .leads }
+    keep-to-kept i r t b K = record { kept = keep-kept g q (S .sized) l (keptNumber (leadsTo new i r)) (omega arith) (omega arith) (K .kept); leads = K .leads }
 
     keep-to-pair : (i r t : ℕ) → ToPair old new (g .marks) i r t → ToKept old new (keep g q .marks) i r t ⊎ ToPair old new (keep g q .marks) i r t
     keep-to-pair i r t T = go (ℕ-discrete (leadsTo new i r .0) (q .0))
@@ -156,7 +149,7 @@ module _ (old new : Chart) (F : FaultlessChart old) (G : FaultlessChart new) whe
             rw (keep-target-other g q S l i b (n .0) r c)
             (⊎-elim (λ K. inl (keep-to-kept g q (I .shaped) l i r (targetAt g i r) (leads-64 i r s) K)) (λ T. keep-to-step g q (I .shaped) l i r (targetAt g i r) b (n .0) T)
             (I .stepped i r b (n .1) (sym (keep-wait-other g q S l i b (n .0)) ∙ v) a c s d)));
-        home = ⊎-elim (λ p. at-home p (ℕ-discrete (firstPair old new % 64) (q .0))) (λ p. inr (keep-kept g q (I .shaped) l (firstKept new) (omega arith) (omega arith) p)) (I .home);
+        home = ⊎-elim (λ p. at-home p (ℕ-discrete (firstPair old new % 64) (q .0))) (λ p. inr (keep-kept g q S l (firstKept new) (omega arith) (omega arith) p)) (I .home);
       }
     where
       S : Sized g
@@ -205,18 +198,11 @@ module _ (old new : Chart) (F : FaultlessChart old) (G : FaultlessChart new) whe
 
   -- ---- a pair joins, of places that exist and a new place that is not kept
   module _ (g : Graph) (m v : ℕ) (S : Shaped g) (l : m < 4096) (w : v < 2 ^ 64) where
-    join-there : (i : ℕ) → 0 < markAt g i → 0 < markAt (join (old .alarm) g m v) i
-    join-there i p = go (ℕ-discrete i m)
-      where
-        go : Dec (i ≡ m) → 0 < markAt (join (old .alarm) g m v) i
-        go (yes e) = rw e (omega (arith, join-mark (old .alarm) g m v (S .sized) l))
-        go (no e) = omega (arith, join-mark-other (old .alarm) g m v (S .sized) l i e)
-
     join-to-kept : (i r t : ℕ) → ToKept old new (g .marks) i r t → ToKept old new (join (old .alarm) g m v .marks) i r t
-    join-to-kept i r t K = record { kept = join-there (keptNumber (leadsTo new i r)) (K .kept); leads = K .leads }
+    join-to-kept i r t K = record { kept = join-there (old .alarm) g m v (S .sized) l (keptNumber (leadsTo new i r)) (K .kept); leads = K .leads }
 
     join-to-pair : (i r t : ℕ) → ToPair old new (g .marks) i r t → ToPair old new (join (old .alarm) g m v .marks) i r t
-    join-to-pair i r t P = record { below = P .below; place = P .place; there = join-there t (P .there) }
+    join-to-pair i r t P = record { below = P .below; place = P .place; there = join-there (old .alarm) g m v (S .sized) l t (P .there) }
 
     join-holds : (t x : ℕ) → x < 2 ^ 64 → holdsAll (setAt g t) x ≡ true → holdsAll (setAt (join (old .alarm) g m v) t) x ≡ true
     join-holds t x b h = go (ℕ-discrete t m)
@@ -250,13 +236,13 @@ module _ (old new : Chart) (F : FaultlessChart old) (G : FaultlessChart new) whe
         real-kept = λ k a b p. I .real-kept k a b (was k (λ e. omega arith) p);
         apart = λ i b p. join-mark-other (old .alarm) g m v S l (keptNumber (newOf i)) (λ e. omega arith) ∙ by-pair i (λ e. rw e free) (λ e. I .apart i b (was i e p));
         waiters = λ i b p. by-pair i (λ e. rw e (omega (arith, join-mark (old .alarm) g m v S l)))
-            (λ e. join-there g m v (I .shaped) l w i (I .waiters i b (omega (arith, join-wait-other (old .alarm) g m v S l i e))));
+            (λ e. join-there (old .alarm) g m v S l i (I .waiters i b (omega (arith, join-wait-other (old .alarm) g m v S l i e))));
         aims = λ i r b c. rw (join-target (old .alarm) g m v) (I .aims i r b c);
         unused = λ i r b c u. rw (join-target (old .alarm) g m v) (I .unused i r b c (⊎-elim (λ z. inl (was-not i z)) (λ z. inr z) u));
         bare = λ i b z. by-pair i (λ e. absurd (omega (arith, rw e at z, join-mark (old .alarm) g m v S l))) (λ e. join-set-other (old .alarm) g m v S l i e ∙ I .bare i b (was-not i z));
         led = λ i r b p c a. rw (join-target (old .alarm) g m v) (now-led i r b p c a (ℕ-discrete (markAt g i) 0));
         stepped = λ i r b p z a c s d. rw (join-target (old .alarm) g m v) (now-stepped i r b p z a c s d (ℕ-discrete i m));
-        home = ⊎-elim (λ p. inl (join-there g m v (I .shaped) l w (firstPair old new) p)) (λ p. inr (join-there g m v (I .shaped) l w (firstKept new) p)) (I .home);
+        home = ⊎-elim (λ p. inl (join-there (old .alarm) g m v S l (firstPair old new) p)) (λ p. inr (join-there (old .alarm) g m v S l (firstKept new) p)) (I .home);
       }
     where
       S : Sized g

@@ -6,5 +6,6 @@ pub mod Ones
 pub mod Invariant
 pub mod Processing
 pub mod Rows
+pub mod Looking
+pub mod After
 pub mod Exploring
-pub mod Quiet

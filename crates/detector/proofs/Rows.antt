@@ -1,33 +1,25 @@
 -- The row of a pair in hand, in the form in which the code meets it. Assumes nothing.
 use mathlib.Core.Path.{_≡_, refl, sym, ap, subst, _∙_}
-use mathlib.Core.Bool.{Bool, true, false, not}
-use mathlib.Core.Logic.{dite}
+use mathlib.Core.Bool.{Bool, true, false}
 use mathlib.Core.List.{List}
-use mathlib.Core.Option.{none, some}
-use Prim.Native.Nat.{ℕ, zero, suc, min, _+_, _*_, _/_, _%_, _^_, _≤_, _<_}
-use native.Mathlib.Numerals.{add-one}
-use native.Mathlib.Decide.{ℕ-discrete, decLt}
+use mathlib.Core.Option.{some}
+use Prim.Native.Nat.{ℕ, zero, suc, _+_, _/_, _%_, _^_, _≤_, _<_}
 use native.Mathlib.Omega.{arith}
-use borrow.Author.Tests.{lt-ltb, le-ltb, eq-eqb, ne-eqb}
-use lib.Dec.{eqb}
-use lib.ListN.{length, getD, set, drop}
-use Rattle.base.specs.Walks.{firstFrom}
-use Rattle.base.specs.Scan.{Next}
-use Rattle.base.proofs.Walks.{skip-at, stop-at, end-at}
+use borrow.Author.Tests.{lt-ltb, le-ltb}
+use lib.ListN.{length, getD, set, length-set}
 use Rattle.chart.specs.declared.operations.Operation.{Operation}
 use Rattle.chart.specs.declared.places.OldPlace.{OldPlace}
 use Rattle.chart.specs.declared.places.NewPlace.{NewPlace}
 use Rattle.chart.specs.Charts.{Chart, size, to, operation, leaving}
 use Rattle.chart.specs.Faultless.{FaultlessChart}
 use Rattle.chart.specs.Operations.{operandsFit}
-use Rattle.chart.specs.Places.{keptNumber, oldOf, newOf}
-use Rattle.checker.specs.Records.{index}
+use Rattle.chart.specs.Places.{oldOf, newOf}
 use Rattle.align.specs.declared.spots.Spot.{Spot}
 use Rattle.align.specs.declared.spots.Aligned.{Aligned}
 use Rattle.align.specs.Steps.{told, step}
 use Rattle.align.proofs.Parts.{row-of, row-same}
-use Rattle.graph.specs.Graphs.{Graph, graph, marked, unwait}
-use Rattle.detector.specs.Turns.{rowsOf, leadsTo, lowest, lowOf, lowAfter, setNow, stepOf, processed, rowDone, secondDone, taken}
+use Rattle.graph.specs.Graphs.{Graph, graph, Sized, marked, unwait}
+use Rattle.detector.specs.Turns.{rowsOf, leadsTo, setNow, stepOf, processed, rowDone, secondDone, taken}
 use Rattle.graph.proofs.Graphs.{marked-yes, marked-no}
 use Rattle.detector.proofs.Steps.{row-to}
 use Rattle.detector.proofs.Turns.{step-of-fits}
@@ -79,68 +71,61 @@ module _ (m s : List ℕ) (n v : ℕ) where
   unfolding setNow
   now-had e = rw (marked-no m n e, setNow)
 
--- ---- a turn: the pair waits no more, and its two rows are done
-pub second-is : (old new : Chart) (m t s w : List ℕ) (n v : ℕ) {u : ℕ} {g : Graph}
-    → u ≡ setNow m s n v → g ≡ rowDone old new (graph m t s w) n u 1 → g ≡ secondDone old new (graph m t s w) n v
-unfolding secondDone
-second-is old new m t s w n v c d = d ∙ (λ i. rowDone old new (graph m t s w) n (c i) 1)
+-- ---- a turn: the pair waits no more, and its two rows are done, each under the set that it has then
+module _ (old new : Chart) (g : Graph) (n : ℕ) where
+  -- where the loop stands before row r, with the set v and the graph h; it began with g
+  pub record Turning (r v : ℕ) (h : Graph) : Type 0 where
+    pub most : r ≤ 2
+    pub sized : Sized h
+    pub none-done : r ≡ 0 → (h ≡ g) × (v ≡ getD (g .sets) n 0)
+    pub one-done : r ≡ 1 → (h ≡ rowDone old new g n (getD (g .sets) n 0) 0) × (v ≡ getD (g .sets) n 0)
+    pub both-done : r ≡ 2 → h ≡ secondDone old new (rowDone old new g n (getD (g .sets) n 0) 0) n (getD (g .sets) n 0)
 
-pub turn-is : (old new : Chart) (m t s w : List ℕ) (n : ℕ) {w₁ : List ℕ} {f g : Graph}
-    → w₁ ≡ set w n 0 → f ≡ rowDone old new (graph m t s w₁) n (getD s n 0) 0 → g ≡ secondDone old new f n (getD s n 0) → g ≡ taken old new (graph m t s w) n
+  pub turn-begins : Sized g → Turning 0 (getD (g .sets) n 0) g
+  turn-begins S =
+      record { most = omega arith; sized = S; none-done = λ e. (refl, refl); one-done = λ e. absurd (omega arith); both-done = λ e. absurd (omega arith) }
+
+  -- before the first row the pair's set is its own, whether it is in the graph or not
+  own-first : {v u : ℕ} {h : Graph} → h ≡ g → v ≡ getD (g .sets) n 0 → u ≡ setNow (h .marks) (h .sets) n v → u ≡ getD (g .sets) n 0
+  unfolding setNow
+  own-first e a b = b ∙ (λ i. setNow (e i .marks) (e i .sets) n (a i)) ∙ go (marked (g .marks) n)
+    where
+      go : (b : Bool) → (elim b as (λ _. ℕ) [ true ↦ getD (g .sets) n 0 | false ↦ getD (g .sets) n 0 ]) ≡ getD (g .sets) n 0
+      go true = refl
+      go false = refl
+
+  second-is : {v u : ℕ} {h h′ : Graph} → h ≡ rowDone old new g n (getD (g .sets) n 0) 0 → v ≡ getD (g .sets) n 0 → u ≡ setNow (h .marks) (h .sets) n v
+      → h′ ≡ rowDone old new h n u 1 → h′ ≡ secondDone old new (rowDone old new g n (getD (g .sets) n 0) 0) n (getD (g .sets) n 0)
+  unfolding secondDone
+  second-is {h = h} e a b c = c ∙ (λ i. rowDone old new h n (b i) 1) ∙ (λ i. rowDone old new (e i) n (setNow (e i .marks) (e i .sets) n (a i)) 1)
+
+  pub turn-row : (r : ℕ) {v u : ℕ} {h h′ : Graph} → Turning r v h → r < 2 → u ≡ setNow (h .marks) (h .sets) n v → h′ ≡ rowDone old new h n u r → Sized h′ → Turning (r + 1) u h′
+  turn-row zero T l b c S =
+      let z = T .none-done refl in
+      let w = own-first (z .0) (z .1) b in
+      record {
+        most = omega arith;
+        sized = S;
+        none-done = λ e. absurd (omega arith);
+        one-done = λ e. (c ∙ (λ i. rowDone old new (z .0 i) n (w i) 0), w);
+        both-done = λ e. absurd (omega arith);
+      }
+  turn-row (suc zero) T l b c S =
+      let z = T .one-done refl in
+      record {
+        most = omega arith;
+        sized = S;
+        none-done = λ e. absurd (omega arith);
+        one-done = λ e. absurd (omega arith);
+        both-done = λ e. second-is (z .0) (z .1) b c;
+      }
+  turn-row (suc (suc r)) T l b c S = absurd (omega arith)
+
+pub turn-done : (old new : Chart) (m t s w : List ℕ) (n : ℕ) {w₁ : List ℕ} {r v : ℕ} {h : Graph} → w₁ ≡ set w n 0
+    → Turning old new (graph m t s w₁) n r v h → 2 ≤ r → h ≡ taken old new (graph m t s w) n
 unfolding taken unwait
-turn-is old new m t s w n a b c =
-    c ∙ (λ i. secondDone old new (b i) n (getD s n 0)) ∙ (λ i. secondDone old new (rowDone old new (graph m t s (a i)) n (getD s n 0) 0) n (getD s n 0))
+turn-done old new m t s w n a T l =
+    T .both-done (omega (arith, T .most)) ∙ (λ i. secondDone old new (rowDone old new (graph m t s (a i)) n (getD s n 0) 0) n (getD s n 0))
 
--- ---- the look for the lowest waiting pair
-module _ (w : List ℕ) where
-  -- none waits below where the look begins
-  look-from : (from : ℕ) → from ≤ length w → ((i : ℕ) → i < from → getD w i 0 ≡ 0) → lowest w ≡ firstFrom (λ k x. not (eqb x 0)) from (drop from w)
-  unfolding lowest
-  look-from zero l h = refl
-  look-from (suc k) l h =
-      look-from k (omega arith) (λ i b. h i (omega arith)) ∙ skip-at (λ k x. not (eqb x 0)) w k (omega arith) (rw (eq-eqb (getD w k 0) 0 (h k (omega arith)))) ∙ rw (add-one k) refl
-
-  module _ (from : ℕ) {i : ℕ} (h : (k : ℕ) → k < from → getD w k 0 ≡ 0) (N : Next w from (length w) i) where
-    looked : lowest w ≡ firstFrom (λ k x. not (eqb x 0)) i (drop i w)
-    looked = look-from i (N .most) (λ k b. dite (decLt k from) (λ c. h k c) (λ c. N .blank k (omega arith) b))
-
-    pub look-here : i < length w → some i ≡ lowest w
-    look-here l = sym (looked ∙ stop-at (λ k x. not (eqb x 0)) w i l (rw (ne-eqb (getD w i 0) 0 (N .here l))))
-
-    pub look-end : length w ≤ i → none ≡ lowest w
-    look-end l = sym (looked ∙ end-at (λ k x. not (eqb x 0)) w i l)
-
--- ---- where to look on
-module _ (w : List ℕ) (n t : ℕ) where
-  module _ {at : ℕ} (a : at ≡ t) where
-    pub low-past : n ≤ at → n ≡ lowOf w n t
-    unfolding lowOf
-    low-past l = rw (le-ltb t n (omega arith), lowOf)
-
-    pub low-rests : at < n → getD w at 0 ≡ 0 → n ≡ lowOf w n t
-    unfolding lowOf
-    low-rests l e = rw (lt-ltb t n (omega arith), marked-no w t (subst (λ (x : ℕ). getD w x 0 ≡ 0) a e), lowOf)
-
-    pub low-waits : at < n → (getD w at 0 ≡ 0 → ⊥) → at ≡ lowOf w n t
-    unfolding lowOf
-    low-waits l e =
-        let f : getD w t 0 ≡ 0 → ⊥ = subst (λ (x : ℕ). getD w x 0 ≡ 0 → ⊥) a e in
-        a ∙ rw (lt-ltb t n (omega arith), marked-yes w t (omega arith), lowOf)
-
-  pub low-of-most : lowOf w n t ≤ n
-  low-of-most =
-      dite (decLt t n)
-      (λ l. dite (ℕ-discrete (getD w t 0) 0) (λ e. omega (arith, low-rests refl l e)) (λ e. omega (arith, low-waits refl l e)))
-      (λ l. omega (arith, low-past refl (omega arith)))
-
-module _ (m t w : List ℕ) (n : ℕ) {q : NewPlace} {k : ℕ} {b : Bool} (a : q ≡ newOf n) (e : k ≡ keptNumber q) (d : b ≡ marked m k) where
-  kept-told : marked m (keptNumber (newOf n)) ≡ b
-  kept-told = sym (d ∙ ap (marked m) (e ∙ ap (λ (x : NewPlace). keptNumber x) a))
-
-  pub low-at-kept : b ≡ true → 0 ≡ lowAfter m t w n
-  unfolding lowAfter
-  low-at-kept h = rw (kept-told ∙ h, lowAfter)
-
-  pub low-at-targets : {u v x : ℕ} → b ≡ false → u ≡ lowOf w n (getD t (2 * n) 0) → v ≡ lowOf w n (getD t (2 * n + 1) 0) → x ≡ min u v → x ≡ lowAfter m t w n
-  unfolding lowAfter
-  low-at-targets h p q u = let z : index n 0 ≡ 2 * n = omega arith in u ∙ (λ i. min (p i) (q i)) ∙ rw (kept-told ∙ h, lowAfter) (rw z)
+pub unwait-sized : {m t s w w₁ : List ℕ} (n : ℕ) → Sized (graph m t s w) → w₁ ≡ set w n 0 → Sized (graph m t s w₁)
+unwait-sized n S a = record { marks = S .marks; targets = S .targets; sets = S .sets; waiting = rw (a, length-set) (S .waiting) }

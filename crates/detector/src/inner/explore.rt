@@ -2,16 +2,18 @@
 ghost use mathlib.Core.Path.{_≡_};
 ghost use mathlib.Core.List.{List};
 ghost use Prim.Native.Nat.{ℕ};
+ghost use lib.ListN.{length};
 ghost use Rattle.chart.specs.Charts.{charted};
 ghost use Rattle.chart.specs.Faultless.{FaultlessChart};
 ghost use Rattle.chart.specs.Lookup.{Indexed};
 ghost use Rattle.checker.specs.Rules.{startPair, startKept};
-ghost use Rattle.graph.specs.Graphs.{graph, Sized};
+ghost use Rattle.graph.specs.Graphs.{graph, Sized, Covers};
 ghost use Rattle.detector.specs.Turns.{begun, explored};
 use crate::inner::turns;
 use align::spots::Found;
 use chart::charts::Head;
 use graph::inner::buffers;
+use words::inner::members;
 
 // The pair of both starts.
 pub fn first_pair(old: Head, new: Head) -> usize
@@ -48,7 +50,8 @@ fn begin(
     buffers::put8(waiting, first, 1);
 }
 
-// Takes the lowest waiting pair up, as long as one waits.
+// Takes the lowest waiting pair up, as long as one waits. So that nobody looks at every pair, `waits` has whoever waits, and `seen` whoever
+// comes into the graph; what `seen` had before it keeps.
 pub fn explore<'a>(
     old: Head,
     old_rows: &'a [u32],
@@ -59,18 +62,23 @@ pub fn explore<'a>(
     targets: &mut [u16],
     sets: &mut [u64],
     waiting: &mut [u8],
+    seen: &mut [u64],
 )
     requires { ⌜ FaultlessChart (charted old (now «old_rows»)) ⌝ }
     requires { ⌜ FaultlessChart (charted new (now «new_rows»)) ⌝ }
     requires { ⌜ Indexed (now «old_rows») (now «new_rows») (now index) ⌝ }
-    requires { ⌜ Sized (graph (now marks) (now targets) (now sets) (now waiting)) ⌝ }
+    requires { ⌜ Sized (graph (now marks) (now targets) (now sets) (now waiting)) × (length (now seen) ≡ 64) ⌝ }
+    ensures { λ _. ⌜ Covers (now (seen .exit)) (graph (now (marks .exit)) (now (targets .exit)) (now (sets .exit)) (now (waiting .exit))) ⌝ }
     ensures { λ _. ⌜ graph (now (marks .exit)) (now (targets .exit)) (now (sets .exit)) (now (waiting .exit))
         ≡ explored (charted old (now («old_rows» .entry))) (charted new (now («new_rows» .entry))) ⌝ }
 {
     begin(old, new, marks, targets, sets, waiting);
+    let mut waits = [0u64; 64];
+    members::add(&mut waits, first_pair(old, new));
+    members::add(seen, first_pair(old, new));
     let mut from = 0;
     loop {
-        match turns::lowest(&*waiting, from) {
+        match turns::lowest(&mut waits, &*waiting, from) {
             Found::At(n) => {
                 turns::turn(
                     old,
@@ -84,7 +92,7 @@ pub fn explore<'a>(
                     waiting,
                     n,
                 );
-                from = turns::low_after(&*marks, &*targets, &*waiting, n);
+                from = turns::low_after(&*marks, &*targets, &*waiting, &mut waits, seen, n);
             }
             Found::Nothing => {
                 return;

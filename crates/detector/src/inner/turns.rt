@@ -1,5 +1,6 @@
 // Algorithm 2: the rows of a waiting pair, and the turns of a build.
 ghost use mathlib.Core.Path.{_≡_};
+ghost use mathlib.Core.Bool.{true};
 ghost use mathlib.Core.Option.{some};
 ghost use Prim.Native.Nat.{ℕ, _<_, _≤_, min};
 ghost use lib.ListN.{length, getD};
@@ -8,13 +9,13 @@ ghost use Rattle.chart.specs.Faultless.{FaultlessChart};
 ghost use Rattle.chart.specs.Lookup.{Indexed};
 ghost use Rattle.align.specs.declared.spots.Spot.{Spot};
 ghost use Rattle.align.specs.Steps.{told, toldFound};
-ghost use Rattle.graph.specs.Graphs.{graph, Sized};
-ghost use Rattle.detector.specs.Turns.{lowest, lowOf, lowAfter, setNow, arrived, processed, rowDone, secondDone, taken};
+ghost use Rattle.words.specs.Words.{First, removed};
+ghost use Rattle.graph.specs.Graphs.{graph, Sized, marked};
+ghost use Rattle.detector.specs.Turns.{lowest, Lists, lowOf, lowAfter, listed, listedAfter, setNow, arrived, processed, rowDone, taken};
 use align::inner::step::step;
 use align::spots::Aligned;
 use align::spots::Found;
 use align::spots::Spot;
-use base::inner::scan::next;
 use chart::charts::Head;
 use chart::inner::pairs::kept;
 use chart::inner::pairs::new_of;
@@ -26,17 +27,34 @@ use chart::places::NewPlace;
 use chart::places::Place;
 use graph::inner::buffers;
 use graph::inner::graphs;
+use words::inner::members;
 
-// The lowest pair that waits, where none waits below `from`.
-pub fn lowest(waiting: &[u8], from: usize) -> Found
-    requires { ⌜ (from ≤ length (now waiting)) × ((i : ℕ) → i < from → getD (now waiting) i 0 ≡ 0) ⌝ }
-    ensures { λ r. ⌜ toldFound r ≡ lowest (now (waiting .entry)) ⌝ }
+// The first pair from i on that may wait, or 4,096.
+fn next_listed(waits: &[u64], i: usize) -> usize
+    requires { ⌜ (length (now waits) ≡ 64) × (i ≤ 4096) ⌝ }
+    ensures { λ r. ⌜ First (now (waits .entry)) i r ⌝ }
 {
-    let i = next(waiting, from, waiting.len());
-    if i < waiting.len() {
-        return Found::At(i);
+    members::first(waits, i)
+}
+
+// The lowest pair that waits, where none waits below `from`. Members of `waits` that wait no more are met once, and removed.
+pub fn lowest(waits: &mut [u64], waiting: &[u8], from: usize) -> Found
+    requires { ⌜ (from ≤ 4096) × ((i : ℕ) → i < from → getD (now waiting) i 0 ≡ 0) ⌝ }
+    requires { ⌜ (length (now waiting) ≡ 4096) × Lists (now waits) (now waiting) ⌝ }
+    ensures { λ r. ⌜ (toldFound r ≡ lowest (now (waiting .entry))) × Lists (now (waits .exit)) (now (waiting .entry)) ⌝ }
+{
+    let mut i = from;
+    loop {
+        let at = next_listed(&*waits, i);
+        if 4096 <= at {
+            return Found::Nothing;
+        }
+        if waiting[at] != 0 {
+            return Found::At(at);
+        }
+        members::remove(waits, at);
+        i = at + 1;
     }
-    Found::Nothing
 }
 
 fn wide(x: u16) -> usize
@@ -54,34 +72,49 @@ fn lower(a: usize, b: usize) -> usize
     b
 }
 
-// Pair t, where it waits and comes before n; else n.
-fn low_of(waiting: &[u8], n: usize, t: u16) -> usize
-    requires { ⌜ n ≤ length (now waiting) ⌝ }
-    ensures { λ r. ⌜ r ≡ lowOf (now (waiting .entry)) n t ⌝ }
+// The target t of the pair in hand: it has been seen if it is a pair, and may wait if it does. Gives the lower of n and t where t waits; else n.
+fn low_of(waiting: &[u8], waits: &mut [u64], seen: &mut [u64], n: usize, t: u16) -> usize
+    requires { ⌜ (length (now waiting) ≡ 4096) × (length (now waits) ≡ 64) × (length (now seen) ≡ 64) ⌝ }
+    ensures { λ r. ⌜ (r ≡ lowOf (now (waiting .entry)) n t)
+        × (now (waits .exit) ≡ listed (marked (now (waiting .entry))) (now (waits .entry)) t)
+        × (now (seen .exit) ≡ listed (λ _. true) (now (seen .entry)) t) ⌝ }
 {
     let at = wide(t);
-    if n <= at {
+    if 4096 <= at {
         return n;
     }
+    members::add(seen, at);
     if waiting[at] == 0 {
         return n;
     }
-    at
+    members::add(waits, at);
+    lower(n, at)
 }
 
-// Where to look on after the turn of pair n: no pair below waits.
-pub fn low_after(marks: &[u8], targets: &[u16], waiting: &[u8], n: usize) -> usize
+// Where to look on after the turn of pair n: no pair below waits. Whoever waits now is among `waits`, and whoever is in the graph among `seen`.
+pub fn low_after(
+    marks: &[u8],
+    targets: &[u16],
+    waiting: &[u8],
+    waits: &mut [u64],
+    seen: &mut [u64],
+    n: usize,
+) -> usize
     requires { ⌜ (n < 4096) × (length (now marks) ≡ 4160) × (length (now targets) ≡ 8192) × (length (now waiting) ≡ 4096) ⌝ }
-    ensures { λ r. ⌜ r ≡ lowAfter (now (marks .entry)) (now (targets .entry)) (now (waiting .entry)) n ⌝ }
+    requires { ⌜ (length (now waits) ≡ 64) × (length (now seen) ≡ 64) ⌝ }
+    ensures { λ r. ⌜ (r ≡ lowAfter (now (marks .entry)) (now (targets .entry)) (now (waiting .entry)) n)
+        × (now (waits .exit) ≡ listedAfter (now (marks .entry)) (now (targets .entry)) (marked (now (waiting .entry))) n (removed (now (waits .entry)) n))
+        × (now (seen .exit) ≡ listedAfter (now (marks .entry)) (now (targets .entry)) (λ _. true) n (now (seen .entry))) ⌝ }
 {
     if graphs::is_marked(marks, kept(new_of(n))) {
+        buffers::fill64(waits, 18446744073709551615);
+        buffers::fill64(seen, 18446744073709551615);
         return 0;
     }
+    members::remove(waits, n);
     let at = 2 * n;
-    lower(
-        low_of(waiting, n, targets[at]),
-        low_of(waiting, n, targets[at + 1]),
-    )
+    let low = low_of(waiting, waits, seen, n, targets[at]);
+    low_of(waiting, waits, seen, low, targets[at + 1])
 }
 
 // Row r of pair n leads to new place q by a step that came to h.
@@ -191,45 +224,6 @@ fn set_now(marks: &[u8], sets: &[u64], n: usize, v: u64) -> u64
     v
 }
 
-// The second row of pair n, which had the set v at its first.
-fn second_row<'a>(
-    old: Head,
-    old_rows: &'a [u32],
-    new: Head,
-    new_rows: &'a [u32],
-    index: &[u8; 130],
-    marks: &mut [u8],
-    targets: &mut [u16],
-    sets: &mut [u64],
-    waiting: &mut [u8],
-    n: usize,
-    v: u64,
-)
-    requires { ⌜ FaultlessChart (charted old (now «old_rows»)) ⌝ }
-    requires { ⌜ FaultlessChart (charted new (now «new_rows»)) ⌝ }
-    requires { ⌜ Indexed (now «old_rows») (now «new_rows») (now index) ⌝ }
-    requires { ⌜ n < 4096 ⌝ }
-    requires { ⌜ Sized (graph (now marks) (now targets) (now sets) (now waiting)) ⌝ }
-    ensures { λ _. ⌜ graph (now (marks .exit)) (now (targets .exit)) (now (sets .exit)) (now (waiting .exit))
-        ≡ secondDone (charted old (now («old_rows» .entry))) (charted new (now («new_rows» .entry))) (graph (now (marks .entry)) (now (targets .entry)) (now (sets .entry)) (now (waiting .entry))) n v ⌝ }
-{
-    let own = set_now(&*marks, &*sets, n, v);
-    row(
-        old,
-        old_rows,
-        new,
-        new_rows,
-        index,
-        marks,
-        targets,
-        sets,
-        waiting,
-        n,
-        own,
-        1,
-    );
-}
-
 // Takes pair n up.
 pub fn turn<'a>(
     old: Head,
@@ -251,33 +245,25 @@ pub fn turn<'a>(
     ensures { λ _. ⌜ graph (now (marks .exit)) (now (targets .exit)) (now (sets .exit)) (now (waiting .exit))
         ≡ taken (charted old (now («old_rows» .entry))) (charted new (now («new_rows» .entry))) (graph (now (marks .entry)) (now (targets .entry)) (now (sets .entry)) (now (waiting .entry))) n ⌝ }
 {
-    let first = sets[n];
+    let mut v = sets[n];
     buffers::put8(waiting, n, 0);
-    row(
-        old,
-        old_rows,
-        new,
-        new_rows,
-        index,
-        marks,
-        targets,
-        sets,
-        waiting,
-        n,
-        first,
-        0,
-    );
-    second_row(
-        old,
-        old_rows,
-        new,
-        new_rows,
-        index,
-        marks,
-        targets,
-        sets,
-        waiting,
-        n,
-        first,
-    );
+    let mut r = 0;
+    while r < 2 {
+        v = set_now(&*marks, &*sets, n, v);
+        row(
+            old,
+            old_rows,
+            new,
+            new_rows,
+            index,
+            marks,
+            targets,
+            sets,
+            waiting,
+            n,
+            v,
+            r,
+        );
+        r += 1;
+    }
 }

@@ -1,4 +1,5 @@
 -- `detector::inner::explore::explore` meets its contract. Assumes nothing.
+use mathlib.Core.Path.{refl, sym, _∙_}
 use Rattle.chart.specs.Charts.{charted}
 use Rattle.graph.specs.Graphs.{graph}
 use Rattle.detector.proofs.Measure.{weight}
@@ -8,54 +9,78 @@ use Rattle.detector.proofs.inner.explore.explore.Statement.{statement}
 use Rattle.detector.proofs.inner.explore.explore.Tie as tie
 
 abbrev Inv-loop : tie.InvT-loop
-Inv-loop old old-rows new new-rows index marks₀ targets₀ sets₀ waiting₀ from₀ marks targets sets waiting from =
-    Building (charted old old-rows) (charted new new-rows) (graph marks targets sets waiting) from
+Inv-loop old old-rows new new-rows index marks₀ targets₀ sets₀ waiting₀ seen₀ waits₀ from₀ marks targets sets waiting seen waits from =
+    Building (charted old old-rows) (charted new new-rows) (graph marks targets sets waiting) waits seen from
 
 abbrev μ-loop : tie.MeasureT-loop
-μ-loop old old-rows new new-rows index marks₀ targets₀ sets₀ waiting₀ from₀ marks targets sets waiting from =
+μ-loop old old-rows new new-rows index marks₀ targets₀ sets₀ waiting₀ seen₀ waits₀ from₀ marks targets sets waiting seen waits from =
     weight (graph marks targets sets waiting)
 
 begin-requires : tie.Need-begin-requires Inv-loop μ-loop
 begin-requires c κs = search needs
 
+slice-aggregate-add : tie.Need-slice-aggregate-add Inv-loop μ-loop
+slice-aggregate-add c = search needs
+
+first-pair-requires : tie.Need-first-pair-requires Inv-loop μ-loop
+first-pair-requires c κs = search needs
+
+add-requires : tie.Need-add-requires Inv-loop μ-loop
+add-requires c κs = search needs
+
+first-pair-requires-2 : tie.Need-first-pair-requires-2 Inv-loop μ-loop
+first-pair-requires-2 c κs = search needs
+
+add-requires-2 : tie.Need-add-requires-2 Inv-loop μ-loop
+add-requires-2 c κs = (c .before .before .before .before .before .before .before .before .before .before .before .before .before .before .before .before .before .before .before .before .before .before .before .before .before .before .pre .1 .1 .1 .1, search needs)
+
 loop-holds : tie.Need-loop-holds Inv-loop μ-loop
-loop-holds c = build-begun _ _ (c .before .before .before .before .before .before .before .before .before .before .before .before .before .before .before .before .before .before .before .pre .0) (c .before .before .before .before .before .before .before .before .before .before .before .before .before .before .before .before .before .before .before .pre .1 .0) (c .before .before .before .before .before .before .before .before .begin .ensures _ _)
+loop-holds c = build-begun _ _ _ _ (c .before .before .before .before .before .before .before .before .before .before .before .before .before .before .before .before .before .before .before .before .before .before .before .before .before .before .before .before .before .pre .0) (c .before .before .before .before .before .before .before .before .before .before .before .before .before .before .before .before .before .before .before .before .before .before .before .before .before .before .before .before .before .pre .1 .0) (c .before .before .before .before .before .before .before .before .before .before .before .before .before .before .before .before .before .begin .ensures _ _) refl (c .before .before .before .before .before .before .before .first-pair .ensures) (c .before .before .before .before .before .before .add .ensures) (c .before .before .before .before .before .before .before .before .before .before .before .before .before .before .before .before .before .before .before .before .before .before .before .before .before .before .before .before .before .pre .1 .1 .1 .1) (c .before .before .before .first-pair2 .ensures) (c .before .before .add2 .ensures)
+
+slice-aggregate-lowest : tie.Need-slice-aggregate-lowest Inv-loop μ-loop
+slice-aggregate-lowest c = sym (c .before .loop .inv .lists .long)
 
 lowest-requires : tie.Need-lowest-requires Inv-loop μ-loop
-lowest-requires c κs = build-looks _ _ (c .before .loop .inv)
+lowest-requires c κs = build-looks _ _ (c .before .before .loop .inv)
 
 enum-known-n : tie.Need-enum-known-n Inv-loop μ-loop
 enum-known-n c = search needs
 
 turn-requires : tie.Need-turn-requires Inv-loop μ-loop
-turn-requires c κs = ((c .before .before .before .before .before .before .before .before .before .before .before .before .before .before .before .before .before .before .before .before .before .before .before .before .before .before .before .before .before .pre .0), ((c .before .before .before .before .before .before .before .before .before .before .before .before .before .before .before .before .before .before .before .before .before .before .before .before .before .before .before .before .before .pre .1 .0), (c .before .before .before .before .before .before .before .before .before .before .before .before .before .before .before .before .before .before .before .before .before .before .before .before .before .before .before .before .before .pre .1 .1 .0, (build-below _ _ (c .before .before .before .before .before .before .before .before .before .loop .inv) (c .before .before .before .before .before .before .before .lowest .ensures) (c .before .before .before .before .before .n .given .1), build-sized _ _ (c .before .before .before .before .before .before .before .before .before .loop .inv)))))
+turn-requires c κs = (c .before .before .before .before .before .before .before .before .before .before .before .before .before .before .before .before .before .before .before .before .before .before .before .before .before .before .before .before .before .before .before .before .before .before .before .before .before .before .before .before .before .pre .0, (c .before .before .before .before .before .before .before .before .before .before .before .before .before .before .before .before .before .before .before .before .before .before .before .before .before .before .before .before .before .before .before .before .before .before .before .before .before .before .before .before .before .pre .1 .0, (c .before .before .before .before .before .before .before .before .before .before .before .before .before .before .before .before .before .before .before .before .before .before .before .before .before .before .before .before .before .before .before .before .before .before .before .before .before .before .before .before .before .pre .1 .1 .0, (build-below _ _ (c .before .before .before .before .before .before .before .before .before .before .before .loop .inv) (c .before .before .before .before .before .before .before .before .lowest .ensures) (c .before .before .before .before .before .n .given .1), build-sized _ _ (c .before .before .before .before .before .before .before .before .before .before .before .loop .inv)))))
+
+slice-aggregate-low-after : tie.Need-slice-aggregate-low-after Inv-loop μ-loop
+slice-aggregate-low-after c = sym (c .before .before .before .before .before .before .before .before .before .before .before .before .before .before .before .before .before .before .before .before .before .lowest .ensures .1 .long)
 
 low-after-requires : tie.Need-low-after-requires Inv-loop μ-loop
-low-after-requires c κs = let S = build-sized _ _ (c .before .before .before .before .before .before .before .before .before .before .before .before .before .before .before .before .before .before .before .before .before .loop .inv) in (search build-below, search (needs, S), search (needs, S), search (needs, S))
+low-after-requires c κs = let S = build-sized _ _ (c .before .before .before .before .before .before .before .before .before .before .before .before .before .before .before .before .before .before .before .before .before .before .before .before .before .loop .inv) in ((build-below _ _ (c .before .before .before .before .before .before .before .before .before .before .before .before .before .before .before .before .before .before .before .before .before .before .before .before .before .loop .inv) (c .before .before .before .before .before .before .before .before .before .before .before .before .before .before .before .before .before .before .before .before .before .before .lowest .ensures) (c .before .before .before .before .before .before .before .before .before .before .before .before .before .before .before .before .before .before .before .n .given .1), search (needs, S), search (needs, S), search (needs, S)), (c .before .before .before .before .before .before .before .before .before .before .before .before .before .before .before .before .before .before .before .before .before .before .lowest .ensures .1 .long, c .before .before .before .before .before .before .before .before .before .before .before .before .before .before .before .before .before .before .before .before .before .before .before .before .before .loop .inv .covers .long))
 
 loop-less : tie.Need-loop-less Inv-loop μ-loop
-loop-less c = search build-less
+loop-less c = build-less _ _ (c .before .before .before .before .before .before .before .before .before .before .before .before .before .before .before .before .before .before .before .before .before .before .before .before .before .before .before .before .before .loop .inv) (c .before .before .before .before .before .before .before .before .before .before .before .before .before .before .before .before .before .before .before .before .before .before .before .before .before .before .lowest .ensures) (c .before .before .before .before .before .before .before .before .before .before .before .before .before .before .before .before .before .before .before .before .before .before .before .n .given .1) (c .before .before .before .before .before .before .before .before .before .before .before .before .before .before .before .before .before .turn .ensures)
 
 loop-again : tie.Need-loop-again Inv-loop μ-loop
-loop-again c = search build-turn
+loop-again c = build-turn _ _ (c .before .before .before .before .before .before .before .before .before .before .before .before .before .before .before .before .before .before .before .before .before .before .before .before .before .before .before .before .before .loop .inv) (c .before .before .before .before .before .before .before .before .before .before .before .before .before .before .before .before .before .before .before .before .before .before .before .before .before .before .lowest .ensures) (c .before .before .before .before .before .before .before .before .before .before .before .before .before .before .before .before .before .before .before .before .before .before .before .n .given .1) (c .before .before .before .before .before .before .before .before .before .before .before .before .before .before .before .before .before .turn .ensures) (c .before .before .before .low-after .ensures)
 
 enum-told : tie.Need-enum-told Inv-loop μ-loop
 enum-told c = search needs
 
 same-length : tie.Need-same-length Inv-loop μ-loop
-same-length c = search same-marks
+same-length c = same-marks (c .before .before .before .before .before .before .before .before .before .before .before .before .before .before .before .before .before .before .before .before .before .before .before .before .before .before .before .before .before .before .before .before .before .before .before .before .pre .1 .1 .1 .0) (build-sized _ _ (c .before .before .before .before .before .before .loop .inv))
 
 same-length-2 : tie.Need-same-length-2 Inv-loop μ-loop
-same-length-2 c = search same-targets
+same-length-2 c = same-targets (c .before .before .before .before .before .before .before .before .before .before .before .before .before .before .before .before .before .before .before .before .before .before .before .before .before .before .before .before .before .before .before .before .before .before .before .before .pre .1 .1 .1 .0) (build-sized _ _ (c .before .before .before .before .before .before .loop .inv))
 
 same-length-3 : tie.Need-same-length-3 Inv-loop μ-loop
-same-length-3 c = search same-sets
+same-length-3 c = same-sets (c .before .before .before .before .before .before .before .before .before .before .before .before .before .before .before .before .before .before .before .before .before .before .before .before .before .before .before .before .before .before .before .before .before .before .before .before .pre .1 .1 .1 .0) (build-sized _ _ (c .before .before .before .before .before .before .loop .inv))
 
 same-length-4 : tie.Need-same-length-4 Inv-loop μ-loop
-same-length-4 c = search same-waiting
+same-length-4 c = same-waiting (c .before .before .before .before .before .before .before .before .before .before .before .before .before .before .before .before .before .before .before .before .before .before .before .before .before .before .before .before .before .before .before .before .before .before .before .before .pre .1 .1 .1 .0) (build-sized _ _ (c .before .before .before .before .before .before .loop .inv))
+
+same-length-5 : tie.Need-same-length-5 Inv-loop μ-loop
+same-length-5 c = c .before .before .before .before .before .before .loop .inv .covers .long ∙ sym (c .before .before .before .before .before .before .before .before .before .before .before .before .before .before .before .before .before .before .before .before .before .before .before .before .before .before .before .before .before .before .before .before .before .before .before .before .pre .1 .1 .1 .1)
 
 returns : tie.Need-returns Inv-loop μ-loop
-returns c = search build-done
+returns c = build-done _ _ (c .before .before .before .before .before .before .loop .inv) (c .before .before .before .lowest .ensures) (c .enum-told .given .1)
 
 pub explore-spec : {M : Type 1} → statement M
 explore-spec =
@@ -64,10 +89,17 @@ explore-spec =
     Inv-loop
     μ-loop
     begin-requires
+    slice-aggregate-add
+    first-pair-requires
+    add-requires
+    first-pair-requires-2
+    add-requires-2
     loop-holds
+    slice-aggregate-lowest
     lowest-requires
     enum-known-n
     turn-requires
+    slice-aggregate-low-after
     low-after-requires
     loop-less
     loop-again
@@ -76,4 +108,5 @@ explore-spec =
     same-length-2
     same-length-3
     same-length-4
+    same-length-5
     returns)

@@ -1,48 +1,77 @@
--- `detector::inner::turns::turn` meets its contract: its two rows. Assumes nothing.
-use Rattle.detector.proofs.Rows.{turn-is}
+-- `detector::inner::turns::turn` meets its contract. The invariant: the rows before r are done. Assumes nothing.
+use Prim.Native.Nat.{_-_}
+use Rattle.chart.specs.Charts.{charted}
+use Rattle.graph.specs.Graphs.{graph}
+use Rattle.detector.proofs.Rows.{Turning, turn-begins, turn-row, turn-done, unwait-sized}
+use native.Mathlib.Omega.{arith}
 use borrow.Author.Needs.{needs}
 use Rattle.detector.proofs.inner.turns.turn.Statement.{statement}
 use Rattle.detector.proofs.inner.turns.turn.Tie as tie
 
-mul-first : tie.Need-mul-first
-mul-first c = search needs
+abbrev Inv-loop : tie.InvT-loop
+Inv-loop old old-rows new new-rows index marks₀ targets₀ sets₀ waiting₀ n v₀ r₀ marks targets sets waiting v r =
+    Turning (charted old old-rows) (charted new new-rows) (graph marks₀ targets₀ sets₀ waiting₀) n r v (graph marks targets sets waiting)
 
-slice-read-first : tie.Need-slice-read-first
-slice-read-first c = search needs
+abbrev μ-loop : tie.MeasureT-loop
+μ-loop old old-rows new new-rows index marks₀ targets₀ sets₀ waiting₀ n v₀ r₀ marks targets sets waiting v r = 2 - r
 
-put8-requires : tie.Need-put8-requires
+mul-v : tie.Need-mul-v Inv-loop μ-loop
+mul-v c = search needs
+
+slice-read-v : tie.Need-slice-read-v Inv-loop μ-loop
+slice-read-v c = search needs
+
+put8-requires : tie.Need-put8-requires Inv-loop μ-loop
 put8-requires c κs = search needs
 
-row-requires : tie.Need-row-requires
-row-requires c κs = ((c .before .before .before .before .before .before .before .before .before .before .before .before .before .before .before .pre .0), ((c .before .before .before .before .before .before .before .before .before .before .before .before .before .before .before .pre .1 .0), (c .before .before .before .before .before .before .before .before .before .before .before .before .before .before .before .pre .1 .1 .0, ((search needs, search needs), record { marks = search needs; targets = search needs; sets = search needs; waiting = search needs }))))
+loop-holds : tie.Need-loop-holds Inv-loop μ-loop
+loop-holds c = turn-begins _ _ _ _ (unwait-sized _ (c .before .before .before .before .before .before .before .before .before .before .before .pre .1 .1 .1 .1) (c .before .before .put8 .ensures))
 
-second-row-requires : tie.Need-second-row-requires
-second-row-requires c κs = ((c .before .before .before .before .before .before .before .before .before .before .before .before .before .before .before .before .before .before .before .before .before .before .before .before .before .before .before .before .pre .0), ((c .before .before .before .before .before .before .before .before .before .before .before .before .before .before .before .before .before .before .before .before .before .before .before .before .before .before .before .before .pre .1 .0), (c .before .before .before .before .before .before .before .before .before .before .before .before .before .before .before .before .before .before .before .before .before .before .before .before .before .before .before .before .pre .1 .1 .0, ((c .before .before .before .before .before .before .before .before .before .before .before .before .before .before .before .before .before .before .before .before .before .before .before .before .before .before .before .before .pre .1 .1 .1 .0), record { marks = search (needs, (c .before .before .before .before .before .before .before .before .before .before .before .before .before .before .before .before .before .before .before .before .before .before .before .before .before .before .before .before .pre .1 .1 .1 .1)); targets = search (needs, (c .before .before .before .before .before .before .before .before .before .before .before .before .before .before .before .before .before .before .before .before .before .before .before .before .before .before .before .before .pre .1 .1 .1 .1)); sets = search (needs, (c .before .before .before .before .before .before .before .before .before .before .before .before .before .before .before .before .before .before .before .before .before .before .before .before .before .before .before .before .pre .1 .1 .1 .1)); waiting = search (needs, (c .before .before .before .before .before .before .before .before .before .before .before .before .before .before .before .before .before .before .before .before .before .before .before .before .before .before .before .before .pre .1 .1 .1 .1)) }))))
+set-now-requires : tie.Need-set-now-requires Inv-loop μ-loop
+set-now-requires c κs = search (needs, c .before .before .before .loop .inv .sized)
 
-same-length : tie.Need-same-length
+row-requires : tie.Need-row-requires Inv-loop μ-loop
+row-requires c κs = (c .before .before .before .before .before .before .before .before .before .before .before .before .before .before .before .before .before .before .before .before .pre .0, (c .before .before .before .before .before .before .before .before .before .before .before .before .before .before .before .before .before .before .before .before .pre .1 .0, (c .before .before .before .before .before .before .before .before .before .before .before .before .before .before .before .before .before .before .before .before .pre .1 .1 .0, ((c .before .before .before .before .before .before .before .before .before .before .before .before .before .before .before .before .before .before .before .before .pre .1 .1 .1 .0, c .before .before .before .before .before .before .before .loop-test .taken), c .before .before .before .before .before .before .before .before .loop .inv .sized))))
+
+add-r : tie.Need-add-r Inv-loop μ-loop
+add-r c = search needs
+
+loop-less : tie.Need-loop-less Inv-loop μ-loop
+loop-less c = omega arith
+
+loop-again : tie.Need-loop-again Inv-loop μ-loop
+loop-again c = turn-row _ _ _ _ _ (c .before .before .before .before .before .before .before .before .before .before .before .before .before .before .before .before .before .loop .inv) (c .before .before .before .before .before .before .before .before .before .before .before .before .before .before .before .before .loop-test .taken) (c .before .before .before .before .before .before .before .before .before .before .before .before .before .set-now .ensures) (c .before .before .before .before .before .before .before .before .row .ensures) (record { marks = search needs; targets = search needs; sets = search needs; waiting = search needs })
+
+same-length : tie.Need-same-length Inv-loop μ-loop
 same-length c = search needs
 
-same-length-2 : tie.Need-same-length-2
+same-length-2 : tie.Need-same-length-2 Inv-loop μ-loop
 same-length-2 c = search needs
 
-same-length-3 : tie.Need-same-length-3
+same-length-3 : tie.Need-same-length-3 Inv-loop μ-loop
 same-length-3 c = search needs
 
-same-length-4 : tie.Need-same-length-4
+same-length-4 : tie.Need-same-length-4 Inv-loop μ-loop
 same-length-4 c = search needs
 
-returns : tie.Need-returns
-returns c = turn-is _ _ _ _ _ _ _ (c .before .before .before .before .before .before .before .before .before .before .before .before .before .before .before .before .before .before .before .before .before .before .before .before .before .before .before .before .put8 .ensures) (c .before .before .before .before .before .before .before .before .before .before .before .before .before .before .before .before .before .before .before .before .before .row .ensures) (c .before .before .before .before .before .before .before .before .second-row .ensures)
+returns : tie.Need-returns Inv-loop μ-loop
+returns c = turn-done _ _ _ _ _ _ _ (c .before .before .before .before .put8 .ensures) (c .before .loop .inv) (c .loop-test .left)
 
 pub turn-spec : {M : Type 1} → statement M
 turn-spec =
     tie.close
     (tie.spec
-    mul-first
-    slice-read-first
+    Inv-loop
+    μ-loop
+    mul-v
+    slice-read-v
     put8-requires
+    loop-holds
+    set-now-requires
     row-requires
-    second-row-requires
+    add-r
+    loop-less
+    loop-again
     same-length
     same-length-2
     same-length-3
