@@ -10,4 +10,3 @@ pub mod OnSome
 pub mod Walks
 pub mod Sums
 pub mod Repeat
-pub mod Scanning

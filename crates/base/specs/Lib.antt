@@ -8,4 +8,3 @@ pub mod Says
 pub mod Refusals
 pub mod Walks
 pub mod Repeat
-pub mod Scan

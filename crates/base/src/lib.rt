@@ -1,2 +1,1 @@
-// What no layer owns: tests, values that may be missing, answers and lists, as definitions and laws; and looks through bytes.
-pub mod inner; // inner.rt: for the crates above
+// What no layer owns: tests, values that may be missing, answers and lists. Definitions and laws alone, no code.
