@@ -1,5 +1,7 @@
 //! The builder and the checker in plain Rust, over the same buffers, written for speed and not for proof: rows found by an index of places,
-//! waiting pairs in a bit set of a word for each old place, open marks propagated over lists of predecessors.
+//! pairs that are there and pairs that wait in bit sets of a word for each old place. Open marks are propagated in two ways: by passes over the
+//! pairs that are not open yet, which needs no memory but the lent buffers and those words, as the proved code; and over lists of predecessors,
+//! which takes 8 KiB more on the stack and two lists on the heap.
 
 use crate::plain::judge;
 use picker_tests::Chart;
@@ -201,8 +203,16 @@ fn bits(mut word: u64) -> impl Iterator<Item = usize> {
     })
 }
 
-/// Start and counts of marks 1, 2 and 3.
-pub fn build(old: &Chart, new: &Chart, marks: &mut [u8], targets: &mut [u16], sets: &mut [u64], waiting: &mut [u8]) -> Result<[u32; 4], Refusal> {
+/// What Algorithm 2 leaves beside the buffers.
+struct Explored {
+    /// Words by old place, a bit for each new place.
+    present: [u64; 64],
+    kept: u64,
+    /// The new start is kept, or is the new alarm without the old one being the old alarm.
+    alone: bool,
+}
+
+fn explore(old: &Chart, new: &Chart, marks: &mut [u8], targets: &mut [u16], sets: &mut [u64], waiting: &mut [u8]) -> Result<Explored, Refusal> {
     if marks.len() != 4160 || targets.len() != 8192 || sets.len() != 4096 || waiting.len() != 4096 {
         return Err((21, 0, 0));
     }
@@ -269,17 +279,111 @@ pub fn build(old: &Chart, new: &Chart, marks: &mut [u8], targets: &mut [u16], se
             }
         }
     }
+    Ok(Explored { present, kept, alone: kept & 1 == 1 || (new.alarm == 0 && old.alarm != 0) })
+}
 
-    if kept & 1 == 1 || (new.alarm == 0 && old.alarm != 0) {
-        for p in 0..64 {
-            for q in bits(present[p]) {
-                let pair = 64 * p + q;
-                sets[pair] = 0;
-                targets[2 * pair..2 * pair + 2].fill(65535);
+/// The new start alone, kept: what the pairs had is taken back.
+fn leave_alone(present: &[u64; 64], marks: &mut [u8], targets: &mut [u16], sets: &mut [u64]) -> [u32; 4] {
+    for p in 0..64 {
+        for q in bits(present[p]) {
+            let pair = 64 * p + q;
+            sets[pair] = 0;
+            targets[2 * pair..2 * pair + 2].fill(65535);
+        }
+    }
+    marks[4096] = 2;
+    [4096, 0, 1, 0]
+}
+
+/// Opens a pair from which an open or kept node is a target.
+#[inline]
+fn opens(marks: &mut [u8], targets: &[u16], pair: usize) -> bool {
+    let in_q = |to: u16| marks.get(to as usize).is_some_and(|mark| *mark == 1 || *mark == 2);
+    let opens = in_q(targets[2 * pair]) | in_q(targets[2 * pair + 1]);
+    if opens {
+        marks[pair] = 1;
+    }
+    opens
+}
+
+/// Start and counts of marks 1, 2 and 3. Nothing but the buffers and a few words.
+pub fn build(old: &Chart, new: &Chart, marks: &mut [u8], targets: &mut [u16], sets: &mut [u64], waiting: &mut [u8]) -> Result<[u32; 4], Refusal> {
+    let Explored { present, kept, alone } = explore(old, new, marks, targets, sets, waiting)?;
+    if alone {
+        return Ok(leave_alone(&present, marks, targets, sets));
+    }
+    for q in bits(kept) {
+        marks[4096 + q] = 2;
+    }
+    for p in 0..64 {
+        for q in bits(present[p]) {
+            let pair = 64 * p + q;
+            marks[pair] = 4;
+            for target in &mut targets[2 * pair..2 * pair + 2] {
+                if *target != 65535 && kept >> (*target % 64) & 1 == 1 {
+                    *target = 4096 + *target % 64;
+                }
             }
         }
-        marks[4096] = 2;
-        return Ok([4096, 0, 1, 0]);
+    }
+    marks[0] = 1;
+    // Pairs that may still be opened: from the last on, as rows mostly lead to later nodes, then from the first on, until a pass opens none.
+    let mut rest = present;
+    rest[0] &= !1;
+    let mut opened = 1;
+    loop {
+        let before = opened;
+        for p in (0..64).rev() {
+            let mut word = rest[p];
+            while word != 0 {
+                let q = 63 - word.leading_zeros() as usize;
+                word &= !(1 << q);
+                if opens(marks, targets, 64 * p + q) {
+                    rest[p] &= !(1 << q);
+                    opened += 1;
+                }
+            }
+        }
+        let between = opened;
+        for p in 0..64 {
+            for q in bits(rest[p]) {
+                if opens(marks, targets, 64 * p + q) {
+                    rest[p] &= !(1 << q);
+                    opened += 1;
+                }
+            }
+        }
+        if opened == between || opened == before {
+            break;
+        }
+    }
+    let mut covered = 0;
+    for p in 0..64 {
+        for q in bits(present[p] & !rest[p]) {
+            let pair = 64 * p + q;
+            for &to in &targets[2 * pair..2 * pair + 2] {
+                if to < 4096 && marks[to as usize] == 4 {
+                    marks[to as usize] = 3;
+                    covered += 1;
+                }
+            }
+        }
+    }
+    Ok([0, opened, kept.count_ones(), covered])
+}
+
+/// The same, with lists of predecessors.
+pub fn build_with_lists(
+    old: &Chart,
+    new: &Chart,
+    marks: &mut [u8],
+    targets: &mut [u16],
+    sets: &mut [u64],
+    waiting: &mut [u8],
+) -> Result<[u32; 4], Refusal> {
+    let Explored { present, kept, alone } = explore(old, new, marks, targets, sets, waiting)?;
+    if alone {
+        return Ok(leave_alone(&present, marks, targets, sets));
     }
 
     // Targets that are kept by now, and who leads to whom: for each pair the last edge to it, for each edge its pair and the one before.
@@ -443,13 +547,15 @@ mod tests {
             for _ in 0..cases(if sort == Sort::Wide { 4 } else { 200 }) {
                 let (old, new) = drawn::pair(&mut random, sort);
                 let expected = algorithms::build(&old, &new);
-                let (mut marks, mut targets, mut sets, mut waiting) = (vec![9; 4160], vec![9; 8192], vec![9; 4096], vec![9; 4096]);
-                let answer = build(&old, &new, &mut marks, &mut targets, &mut sets, &mut waiting);
-                assert_eq!(answer, Ok([expected.start, expected.open, expected.kept, expected.covered]), "{old:?} {new:?}");
-                assert!(
-                    marks == expected.marks && targets == expected.targets && sets == expected.sets && waiting == expected.waiting,
-                    "{old:?} {new:?}"
-                );
+                for build in [build, build_with_lists] {
+                    let (mut marks, mut targets, mut sets, mut waiting) = (vec![9; 4160], vec![9; 8192], vec![9; 4096], vec![9; 4096]);
+                    let answer = build(&old, &new, &mut marks, &mut targets, &mut sets, &mut waiting);
+                    assert_eq!(answer, Ok([expected.start, expected.open, expected.kept, expected.covered]), "{old:?} {new:?}");
+                    assert!(
+                        marks == expected.marks && targets == expected.targets && sets == expected.sets && waiting == expected.waiting,
+                        "{old:?} {new:?}"
+                    );
+                }
                 let built = Record::from(expected);
                 for changes in 0..4 {
                     let mut r = built.clone();

@@ -3,7 +3,7 @@ use mathlib.Core.Path.{_≡_, refl, sym, ap, _∙_}
 use mathlib.Core.Bool.{Bool, true, false, not}
 use mathlib.Core.List.{List}
 use mathlib.Core.Option.{Option, none, some}
-use Prim.Native.Nat.{ℕ, _%_}
+use Prim.Native.Nat.{ℕ, _%_, _≤_}
 use native.Mathlib.Omega.{arith}
 use borrow.Author.Tests.{eq-eqb, ne-eqb, not-false}
 use lib.Dec.{eqb}
@@ -18,10 +18,11 @@ use Rattle.base.proofs.Tests.{T-true}
 use Rattle.base.specs.Walks.{count}
 use Rattle.chart.specs.declared.charts.Head.{Head}
 use Rattle.chart.specs.declared.charts.Judged.{Judged}
-use Rattle.chart.specs.Charts.{Chart, charted}
+use Rattle.chart.specs.Charts.{Chart, charted, size}
+use Rattle.chart.specs.Lookup.{Ascending}
 use Rattle.chart.specs.Faults.{Fault, fault, told as chartTold, refusal as chartRefusal}
 use Rattle.chart.specs.Faultless.{FaultlessChart}
-use Rattle.chart.proofs.Faultless.{faultless}
+use Rattle.chart.proofs.Faultless.{faultless, ascends, no-refusal}
 use Rattle.checker.specs.Records.{recordOf}
 use Rattle.checker.specs.Checks.{sized, inChart, refusal as checkRefusal}
 use Rattle.builder.specs.declared.answers.Summary.{Summary}
@@ -120,45 +121,42 @@ module _ (old new : Chart) (m t s w : List ℕ) where
   pub accepted : (v : Verdict) → toldVerdict v ≡ refusal old new (graph m t s w) → v ≡ verdicts.Sound → Accepted old new (graph m t s w)
   accepted v e q = accepted-by (sym e ∙ ap toldVerdict q)
 
--- ---- a build
-module _ (ho hn : Head) (to tn m t s w : List ℕ) (A : Accepted (charted ho to) (charted hn tn) (graph m t s w))
-    {m₁ t₁ s₁ w₁ m₂ t₂ s₂ w₂ : List ℕ} {st : ℕ} {sm : Summary}
-    (a : graph m₁ t₁ s₁ w₁ ≡ explored (charted ho to) (charted hn tn))
-    (b : graph m₂ t₂ s₂ w₂ ≡ finished ho hn (graph m₁ t₁ s₁ w₁)) (c : st ≡ startOf ho hn m₁) (d : sm ≡ summary st m₂) where
-  abbrev old : Chart
-  old = charted ho to
+-- ---- both algorithms
+-- rows of faultless charts have an index
+pub indexable : (old new : Chart) → FaultlessChart old → FaultlessChart new → (Ascending (old .table) × (size (old .table) ≤ 128)) × (Ascending (new .table) × (size (new .table) ≤ 128))
+indexable old new F G = ((ascends old (no-refusal old F), F .few-rows), (ascends new (no-refusal new G), G .few-rows))
 
-  abbrev new : Chart
-  new = charted hn tn
-
-  whole : graph m₂ t₂ s₂ w₂ ≡ built (charted ho to) (charted hn tn)
+module _ (ho hn : Head) (to tn : List ℕ) {m t s w : List ℕ} (a : graph m t s w ≡ explored (charted ho to) (charted hn tn)) where
+  pub both-left : {m₁ t₁ s₁ w₁ : List ℕ} → graph m₁ t₁ s₁ w₁ ≡ finished ho hn (graph m t s w) → graph m₁ t₁ s₁ w₁ ≡ built (charted ho to) (charted hn tn)
   unfolding built
-  whole = b ∙ ap (finished ho hn) a
+  both-left b = b ∙ ap (finished ho hn) a
 
-  started : st ≡ startOf ho hn (explored (charted ho to) (charted hn tn) .marks)
-  started = c ∙ (λ i. startOf ho hn (a i .marks))
-
-  record-is : recordOf st m₂ t₂ s₂ ≡ recorded (charted ho to) (charted hn tn)
+  pub both-summed : (m₁ : List ℕ) {st : ℕ} {sm : Summary} → st ≡ startOf ho hn m → sm ≡ summary st m₁ → sm ≡ summary (recorded (charted ho to) (charted hn tn) .start) m₁
   unfolding recorded
-  record-is = λ i. recordOf (started i) (whole i .marks) (whole i .targets) (whole i .sets)
+  both-summed m₁ c d = d ∙ (λ i. summary ((c ∙ (λ k. startOf ho hn (a k .marks))) i) m₁)
 
-  pub done-answers : given sm ≡ answered (charted ho to) (charted hn tn) (graph m t s w)
-  unfolding answered
-  done-answers =
-      ap given d ∙ (λ i. given (summary (record-is i .start) (record-is i .graph .marks))) ∙ rw (A .none-due, answered)
+-- ---- a build
+module _ (old new : Chart) (m t s w : List ℕ) (A : Accepted old new (graph m t s w)) {m₁ t₁ s₁ w₁ : List ℕ} {sm : Summary}
+    (b : graph m₁ t₁ s₁ w₁ ≡ built old new) (d : sm ≡ summary (recorded old new .start) m₁) where
+  pub done-answers : given sm ≡ answered old new (graph m t s w)
+  unfolding answered recorded
+  done-answers = ap given d ∙ (λ i. given (summary (recorded old new .start) (b i .marks))) ∙ rw (A .none-due, answered)
 
-  pub done-leaves : graph m₂ t₂ s₂ w₂ ≡ left (charted ho to) (charted hn tn) (graph m t s w)
+  pub done-leaves : graph m₁ t₁ s₁ w₁ ≡ left old new (graph m t s w)
   unfolding left
-  done-leaves = whole ∙ rw (A .none-due, left)
+  done-leaves = b ∙ rw (A .none-due, left)
 
-  pub done-passes : (x : Summary) → builts.Done sm ≡ builts.Done x → checkRefusal (charted ho to) (charted hn tn) (recordOf (x .start) m₂ t₂ s₂) ≡ none
+  record-is : recordOf (recorded old new .start) m₁ t₁ s₁ ≡ recorded old new
+  unfolding recorded
+  record-is = λ i. recordOf (recorded old new .start) (b i .marks) (b i .targets) (b i .sets)
+
+  pub done-passes : (x : Summary) → builts.Done sm ≡ builts.Done x → checkRefusal old new (recordOf (x .start) m₁ t₁ s₁) ≡ none
   unfolding summary
   done-passes x e =
       let z : x ≡ sm = cc in
-      let y : x .start ≡ st = ap (λ (q : Summary). q .start) (z ∙ d) in
-      (λ i. checkRefusal (charted ho to) (charted hn tn) (recordOf (y i) m₂ t₂ s₂))
-      ∙ ap (checkRefusal (charted ho to) (charted hn tn)) record-is
-      ∙ record-passes (charted ho to) (charted hn tn) (A .old-faultless) (A .new-faultless) (A .old-sound) (A .new-sound)
+      let y : x .start ≡ recorded old new .start = ap (λ (q : Summary). q .start) (z ∙ d) in
+      (λ i. checkRefusal old new (recordOf (y i) m₁ t₁ s₁)) ∙ ap (checkRefusal old new) record-is
+      ∙ record-passes old new (A .old-faultless) (A .new-faultless) (A .old-sound) (A .new-sound)
 
 -- ---- a refusal
 module _ (old new : Chart) (m t s w : List ℕ) (v : Verdict) {n c p : ℕ} (e : toldVerdict v ≡ refusal old new (graph m t s w)) (q : v ≡ verdicts.Unsound n c p) where

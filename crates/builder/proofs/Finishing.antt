@@ -3,28 +3,30 @@ use mathlib.Core.Path.{_≡_, refl, sym, ap, _∙_}
 use mathlib.Core.Bool.{Bool, true, false, not}
 use mathlib.Core.List.{List, [], _∷_, map}
 use mathlib.Core.Logic.{dite}
-use Prim.Native.Nat.{ℕ, _+_, _*_, _-_, _≤_, _<_}
+use Prim.Native.Nat.{ℕ, zero, suc, _+_, _*_, _-_, _/_, _%_, _≤_, _<_}
 use native.Mathlib.Numerals.{add-one}
 use native.Mathlib.Omega.{arith}
-use native.Mathlib.Decide.{ℕ-discrete}
+use native.Mathlib.Decide.{ℕ-discrete, decLt}
 use borrow.Author.Tests.{eq-eqb, ne-eqb, lt-ltb, le-ltb}
 use lib.ListN.{length, getD, set, drop, replicate, drop-of-length-le}
-use lib.Seq.{drop-cons}
+use lib.Seq.{drop-cons, getD-set-other}
 use Rattle.base.specs.Says.{bool}
 use Rattle.base.specs.Walks.{pass, count}
+use Rattle.base.proofs.Walks.{zeros-at}
 use Rattle.chart.specs.declared.charts.Head.{Head}
 use Rattle.chart.specs.declared.places.OldPlace.{OldPlace}
 use Rattle.chart.specs.declared.places.NewPlace.{NewPlace}
 use Rattle.chart.specs.Places.{keptNumber, oldOf, newOf}
 use Rattle.align.specs.Steps.{fair}
+use Rattle.checker.specs.Records.{index}
 use Rattle.checker.specs.Rules.{startPair, startKept}
-use Rattle.marker.specs.Spans.{allAre, remade}
-use Rattle.graph.specs.Graphs.{Graph, graph, Sized, marked}
+use Rattle.words.specs.Words.{Member, First}
+use Rattle.graph.specs.Graphs.{Graph, graph, Sized, Covers, marked}
 use Rattle.marker.specs.Marks.{finalMarks}
+use Rattle.marker.specs.Seen.{Holds}
 use Rattle.builder.specs.Builds.{redirected, finalTargets, alone, lone, finished, startOf}
 use Rattle.graph.proofs.Parts.{graph-eq}
-use Rattle.graph.proofs.Stores.{Passing, passing-all}
-use Rattle.marker.proofs.Spans.{all-at, remade-same, passing-span}
+use Rattle.graph.proofs.Stores.{Passing, passing-none, passing-more, passing-all}
 
 -- ---- a target
 module _ (m : List ℕ) (x : ℕ) where
@@ -56,21 +58,49 @@ pass-map f i (x ∷ l) = ap (λ (y : List ℕ). f x ∷ y) (pass-map f (i + 1) l
 mapped : (f : ℕ → ℕ) {d₀ d : List ℕ} {i : ℕ} → Passing (λ j x. f x) d₀ d i → length d ≤ i → d ≡ map f d₀
 mapped f {d₀ = d₀} P l = passing-all (λ j x. f x) P l ∙ pass-map f 0 d₀
 
-module _ (m : List ℕ) where
-  -- unused targets stay unused
-  pub redirect-none : (a b : ℕ) {t : List ℕ} {r : Bool} → r ≡ allAre 65535 a b t → r ≡ true → t ≡ remade a b (redirected m) t
-  redirect-none a b {t} e h =
-      remade-same a b (redirected m) t (λ k p q. rw (all-at 65535 a b t (sym e ∙ h) k p q) (sym (redirect-far m 65535 (omega arith))))
+-- a pass goes on over elements that stay as they are
+passing-gap : (f : ℕ → ℕ → ℕ) {d₀ d : List ℕ} {i j : ℕ} → Passing f d₀ d i → j ≤ length d → ((k : ℕ) → i ≤ k → k < j → f k (getD d₀ k 0) ≡ getD d₀ k 0) → i ≤ j
+    → Passing f d₀ d j
+passing-gap f {i = i} P b h a =
+    record {
+      long = P .long;
+      most = b;
+      before = λ k l. dite (decLt k i) (λ m. P .before k m) (λ m. P .after k (omega arith) ∙ sym (h k (omega arith) l));
+      after = λ k l. P .after k (omega arith);
+    }
 
-  module _ {t₀ t t′ : List ℕ} {i : ℕ} (P : Passing (λ j x. redirected m x) t₀ t i) where
-    redirect-span : {j : ℕ} → i ≤ j → j ≤ length t → t′ ≡ remade i j (redirected m) t → Passing (λ j x. redirected m x) t₀ t′ j
-    redirect-span a b e = passing-span (λ j x. redirected m x) (redirected m) P a b e (λ k x p q. refl)
+-- the targets of the pairs before i are done
+pub record Redirecting (m t₀ t : List ℕ) (i : ℕ) : Type 0 where
+  pub long : length t ≡ 8192
+  pub done : Passing (λ j x. redirected m x) t₀ t (2 * i)
 
-    pub redirect-group : {n : ℕ} → 16 ≤ n - i → n ≡ length t → t′ ≡ remade i (i + 16) (redirected m) t → Passing (λ j x. redirected m x) t₀ t′ (i + 16)
-    redirect-group a b e = redirect-span (omega arith) (omega arith) e
+module _ (m t₀ seen : List ℕ) (U : (i r : ℕ) → i < 4096 → r < 2 → (getD t₀ (index i r) 0 ≡ 65535 → ⊥) → Member seen i) where
+  -- pairs that were not seen have no targets
+  unused : {n r : ℕ} → First seen n r → (k : ℕ) → 2 * n ≤ k → k < 2 * r → redirected m (getD t₀ k 0) ≡ getD t₀ k 0
+  unused F k a b =
+      let z : index (k / 2) (k % 2) ≡ k = omega arith in
+      let e : getD t₀ k 0 ≡ 65535 =
+      dite (ℕ-discrete (getD t₀ k 0) 65535) (λ y. y)
+      (λ f. absurd (F .none (k / 2) (omega arith) (omega arith) (U (k / 2) (k % 2) (omega (arith, F .most)) (omega arith) (λ h. f (ap (λ (j : ℕ). getD t₀ j 0) (sym z) ∙ h))))) in
+      rw e (sym (redirect-far m 65535 (omega arith)))
 
-    pub redirect-rest : {n : ℕ} → i ≤ n → n ≡ length t → t′ ≡ remade i n (redirected m) t → t′ ≡ map (redirected m) t₀
-    redirect-rest a b e = let Q = redirect-span a (omega arith) e in mapped (redirected m) Q (omega (arith, Q .long, P .long))
+  pub redirect-begun : {r : ℕ} → length t₀ ≡ 8192 → First seen 0 r → Redirecting m t₀ t₀ r
+  redirect-begun l F =
+      record { long = l; done = passing-gap (λ j x. redirected m x) (passing-none (λ j x. redirected m x) t₀) (omega (arith, F .most)) (unused F) (omega arith) }
+
+  pub redirect-again : {t : List ℕ} {i x y r : ℕ} → Redirecting m t₀ t i → i < 4096 → x ≡ redirected m (getD t (2 * i) 0)
+      → y ≡ redirected m (getD t (2 * i + 1) 0) → First seen (i + 1) r → Redirecting m t₀ (set (set t (2 * i) x) (2 * i + 1) y) r
+  redirect-again {t} {i} {x} {y} {r} R l e f F =
+      let g : ℕ → ℕ → ℕ = λ j z. redirected m z in
+      let one = passing-more g (R .done) (omega (arith, R .long)) e in
+      let two = passing-more g one (omega (arith, one .long, R .done .long, R .long)) (f ∙ ap (redirected m) (sym (getD-set-other t (2 * i) (2 * i + 1) x 0 (λ h. omega arith)))) in
+      let w : 2 * i + 1 + 1 ≡ 2 * (i + 1) = omega arith in
+      let P = rw w at two in
+      let long : length (set (set t (2 * i) x) (2 * i + 1) y) ≡ 8192 = P .long ∙ sym (R .done .long) ∙ R .long in
+      record { long = long; done = passing-gap g P (omega (arith, long, F .most)) (unused F) (omega (arith, F .least)) }
+
+pub redirect-end : (m t₀ : List ℕ) {t : List ℕ} {i : ℕ} → Redirecting m t₀ t i → 4096 ≤ i → t ≡ map (redirected m) t₀
+redirect-end m t₀ R b = mapped (redirected m) (R .done) (omega (arith, R .long))
 
 -- ---- the lone kept start
 module _ (old new : Head) (m : List ℕ) {k : ℕ} {b : Bool} (a : k ≡ startKept new) (d : b ≡ marked m k) where
@@ -96,6 +126,17 @@ lone-is new z f a b c d e =
     (c ∙ ap (λ (k : ℕ). replicate k 65535) (z .targets))
     (d ∙ ap (λ (k : ℕ). replicate k 0) (z .sets))
     (e ∙ ap (λ (k : ℕ). replicate k 0) (z .waiting))
+
+-- the lone kept start holds no pair
+pub lone-holds : (new : Head) {m t s w m₁ t₁ s₁ w₁ seen : List ℕ} → Covers seen (graph m t s w) → graph m₁ t₁ s₁ w₁ ≡ lone new → Holds seen m₁
+unfolding lone
+lone-holds new {m₁ = m₁} C e = record { long = C .long; has = λ n l p. absurd (empty n l p) }
+  where
+    empty : (n : ℕ) → n < 4096 → 0 < getD m₁ n 0 → ⊥
+    empty n l p =
+        let z : getD m₁ n 0 ≡ getD (set (replicate 4160 0) (startKept new) 2) n 0 = λ i. getD (e i .marks) n 0 in
+        let y = getD-set-other {A = ℕ} (replicate 4160 0) (startKept new) n 2 0 (λ h. omega arith) in
+        omega (arith, z, y, zeros-at 4160 n)
 
 -- ---- the end
 module _ (old new : Head) (m t s w : List ℕ) {b : Bool} (e : b ≡ alone old new m) where
@@ -140,31 +181,82 @@ module _ (v : ℕ) (l : List ℕ) where
   unfolding count
   count-no x r e = rw (ne-eqb x v e, count)
 
+  -- the element at i counts as one or not
+  count-at : (i : ℕ) {o : ℕ} → i < length l → (getD l i 0 ≡ v → o ≡ 1) × ((getD l i 0 ≡ v → ⊥) → o ≡ 0) × (o ≤ 1)
+      → (count v (drop i l) ≡ o + count v (drop (i + 1) l)) × (o ≤ i + 1 - i)
+  count-at i h e =
+      let z = ap (count v) (at i h) in
+      dite (ℕ-discrete (getD l i 0) v)
+      (λ y. (omega (arith, z, e .0 y, count-yes (getD l i 0) (drop (i + 1) l) y), omega (arith, e .0 y)))
+      (λ y. (omega (arith, z, e .1 y, count-no (getD l i 0) (drop (i + 1) l) y), omega (arith, e .1 y)))
+
   -- a span more
   pub count-span : {a n i r j : ℕ} → Counting v l a n i → i ≤ j → j ≤ length l → (count v (drop i l) ≡ r + count v (drop j l)) × (r ≤ j - i) → Counting v l a (n + r) j
   count-span C p q e =
       record { least = omega (arith, C .least); most = q; few = omega (arith, C .few, C .least, e .1); same = omega (arith, C .same, e .0) }
 
-  pub count-by : {a b n i r : ℕ} → Counting v l a n i → i < b → b ≤ length l → (getD l i 0 ≡ v → r ≡ n + 1) × ((getD l i 0 ≡ v → ⊥) → r ≡ n) → Counting v l a r (i + 1)
-  count-by {n = n} {i = i} C h k e =
-      let z = ap (count v) (at i (omega arith)) in
-      dite (ℕ-discrete (getD l i 0) v)
-      (λ y. rw (e .0 y) (count-span C (omega arith) (omega arith) (omega (arith, z, count-yes (getD l i 0) (drop (i + 1) l) y), omega arith)))
-      (λ y. let w : n ≡ n + 0 = omega arith in rw (e .1 y, w) (count-span C (omega arith) (omega arith) (omega (arith, z, count-no (getD l i 0) (drop (i + 1) l) y), omega arith)))
+  -- one element more
+  pub count-one : {a n i o : ℕ} → length l ≡ 4160 → Counting v l a n i → i < 4160 → (getD l i 0 ≡ v → o ≡ 1) × ((getD l i 0 ≡ v → ⊥) → o ≡ 0) × (o ≤ 1) → Counting v l a (n + o) (i + 1)
+  count-one {i = i} z C h e = count-span C (omega arith) (omega arith) (count-at i (omega arith) e)
 
-  pub count-upto : {a n i : ℕ} (b : ℕ) → Counting v l a n i → i ≤ b → b ≤ i → (count v (drop a l) ≡ n + count v (drop b l)) × (n ≤ b - a)
-  count-upto {i = i} b C p q = let e : i ≡ b = omega arith in (rw e at (C .same), rw e at (C .few))
-
-  -- a row of 64 more
-  pub count-row : {n r g : ℕ} → Counting v l 0 n (64 * g) → g < 65 → length l ≡ 4160
-      → (count v (drop (64 * g) l) ≡ r + count v (drop (64 * g + 64) l)) × (r ≤ 64 * g + 64 - 64 * g) → Counting v l 0 (n + r) (64 * (g + 1))
-  count-row {g = g} C h k e =
-      let z : 64 * (g + 1) ≡ 64 * g + 64 = omega arith in
-      rw z (count-span C (omega arith) (omega arith) e)
-
-  pub count-end : {n i : ℕ} → Counting v l 0 n i → length l ≤ i → n ≡ count v l
+  -- the kept nodes
+  pub count-last : {n i : ℕ} → length l ≡ 4160 → Counting v l 4096 n i → 4160 ≤ i → (n ≡ count v (drop 4096 l)) × (n ≤ 64)
   unfolding count
-  count-end {n} {i} C b =
-      let z : drop i l ≡ [] = drop-of-length-le l {i = i} b in
+  count-last {n} {i} h C b =
+      let z : drop i l ≡ [] = drop-of-length-le l {i = i} (omega arith) in
       let y = C .same ∙ ap (λ (x : List ℕ). n + count v x) z in
-      omega (arith, y)
+      (omega (arith, y), omega (arith, C .few, C .most))
+
+  -- elements other than v do not count
+  count-gap : (d i : ℕ) → i + d ≤ length l → ((k : ℕ) → i ≤ k → k < i + d → getD l k 0 ≡ v → ⊥) → count v (drop i l) ≡ count v (drop (i + d) l)
+  count-gap zero i b h = let z : i ≡ i + zero = omega arith in ap (λ (k : ℕ). count v (drop k l)) z
+  count-gap (suc d) i b h =
+      let z : i + 1 + d ≡ i + suc d = omega arith in
+      ap (count v) (at i (omega arith)) ∙ count-no (getD l i 0) (drop (i + 1) l) (h i (omega arith) (omega arith))
+      ∙ count-gap d (i + 1) (omega arith) (λ k a c. h k (omega arith) (omega arith)) ∙ ap (λ (k : ℕ). count v (drop k l)) z
+
+-- of the pairs before i and of the kept nodes, n are v
+pub record Tally (v : ℕ) (l : List ℕ) (n i : ℕ) : Type 0 where
+  pub most : i ≤ 4096
+  pub few : n ≤ i + 64
+  pub same : n + count v (drop i l) ≡ count v l + count v (drop 4096 l)
+
+module _ (v : ℕ) (l seen : List ℕ) (p : 0 < v) (h : length l ≡ 4160) (S : (k : ℕ) → k < 4096 → 0 < getD l k 0 → Member seen k) where
+  -- pairs that were not seen have no mark
+  unmarked : {n r : ℕ} → First seen n r → (k : ℕ) → n ≤ k → k < r → getD l k 0 ≡ v → ⊥
+  unmarked F k a b e = F .none k a b (S k (omega (arith, F .most)) (omega arith))
+
+  tally-on : {n i r : ℕ} → Tally v l n i → First seen i r → Tally v l n r
+  tally-on {n} {i} {r} T F =
+      let z : i + (r - i) ≡ r = omega (arith, F .least) in
+      let g = rw z at (count-gap v l (r - i) i (omega (arith, F .most, F .least)) (λ k a b. unmarked F k a (omega (arith, F .least)))) in
+      record { most = F .most; few = omega (arith, T .few, F .least); same = omega (arith, T .same, g) }
+
+  tally-begun : {n r : ℕ} → (n ≡ count v (drop 4096 l)) × (n ≤ 64) → First seen 0 r → Tally v l n r
+  tally-begun e F = tally-on (record { most = omega arith; few = omega (arith, e .1); same = omega (arith, e .0) }) F
+
+  tally-again : {n i o r : ℕ} → Tally v l n i → i < 4096 → (getD l i 0 ≡ v → o ≡ 1) × ((getD l i 0 ≡ v → ⊥) → o ≡ 0) × (o ≤ 1) → First seen (i + 1) r → Tally v l (n + o) r
+  tally-again {n} {i} {o} T b e F =
+      let c = count-at v l i (omega arith) e in
+      tally-on (record { most = omega arith; few = omega (arith, T .few, c .1); same = omega (arith, T .same, c .0) }) F
+
+tally-end : (v : ℕ) (l : List ℕ) {n i : ℕ} → Tally v l n i → 4096 ≤ i → n ≡ count v l
+tally-end v l {i = i} T b = let e : i ≡ 4096 = omega (arith, T .most) in omega (arith, rw e at (T .same))
+
+-- all three counts
+module _ (l seen : List ℕ) (h : length l ≡ 4160) (S : (k : ℕ) → k < 4096 → 0 < getD l k 0 → Member seen k) where
+  abbrev Is : ℕ → ℕ → ℕ → Type 0
+  Is v x o = (x ≡ v → o ≡ 1) × ((x ≡ v → ⊥) → o ≡ 0) × (o ≤ 1)
+
+  pub tallies-begun : {a b c r : ℕ} → (a ≡ count 1 (drop 4096 l)) × (a ≤ 64) → (b ≡ count 2 (drop 4096 l)) × (b ≤ 64) → (c ≡ count 3 (drop 4096 l)) × (c ≤ 64)
+      → First seen 0 r → Tally 1 l a r × Tally 2 l b r × Tally 3 l c r
+  tallies-begun x y z F =
+      (tally-begun 1 l seen (omega arith) h S x F, tally-begun 2 l seen (omega arith) h S y F, tally-begun 3 l seen (omega arith) h S z F)
+
+  pub tallies-again : {a b c i x y z r : ℕ} → Tally 1 l a i × Tally 2 l b i × Tally 3 l c i → i < 4096 → Is 1 (getD l i 0) x → Is 2 (getD l i 0) y → Is 3 (getD l i 0) z
+      → First seen (i + 1) r → Tally 1 l (a + x) r × Tally 2 l (b + y) r × Tally 3 l (c + z) r
+  tallies-again T m x y z F =
+      (tally-again 1 l seen (omega arith) h S (T .0) m x F, tally-again 2 l seen (omega arith) h S (T .1) m y F, tally-again 3 l seen (omega arith) h S (T .2) m z F)
+
+pub tallies-end : (l : List ℕ) {a b c i : ℕ} → Tally 1 l a i × Tally 2 l b i × Tally 3 l c i → 4096 ≤ i → (a ≡ count 1 l) × (b ≡ count 2 l) × (c ≡ count 3 l)
+tallies-end l T e = (tally-end 1 l (T .0) e, tally-end 2 l (T .1) e, tally-end 3 l (T .2) e)

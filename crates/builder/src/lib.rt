@@ -2,16 +2,17 @@
 ghost use mathlib.Core.Path.{_≡_};
 ghost use mathlib.Core.Option.{none};
 ghost use mathlib.Core.Bool.{Bool};
-ghost use lib.ListN.{length};
 ghost use Rattle.base.specs.Options.{missing};
 ghost use Rattle.base.specs.Says.{bool};
 ghost use Rattle.chart.specs.Charts.{charted};
 ghost use Rattle.chart.specs.Faults.{told as chartTold};
+ghost use Rattle.chart.specs.Faultless.{FaultlessChart};
 ghost use Rattle.checker.specs.Records.{recordOf};
 ghost use Rattle.checker.specs.Checks.{inChart, refusal as checkRefusal};
 ghost use Rattle.builder.specs.declared.answers.Built.the-variants.{Done};
 ghost use Rattle.builder.specs.declared.answers.Summary.{Summary};
-ghost use Rattle.graph.specs.Graphs.{graph};
+ghost use Rattle.graph.specs.Graphs.{graph, Sized};
+ghost use Rattle.builder.specs.Builds.{built, recorded};
 ghost use Rattle.builder.specs.Answers.{told, toldVerdict, lent, summary, refusal, answered, left};
 use answers::Built;
 use answers::Summary;
@@ -21,8 +22,8 @@ use chart::charts::Judged;
 use chart::inner::faults::fault;
 use chart::inner::rows;
 use detector::inner::explore::explore;
-use inner::finish::count;
 use inner::finish::finish;
+use inner::finish::summary;
 
 pub mod answers; // answers.rt: what a build answers
 pub mod inner; // inner.rt: what a build is made of
@@ -115,17 +116,40 @@ fn judge<'a>(
     in_chart(1, fault(new, new_rows))
 }
 
-// The start and the counts of marks 1, 2 and 3.
-fn summary(start: usize, marks: &[u8]) -> Summary
-    requires { ⌜ length (now marks) ≡ 4160 ⌝ }
-    ensures { λ r. ⌜ r ≡ summary start (now (marks .entry)) ⌝ }
+// Both algorithms on faultless charts. Which pairs they saw is told from one to the other by a set of them, so that none looks at all pairs.
+fn complete<'a>(
+    old: Head,
+    old_rows: &'a [u32],
+    new: Head,
+    new_rows: &'a [u32],
+    marks: &mut [u8],
+    targets: &mut [u16],
+    sets: &mut [u64],
+    waiting: &mut [u8],
+) -> Summary
+    requires { ⌜ FaultlessChart (charted old (now «old_rows»)) ⌝ }
+    requires { ⌜ FaultlessChart (charted new (now «new_rows»)) ⌝ }
+    requires { ⌜ Sized (graph (now marks) (now targets) (now sets) (now waiting)) ⌝ }
+    ensures { λ r. ⌜ (graph (now (marks .exit)) (now (targets .exit)) (now (sets .exit)) (now (waiting .exit))
+        ≡ built (charted old (now («old_rows» .entry))) (charted new (now («new_rows» .entry))))
+        × (r ≡ summary (recorded (charted old (now («old_rows» .entry))) (charted new (now («new_rows» .entry))) .start) (now (marks .exit))) ⌝ }
 {
-    Summary {
-        start,
-        opened: count(marks, 1),
-        kept: count(marks, 2),
-        covered: count(marks, 3),
-    }
+    let index = rows::index(old_rows, new_rows);
+    let mut seen = [0u64; 64];
+    explore(
+        old,
+        old_rows,
+        new,
+        new_rows,
+        &index,
+        marks,
+        targets,
+        sets,
+        waiting,
+        &mut seen,
+    );
+    let start = finish(old, new, marks, targets, sets, waiting, &mut seen);
+    summary(start, &*marks, &seen)
 }
 
 // A build, or the refusal that is due, which writes nothing. What a build leaves, with the start it answers, the check passes.
@@ -155,22 +179,16 @@ pub fn build<'a>(
         &*sets,
         &*waiting,
     ) {
-        Verdict::Sound => {
-            let index = rows::index(old_rows, new_rows);
-            explore(
-                old,
-                old_rows,
-                new,
-                new_rows,
-                &index,
-                marks,
-                targets,
-                sets,
-                waiting,
-            );
-            let start = finish(old, new, marks, targets, sets, waiting);
-            Built::Done(summary(start, &*marks))
-        }
+        Verdict::Sound => Built::Done(complete(
+            old,
+            old_rows,
+            new,
+            new_rows,
+            marks,
+            targets,
+            sets,
+            waiting,
+        )),
         Verdict::Unsound {
             number,
             chart,

@@ -1,6 +1,6 @@
 -- `builder::build` meets its contract: the refusal that is due, or both algorithms, whose record the check passes. Assumes nothing.
-use Rattle.chart.proofs.Faultless.{ascends, no-refusal}
 use Rattle.builder.proofs.Answering.{accepted, done-answers, done-leaves, done-passes, refused-answers, refused-leaves, never-done}
+use native.Mathlib.Omega.{arith}
 use borrow.Author.Needs.{needs}
 use Rattle.builder.proofs.build.Statement.{statement}
 use Rattle.builder.proofs.build.Tie as tie
@@ -11,17 +11,8 @@ judge-requires c κs = search needs
 enum-told : tie.Need-enum-told
 enum-told c = search needs
 
-index-requires : tie.Need-index-requires
-index-requires c κs = let A = accepted _ _ _ _ _ _ (c .before .before .judge .result) (c .before .before .judge .ensures) (c .enum-told .given .1) in ((ascends _ (no-refusal _ (A .old-faultless)), A .old-faultless .few-rows), (ascends _ (no-refusal _ (A .new-faultless)), A .new-faultless .few-rows))
-
-explore-requires : tie.Need-explore-requires
-explore-requires c κs = let A = accepted _ _ _ _ _ _ (c .before .before .before .before .before .before .before .before .judge .result) (c .before .before .before .before .before .before .before .before .judge .ensures) (c .before .before .before .before .before .before .enum-told .given .1) in (A .old-faultless, (A .new-faultless, (c .before .before .before .before .before .index .ensures, A .sized)))
-
-finish-requires : tie.Need-finish-requires
-finish-requires c κs = let A = accepted _ _ _ _ _ _ (c .before .before .before .before .before .before .before .before .before .before .before .before .before .before .before .before .before .before .before .before .before .judge .result) (c .before .before .before .before .before .before .before .before .before .before .before .before .before .before .before .before .before .before .before .before .before .judge .ensures) (c .before .before .before .before .before .before .before .before .before .before .before .before .before .before .before .before .before .before .before .enum-told .given .1) in record { marks = search (needs, A .sized); targets = search (needs, A .sized); sets = search (needs, A .sized); waiting = search (needs, A .sized) }
-
-summary-requires : tie.Need-summary-requires
-summary-requires c κs = let A = accepted _ _ _ _ _ _ (c .before .before .before .before .before .before .before .before .before .before .before .before .before .before .before .before .before .before .before .before .before .before .before .before .before .before .before .before .before .before .before .judge .result) (c .before .before .before .before .before .before .before .before .before .before .before .before .before .before .before .before .before .before .before .before .before .before .before .before .before .before .before .before .before .before .before .judge .ensures) (c .before .before .before .before .before .before .before .before .before .before .before .before .before .before .before .before .before .before .before .before .before .before .before .before .before .before .before .before .before .enum-told .given .1) in search (needs, A .sized)
+complete-requires : tie.Need-complete-requires
+complete-requires c κs = let A = accepted _ _ _ _ _ _ (c .before .before .before .before .before .before .judge .result) (c .before .before .before .before .before .before .judge .ensures) (c .before .before .before .before .enum-told .given .1) in (A .old-faultless, (A .new-faultless, A .sized))
 
 enum-known-number : tie.Need-enum-known-number
 enum-known-number c = search needs
@@ -39,7 +30,10 @@ same-length-4 : tie.Need-same-length-4
 same-length-4 c = search needs
 
 returns : tie.Need-returns
-returns c = (done-answers _ _ _ _ _ _ _ _ (accepted _ _ _ _ _ _ (c .before .before .before .before .before .before .before .before .before .before .before .before .before .before .before .before .before .before .before .before .before .before .before .before .before .before .before .before .before .before .before .before .judge .result) (c .before .before .before .before .before .before .before .before .before .before .before .before .before .before .before .before .before .before .before .before .before .before .before .before .before .before .before .before .before .before .before .before .judge .ensures) (c .before .before .before .before .before .before .before .before .before .before .before .before .before .before .before .before .before .before .before .before .before .before .before .before .before .before .before .before .before .before .enum-told .given .1)) (c .before .before .before .before .before .before .before .before .before .before .before .before .before .before .before .before .before .before .before .before .before .before .before .explore .ensures) (c .before .before .before .before .before .before .before .before .before .before .finish .ensures .0) (c .before .before .before .before .before .before .before .before .before .before .finish .ensures .1) (c .summary .ensures), (done-leaves _ _ _ _ _ _ _ _ (accepted _ _ _ _ _ _ (c .before .before .before .before .before .before .before .before .before .before .before .before .before .before .before .before .before .before .before .before .before .before .before .before .before .before .before .before .before .before .before .before .judge .result) (c .before .before .before .before .before .before .before .before .before .before .before .before .before .before .before .before .before .before .before .before .before .before .before .before .before .before .before .before .before .before .before .before .judge .ensures) (c .before .before .before .before .before .before .before .before .before .before .before .before .before .before .before .before .before .before .before .before .before .before .before .before .before .before .before .before .before .before .enum-told .given .1)) (c .before .before .before .before .before .before .before .before .before .before .before .before .before .before .before .before .before .before .before .before .before .before .before .explore .ensures) (c .before .before .before .before .before .before .before .before .before .before .finish .ensures .0) (c .before .before .before .before .before .before .before .before .before .before .finish .ensures .1) (c .summary .ensures), done-passes _ _ _ _ _ _ _ _ (accepted _ _ _ _ _ _ (c .before .before .before .before .before .before .before .before .before .before .before .before .before .before .before .before .before .before .before .before .before .before .before .before .before .before .before .before .before .before .before .before .judge .result) (c .before .before .before .before .before .before .before .before .before .before .before .before .before .before .before .before .before .before .before .before .before .before .before .before .before .before .before .before .before .before .before .before .judge .ensures) (c .before .before .before .before .before .before .before .before .before .before .before .before .before .before .before .before .before .before .before .before .before .before .before .before .before .before .before .before .before .before .enum-told .given .1)) (c .before .before .before .before .before .before .before .before .before .before .before .before .before .before .before .before .before .before .before .before .before .before .before .explore .ensures) (c .before .before .before .before .before .before .before .before .before .before .finish .ensures .0) (c .before .before .before .before .before .before .before .before .before .before .finish .ensures .1) (c .summary .ensures)))
+returns c =
+    let A = accepted _ _ _ _ _ _ (c .before .before .before .before .before .before .before .before .before .before .before .before .before .before .before .judge .result) (c .before .before .before .before .before .before .before .before .before .before .before .before .before .before .before .judge .ensures) (c .before .before .before .before .before .before .before .before .before .before .before .before .before .enum-told .given .1) in
+    let e = c .before .before .before .before .before .before .before .before .complete .ensures in
+    (done-answers _ _ _ _ _ _ A (e .0) (e .1), (done-leaves _ _ _ _ _ _ A (e .0) (e .1), done-passes _ _ _ _ _ _ A (e .0) (e .1)))
 
 same-length-5 : tie.Need-same-length-5
 same-length-5 c = search needs
@@ -54,7 +48,11 @@ same-length-8 : tie.Need-same-length-8
 same-length-8 c = search needs
 
 returns-2 : tie.Need-returns-2
-returns-2 c = (refused-answers _ _ _ _ _ _ (c .before .before .before .judge .result) (c .before .before .before .judge .ensures) (c .before .number .given .1), (refused-leaves _ _ _ _ _ _ (c .before .before .before .judge .result) (c .before .before .before .judge .ensures) (c .before .number .given .1), λ x e. never-done _ _ _ x e))
+returns-2 c =
+    let r = c .before .before .before .judge .result in
+    let e = c .before .before .before .judge .ensures in
+    let q = c .before .number .given .1 in
+    (refused-answers _ _ _ _ _ _ r e q, (refused-leaves _ _ _ _ _ _ r e q, λ x h. never-done _ _ _ x h))
 
 pub build-spec : {M : Type 1} → statement M
 build-spec =
@@ -62,10 +60,7 @@ build-spec =
     (tie.spec
     judge-requires
     enum-told
-    index-requires
-    explore-requires
-    finish-requires
-    summary-requires
+    complete-requires
     enum-known-number
     same-length
     same-length-2

@@ -1,12 +1,16 @@
 // The end of a build: targets of kept places, the lone kept start, and the marks of Algorithm 1.
 ghost use mathlib.Core.Path.{_≡_};
 ghost use mathlib.Core.List.{map};
-ghost use Prim.Native.Nat.{_+_, _-_, _≤_, _<_};
-ghost use lib.ListN.{length, drop};
+ghost use Prim.Native.Nat.{ℕ, _≤_, _<_};
+ghost use lib.ListN.{length, getD, drop};
 ghost use Rattle.base.specs.Walks.{count};
-ghost use Rattle.marker.specs.Spans.{allAre, remade};
-ghost use Rattle.graph.specs.Graphs.{graph, Sized};
+ghost use Rattle.checker.specs.Records.{index};
+ghost use Rattle.words.specs.Words.{Member};
+ghost use Rattle.graph.specs.Graphs.{graph, Sized, Covers};
+ghost use Rattle.marker.specs.Seen.{Holds};
 ghost use Rattle.builder.specs.Builds.{redirected, alone, lone, finished, startOf};
+ghost use Rattle.builder.specs.Answers.{summary};
+use crate::answers::Summary;
 use align::inner::step::fair;
 use chart::charts::Head;
 use chart::inner::pairs::kept;
@@ -17,6 +21,7 @@ use detector::inner::explore::first_pair;
 use graph::inner::buffers;
 use graph::inner::graphs::is_marked;
 use marker::inner::marks::rank;
+use words::inner::members;
 
 // A target whose new place is kept becomes that kept node.
 fn redirect(marks: &[u8], x: u16) -> u16
@@ -33,54 +38,21 @@ fn redirect(marks: &[u8], x: u16) -> u16
     x
 }
 
-// Whether the targets of a span are all unused. No early end, so that many are looked at together.
-fn all_unused(targets: &[u16], from: usize, to: usize) -> bool
-    requires { ⌜ (from ≤ to) × (to ≤ length (now targets)) ⌝ }
-    ensures { λ r. ⌜ r ≡ allAre 65535 from to (now (targets .entry)) ⌝ }
-{
-    let mut all = true;
-    let mut i = from;
-    while i < to {
-        all = all & (targets[i] == 65535);
-        i += 1;
-    }
-    all
-}
-
-fn redirect_some(marks: &[u8], targets: &mut [u16], from: usize, to: usize)
-    requires { ⌜ (length (now marks) ≡ 4160) × (from ≤ to) × (to ≤ length (now targets)) ⌝ }
-    ensures { λ _. ⌜ now (targets .exit) ≡ remade from to (redirected (now (marks .entry))) (now (targets .entry)) ⌝ }
-{
-    let mut i = from;
-    while i < to {
-        let x = targets[i];
-        targets[i] = redirect(marks, x);
-        i += 1;
-    }
-}
-
-// 16 targets from i on; where all are unused, there is nothing to do.
-fn redirect_group(marks: &[u8], targets: &mut [u16], i: usize)
-    requires { ⌜ (length (now marks) ≡ 4160) × (i + 16 ≤ length (now targets)) ⌝ }
-    ensures { λ _. ⌜ now (targets .exit) ≡ remade i (i + 16) (redirected (now (marks .entry))) (now (targets .entry)) ⌝ }
-{
-    if all_unused(&*targets, i, i + 16) {
-        return;
-    }
-    redirect_some(marks, targets, i, i + 16);
-}
-
-fn redirect_all(marks: &[u8], targets: &mut [u16])
-    requires { ⌜ length (now marks) ≡ 4160 ⌝ }
+// Both targets of every pair that was seen: no other has one.
+fn redirect_all(marks: &[u8], targets: &mut [u16], seen: &[u64])
+    requires { ⌜ (length (now marks) ≡ 4160) × (length (now targets) ≡ 8192) × (length (now seen) ≡ 64) ⌝ }
+    requires { ⌜ ((i r : ℕ) → i < 4096 → r < 2 → (getD (now targets) (index i r) 0 ≡ 65535 → ⊥) → Member (now seen) i) ⌝ }
     ensures { λ _. ⌜ now (targets .exit) ≡ map (redirected (now (marks .entry))) (now (targets .entry)) ⌝ }
 {
-    let n = targets.len();
-    let mut i = 0;
-    while 16 <= n - i {
-        redirect_group(marks, targets, i);
-        i += 16;
+    let mut i = members::first(seen, 0);
+    while i < 4096 {
+        let at = 2 * i;
+        let x = targets[at];
+        let y = targets[at + 1];
+        targets[at] = redirect(marks, x);
+        targets[at + 1] = redirect(marks, y);
+        i = members::first(seen, i + 1);
     }
-    redirect_some(marks, targets, i, n);
 }
 
 // Whether the new start is kept, or is the new alarm without the old one being the old alarm.
@@ -113,7 +85,8 @@ fn leave_alone(
     buffers::fill8(waiting, 0);
 }
 
-// The final contents of the buffers, where no pair waits, and the start.
+// The final contents of the buffers, where no pair waits, and the start. Only pairs that were seen are looked at; whoever has buffers as found
+// hands over a set with all pairs.
 pub fn finish(
     old: Head,
     new: Head,
@@ -121,58 +94,69 @@ pub fn finish(
     targets: &mut [u16],
     sets: &mut [u64],
     waiting: &mut [u8],
+    seen: &mut [u64],
 ) -> usize
     requires { ⌜ Sized (graph (now marks) (now targets) (now sets) (now waiting)) ⌝ }
+    requires { ⌜ Covers (now seen) (graph (now marks) (now targets) (now sets) (now waiting)) ⌝ }
     ensures { λ r. ⌜ (graph (now (marks .exit)) (now (targets .exit)) (now (sets .exit)) (now (waiting .exit))
         ≡ finished old new (graph (now (marks .entry)) (now (targets .entry)) (now (sets .entry)) (now (waiting .entry))))
-        × (r ≡ startOf old new (now (marks .entry))) ⌝ }
+        × (r ≡ startOf old new (now (marks .entry)))
+        × Holds (now (seen .exit)) (now (marks .exit)) ⌝ }
 {
     if is_alone(old, new, &*marks) {
         leave_alone(new, marks, targets, sets, waiting);
         return first_kept(new);
     }
     let first = first_pair(old, new);
-    redirect_all(&*marks, targets);
-    rank(marks, &*targets, first);
+    redirect_all(&*marks, targets, &*seen);
+    rank(marks, &*targets, first, seen);
     first
 }
 
-// One more, if a mark is v.
-fn counted(n: u8, x: u8, v: u8) -> u8
-    requires { ⌜ n < 255 ⌝ }
-    ensures { λ r. ⌜ ((x ≡ v → r ≡ n + 1) × ((x ≡ v → ⊥) → r ≡ n)) ⌝ }
+// One, if a mark is v.
+fn one_if(x: u8, v: u8) -> u8
+    ensures { λ r. ⌜ ((x ≡ v → r ≡ 1) × ((x ≡ v → ⊥) → r ≡ 0) × (r ≤ 1)) ⌝ }
 {
     if x == v {
-        return n + 1;
+        return 1;
     }
-    n
+    0
 }
 
-// How many marks of a span are v. Few enough for a small number, so that many are counted together.
-fn count_of(marks: &[u8], from: usize, to: usize, v: u8) -> u8
-    requires { ⌜ (from ≤ to) × (to ≤ length (now marks)) × (to ≤ from + 64) ⌝ }
-    ensures { λ r. ⌜ (count v (drop from (now (marks .entry))) ≡ r + count v (drop to (now (marks .entry)))) × (r ≤ to - from) ⌝ }
+// How many of the kept nodes have mark v. Few enough for a small number, so that many are counted together.
+fn count_kept(marks: &[u8], v: u8) -> usize
+    requires { ⌜ length (now marks) ≡ 4160 ⌝ }
+    ensures { λ r. ⌜ (r ≡ count v (drop 4096 (now (marks .entry)))) × (r ≤ 64) ⌝ }
 {
     let mut n = 0;
-    let mut i = from;
-    while i < to {
-        n = counted(n, marks[i], v);
+    let mut i = 4096;
+    while i < 4160 {
+        n += one_if(marks[i], v);
         i += 1;
     }
-    n
+    n as usize
 }
 
-// How many marks are v, row by row: 64 rows of pairs, and one of kept nodes.
-pub fn count(marks: &[u8], v: u8) -> usize
-    requires { ⌜ length (now marks) ≡ 4160 ⌝ }
-    ensures { λ r. ⌜ r ≡ count v (now (marks .entry)) ⌝ }
+// The start, and the counts of marks 1, 2 and 3: of the kept nodes, and of the pairs that were seen, as no other pair has a mark.
+pub fn summary(start: usize, marks: &[u8], seen: &[u64]) -> Summary
+    requires { ⌜ (length (now marks) ≡ 4160) × Holds (now seen) (now marks) ⌝ }
+    ensures { λ r. ⌜ r ≡ summary start (now (marks .entry)) ⌝ }
 {
-    let mut n = 0;
-    let mut row = 0;
-    while row < 65 {
-        let from = 64 * row;
-        n += count_of(marks, from, from + 64, v) as usize;
-        row += 1;
+    let mut opened = count_kept(marks, 1);
+    let mut kept = count_kept(marks, 2);
+    let mut covered = count_kept(marks, 3);
+    let mut i = members::first(seen, 0);
+    while i < 4096 {
+        let x = marks[i];
+        opened += one_if(x, 1) as usize;
+        kept += one_if(x, 2) as usize;
+        covered += one_if(x, 3) as usize;
+        i = members::first(seen, i + 1);
     }
-    n
+    Summary {
+        start,
+        opened,
+        kept,
+        covered,
+    }
 }

@@ -1,6 +1,6 @@
 -- `builder::inner::finish::finish` meets its contract. Assumes nothing.
-use Rattle.builder.proofs.Finishing.{finish-alone, finish-joint, start-alone, start-joint}
-use Rattle.builder.proofs.Finishing.{finish-alone, finish-joint}
+use Rattle.builder.proofs.Finishing.{finish-alone, finish-joint, start-alone, start-joint, lone-holds}
+use native.Mathlib.Omega.{arith}
 use borrow.Author.Needs.{needs}
 use Rattle.builder.proofs.inner.finish.finish.Statement.{statement}
 use Rattle.builder.proofs.inner.finish.finish.Tie as tie
@@ -27,7 +27,7 @@ same-length-4 : tie.Need-same-length-4
 same-length-4 c = search needs
 
 returns : tie.Need-returns
-returns c = (search finish-alone, search start-alone)
+returns c = (search finish-alone, search start-alone, search lone-holds)
 
 first-pair-requires : tie.Need-first-pair-requires
 first-pair-requires c κs = search needs
@@ -44,8 +44,11 @@ same-length-5 c = search needs
 same-length-6 : tie.Need-same-length-6
 same-length-6 c = search needs
 
+same-length-7 : tie.Need-same-length-7
+same-length-7 c = search needs
+
 returns-2 : tie.Need-returns-2
-returns-2 c = (search finish-joint, search start-joint)
+returns-2 c = (search finish-joint, search start-joint, search needs)
 
 pub finish-spec : {M : Type 1} → statement M
 finish-spec =
@@ -64,4 +67,5 @@ finish-spec =
     rank-requires
     same-length-5
     same-length-6
+    same-length-7
     returns-2)

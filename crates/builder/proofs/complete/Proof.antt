@@ -1,0 +1,59 @@
+-- `builder::complete` meets its contract. Assumes nothing.
+use Rattle.builder.proofs.Answering.{indexable, both-left, both-summed}
+use native.Mathlib.Omega.{arith}
+use borrow.Author.Needs.{needs}
+use Rattle.builder.proofs.complete.Statement.{statement}
+use Rattle.builder.proofs.complete.Tie as tie
+
+index-requires : tie.Need-index-requires
+index-requires c κs = indexable _ _ (c .before .before .before .before .before .before .pre .0) (c .before .before .before .before .before .before .pre .1 .0)
+
+slice-aggregate-explore : tie.Need-slice-aggregate-explore
+slice-aggregate-explore c = search needs
+
+explore-requires : tie.Need-explore-requires
+explore-requires c κs = (c .before .before .before .before .before .before .before .before .before .before .before .before .before .pre .0, (c .before .before .before .before .before .before .before .before .before .before .before .before .before .pre .1 .0, (c .before .before .before .before .before .before .index .ensures, (c .before .before .before .before .before .before .before .before .before .before .before .before .before .pre .1 .1, search needs))))
+
+slice-aggregate-finish : tie.Need-slice-aggregate-finish
+slice-aggregate-finish c = search needs
+
+finish-requires : tie.Need-finish-requires
+finish-requires c κs = let S = c .before .before .before .before .before .before .before .before .before .before .before .before .before .before .before .before .before .before .before .before .before .before .before .before .before .before .before .before .pre .1 .1 in (record { marks = search (needs, S .marks); targets = search (needs, S .targets); sets = search (needs, S .sets); waiting = search (needs, S .waiting) }, c .before .before .before .before .before .before .before .before .before .before .before .before .before .before .explore .ensures .0)
+
+slice-aggregate-summary : tie.Need-slice-aggregate-summary
+slice-aggregate-summary c = search needs
+
+summary-requires : tie.Need-summary-requires
+summary-requires c κs = let S = c .before .before .before .before .before .before .before .before .before .before .before .before .before .before .before .before .before .before .before .before .before .before .before .before .before .before .before .before .before .before .before .before .before .before .before .before .before .before .before .before .pre .1 .1 in (search (needs, S .marks), c .before .before .before .before .before .before .before .before .before .before .before .finish .ensures .2)
+
+same-length : tie.Need-same-length
+same-length c = search needs
+
+same-length-2 : tie.Need-same-length-2
+same-length-2 c = search needs
+
+same-length-3 : tie.Need-same-length-3
+same-length-3 c = search needs
+
+same-length-4 : tie.Need-same-length-4
+same-length-4 c = search needs
+
+returns : tie.Need-returns
+returns c = (both-left _ _ _ _ (c .before .before .before .before .before .before .before .before .before .before .before .before .before .before .before .before .before .before .before .before .before .before .before .before .before .before .before .explore .ensures .1) (c .before .before .before .before .before .before .before .before .before .before .before .before .finish .ensures .0), both-summed _ _ _ _ (c .before .before .before .before .before .before .before .before .before .before .before .before .before .before .before .before .before .before .before .before .before .before .before .before .before .before .before .explore .ensures .1) _ (c .before .before .before .before .before .before .before .before .before .before .before .before .finish .ensures .1) (c .summary .ensures))
+
+pub complete-spec : {M : Type 1} → statement M
+complete-spec =
+    tie.close
+    (tie.spec
+    index-requires
+    slice-aggregate-explore
+    explore-requires
+    slice-aggregate-finish
+    finish-requires
+    slice-aggregate-summary
+    summary-requires
+    same-length
+    same-length-2
+    same-length-3
+    same-length-4
+    returns)
