@@ -1,6 +1,6 @@
 -- Lists of which some element passes a test, and the loop that looks for one. Assumes nothing.
-use mathlib.Core.Path.{_≡_, refl, sym, ap, subst, _∙_}
-use mathlib.Core.Bool.{Bool, true, false, _&&_, _||_}
+use mathlib.Core.Path.{_≡_, refl, sym, subst, _∙_}
+use mathlib.Core.Bool.{Bool, true, false, _||_}
 use mathlib.Core.Logic.{_≢_, _⊎_, inl, inr}
 use mathlib.Core.List.{List, [], _∷_}
 use Prim.Native.Nat.{ℕ, zero, suc, _+_, _≤_, _<_}
@@ -12,7 +12,7 @@ use lib.ListN.{length, getD, drop, drop-of-length-le}
 use lib.Seq.{drop-cons}
 use borrow.Author.Tests.{eq-eqb, ne-eqb}
 use Rattle.base.specs.Lists.{any}
-use Rattle.base.proofs.Tests.{T-or, T-or-l, T-or-r, T-true, is-true, or-and}
+use Rattle.base.proofs.Tests.{T-or, T-or-l, T-or-r, T-true, is-true}
 
 -- ---- members of a list
 abbrev pub has : List ℕ → ℕ → Bool
@@ -66,15 +66,6 @@ any-again p x l h = go (p x) refl
     go : (b : Bool) → p x ≡ b → b || any p l ≡ any p l
     go true e = sym (is-true (any p l) (any-at p l x h (T-true e)))
     go false e = refl
-
--- some element of the one list passes, and some of the other
-pub any-pairs : (p q : ℕ → Bool) (l m : List ℕ) → any (λ x. any (λ y. p x && q y) m) l ≡ any p l && any q m
-any-pairs p q [] m = refl
-any-pairs p q (x ∷ l) m = ap (λ (b : Bool). any (λ y. p x && q y) m || b) (any-pairs p q l m) ∙ go (p x)
-  where
-    go : (b : Bool) → any (λ y. b && q y) m || (any p l && any q m) ≡ (b || any p l) && any q m
-    go true = or-and (any q m) (any p l)
-    go false = ap (λ (b : Bool). b || (any p l && any q m)) (any-false (λ (y : ℕ). false) m (λ y. refl))
 
 -- each element is so
 abbrev pub All : (ℕ → Type 0) → List ℕ → Type 0

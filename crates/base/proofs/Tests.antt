@@ -68,9 +68,9 @@ pub or-true : (b : Bool) → b || true ≡ true
 or-true true = refl
 or-true false = refl
 
-pub or-and : (a b : Bool) → a || (b && a) ≡ a
-or-and true b = refl
-or-and false b = and-false b
+pub or-none : (b : Bool) → b || false ≡ b
+or-none true = refl
+or-none false = refl
 
 pub not-both : (a b : Bool) → a && not b ≡ false → a ≡ true → b ≡ true
 not-both true true e t = refl
@@ -110,10 +110,6 @@ some-last : (f : ℕ → Bool) (j : ℕ) → 0 < j → someBelow j f ≡ someBel
 unfolding someBelow
 some-last f zero l = absurd (omega arith)
 some-last f (suc n) l = let e : suc n - 1 ≡ n = omega arith in rw e
-
-or-none : (b : Bool) → b || false ≡ b
-or-none true = refl
-or-none false = refl
 
 module _ (f : ℕ → Bool) (i j : ℕ) (N : None-since f i j) where
   pub none-here : 0 < j → f (j - 1) ≡ false → None-since f i (j - 1)

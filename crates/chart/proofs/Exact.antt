@@ -13,16 +13,15 @@ use Rattle.chart.specs.declared.operations.Operation.{Operation}
 use Rattle.chart.specs.declared.assumptions.Implication.{Implication}
 use Rattle.chart.specs.declared.assumptions.Implication.the-variants.{Never, Implied, NotImplied}
 use Rattle.chart.specs.declared.assumptions.Seats.{Seats}
-use Rattle.chart.specs.Operations.{withConstant, Order, order, key, relation, related, holds}
+use Rattle.chart.specs.Operations.{withConstant, order, key, related, holds}
 use Rattle.chart.specs.Runs.{Values, var}
-use Rattle.chart.specs.Assumptions.{Operands, Meets, NeverHolds, Implies, ExactlyOne, Means}
+use Rattle.chart.specs.Assumptions.{Operands, NeverHolds, Implies, ExactlyOne, Means}
 use Rattle.chart.specs.Trials.{alike, seats, trial, points, shown, shownBy, together, never, implies, exclusive, implication}
-use Rattle.base.specs.Lists.{any}
 use Rattle.base.proofs.Tests.{T-and, T-both, T-true, is-true, differ, yields, opposite}
 use Rattle.base.proofs.Lists.{any-at, All, any-all}
-use Rattle.chart.proofs.Trials.{Tried, tried}
+use Rattle.chart.proofs.Trials.{tried}
 
-alike-self : (b : Bool) → T (alike b b)
+pub alike-self : (b : Bool) → T (alike b b)
 alike-self true = tt
 alike-self false = tt
 
@@ -68,33 +67,41 @@ trial-small s x y hx hy k = pick (eqb k (s .first)) hx (pick (eqb k (s .second))
     pick true h k = h
     pick false h k = k
 
-module _ (f g : Operation) (F : Operands f) (G : Operands g) where
+-- values by number of the variable, each a u32
+abbrev pub Small : (ℕ → ℕ) → Type 0
+Small v = (k : ℕ) → v k < 2 ^ 32
+
+module _ (f g : Operation) (hf : f .c < 2 ^ 32) (hg : g .c < 2 ^ 32) where
   l : List ℕ
   l = points (f .c) (g .c)
 
-  -- what the values do, some trial does
-  pub covered : (v : List ℕ) → Values v → T (together f (holds f (var v)) g (holds g (var v)))
+  -- what values do, some trial does
+  pub covered-by : (v : ℕ → ℕ) → Small v → {p q : Bool} → holds f v ≡ p → holds g v ≡ q → T (together f p g q)
   unfolding together shown l
-  covered v W =
-      let t = tried f g (F .c) (G .c) (var v) (W .small) in
-      let p = holds f (var v) in
-      let q = holds g (var v) in
+  covered-by v W {p} {q} a b =
+      let t = tried f g hf hg v W in
       any-at (shownBy (seats f g) f p g q l) l (t .x) (t .x-in) (any-at (shown (seats f g) f p g q (t .x)) l (t .y) (t .y-in)
-      (rw (t .same-f, t .same-g) (T-both (alike p p) (alike q q) (alike-self p) (alike-self q))))
+      (rw (t .same-f, t .same-g, a, b) (T-both (alike p p) (alike q q) (alike-self p) (alike-self q))))
 
-  pub found : (p q : Bool) → T (together f p g q) → (v : List ℕ) × Values v × (holds f (var v) ≡ p) × (holds g (var v) ≡ q)
+  -- what some trial does, values do
+  pub found-by : (p q : Bool) → T (together f p g q) → (v : ℕ → ℕ) × Small v × (holds f v ≡ p) × (holds g v ≡ q)
   unfolding together shown l
-  found p q t =
+  found-by p q t =
       let S : All (λ x. x < 2 ^ 32) l = omega arith in
       let (x, hx, t′) = any-all (shownBy (seats f g) f p g q l) (λ x. x < 2 ^ 32) l S t in
       let (y, hy, t″) = any-all (shown (seats f g) f p g q x) (λ x. x < 2 ^ 32) l S t′ in
       let e = trial (seats f g) x y in
-      let (a, b) = T-and (alike p (holds f e)) (alike q (holds g e)) t″ in (
-        tab e 64,
-        record { count = length-tab e 64; small = tab-small e 64 (trial-small (seats f g) x y hx hy) },
-        holds-tab f F e ∙ alike-is p (holds f e) a,
-        holds-tab g G e ∙ alike-is q (holds g e) b,
-      )
+      let (a, b) = T-and (alike p (holds f e)) (alike q (holds g e)) t″ in
+      (e, trial-small (seats f g) x y hx hy, alike-is p (holds f e) a, alike-is q (holds g e) b)
+
+module _ (f g : Operation) (F : Operands f) (G : Operands g) where
+  pub covered : (v : List ℕ) → Values v → T (together f (holds f (var v)) g (holds g (var v)))
+  covered v W = covered-by f g (F .c) (G .c) (var v) (W .small) refl refl
+
+  pub found : (p q : Bool) → T (together f p g q) → (v : List ℕ) × Values v × (holds f (var v) ≡ p) × (holds g (var v) ≡ q)
+  found p q t =
+      let (e, s, a, b) = found-by f g (F .c) (G .c) p q t in
+      (tab e 64, record { count = length-tab e 64; small = tab-small e 64 s }, holds-tab f F e ∙ a, holds-tab g G e ∙ b)
 
   -- no trial shows it: no values do it
   pub never-so : (p q : Bool) → T (not (together f p g q)) ↔ ((v : List ℕ) → Values v → holds f (var v) ≡ p → holds g (var v) ≡ q → ⊥)

@@ -1,7 +1,6 @@
--- Fewer trials are enough where a constant is 0, and where both assumptions compare with constants. Assumes nothing.
+-- Fewer trials are enough where a constant is 0, and where both assumptions compare one variable with constants. Assumes nothing.
 use mathlib.Core.Path.{_≡_, refl, sym, _∙_}
 use mathlib.Core.Bool.{Bool, true, false, cond, _&&_}
-use mathlib.Core.Logic.{_≢_}
 use mathlib.Core.List.{List, [], _∷_}
 use Prim.Native.Nat.{ℕ, _-_, _^_, _≤_}
 use native.Mathlib.Decide.{ℕ-discrete}
@@ -14,8 +13,7 @@ use Rattle.chart.specs.declared.assumptions.Seats.{Seats}
 use Rattle.chart.specs.Operations.{withConstant, plus, holds}
 use Rattle.chart.specs.Trials.{seats, trial, points, repeated, shown, shownBy, meets, meetsBoth, together}
 use Rattle.base.specs.Lists.{any}
-use Rattle.base.proofs.Lists.{has, has-at, any-same, any-again, any-pairs}
-use Rattle.chart.proofs.Trials.{trial-first, trial-second}
+use Rattle.base.proofs.Lists.{has, has-at, any-same, any-again}
 
 -- ---- where a constant is 0
 abbrev left : ℕ → ℕ → List ℕ
@@ -57,7 +55,7 @@ module _ (f : Operation) (p : Bool) (g : Operation) (q : Bool) {l : List ℕ} (L
       let R = shown (seats f g) f p g q in
       e ∙ rw (L, a, b) (any-same (λ x. any (R x) m) (λ x. any (R x) n) (λ x. left-enough (R x) (f .c) (g .c)) m ∙ left-enough (λ x. any (R x) n) (f .c) (g .c))
 
-  -- ---- where both compare with constants
+  -- ---- where both compare one variable with constants
   module _ (F : withConstant f ≡ true) (G : withConstant g ≡ true) where
     all-tried : together f p g q ≡ any (shownBy (seats f g) f p g q l) l
     unfolding together
@@ -73,10 +71,6 @@ module _ (f : Operation) (p : Bool) (g : Operation) (q : Bool) {l : List ℕ} (L
     unfolding seats
     seats-one h = rw (F, eq-eqb (f .a) (g .a) h)
 
-    seats-two : f .a ≢ g .a → seats f g ≡ record { first = f .a; second = g .a; apart = true }
-    unfolding seats
-    seats-two n = rw (F, G, ne-eqb (f .a) (g .a) n, ne-eqb (g .a) (f .a) (λ e. n (sym e)))
-
     trial-one : (x y k : ℕ) → k ≡ f .a → trial (record { first = f .a; second = f .a; apart = false }) x y k ≡ x
     unfolding trial
     trial-one x y k e = rw (eq-eqb k (f .a) e)
@@ -91,16 +85,3 @@ module _ (f : Operation) (p : Bool) (g : Operation) (q : Bool) {l : List ℕ} (L
         only : (b : Bool) → any (λ (y : ℕ). b) l ≡ b
         only true = rw L
         only false = rw L
-
-    -- two variables: each value is sought by itself
-    pub two-variables : f .a ≢ g .a → together f p g q ≡ any (meetsBoth f p f p) l && any (meetsBoth g q g q) l
-    two-variables n =
-        all-tried ∙ any-same (shownBy (seats f g) f p g q l) (λ x. any (λ y. meetsBoth f p f p x && meetsBoth g q g q y) l)
-        (λ x. any-same (shown (seats f g) f p g q x) (λ y. meetsBoth f p f p x && meetsBoth g q g q y)
-        (λ y. shows (seats-two n) x y (trial-first (f .a) (g .a) x y) (trial-second (f .a) (g .a) x y (λ e. n (sym e))) ∙ twice (meets f p x) (meets g q y)) l) l
-        ∙ any-pairs (meetsBoth f p f p) (meetsBoth g q g q) l l
-      where
-        twice : (a b : Bool) → a && b ≡ (a && a) && (b && b)
-        twice false b = refl
-        twice true false = refl
-        twice true true = refl

@@ -5,6 +5,8 @@ pub mod Order
 pub mod Trials
 pub mod Exact
 pub mod Fewer
+pub mod Independent
+pub mod Orders
 pub mod Opposed
 pub mod Rows
 pub mod Faults

@@ -1,6 +1,6 @@
 -- Few values stand for all: how values compare with each other and with constants, in both orders. Assumes nothing.
 use mathlib.Core.Path.{_≡_, refl, sym, subst, _∙_}
-use mathlib.Core.Bool.{Bool, true, false, not}
+use mathlib.Core.Bool.{Bool, true, false, _&&_, _||_, not}
 use mathlib.Core.Logic.{_≢_, _⊎_, inl, inr}
 use mathlib.Core.List.{List, [], _∷_}
 use Prim.Native.Nat.{ℕ, zero, suc, _+_, _-_, _%_, _^_, _≤_, _<_}
@@ -11,6 +11,7 @@ use lib.ListN.{getD, List·getD-eq-default}
 use borrow.Author.Tests.{lt-ltb, le-ltb, le-leb, lt-leb, eq-eqb, ne-eqb}
 use Rattle.chart.specs.Operations.{Order, unsigned, key, related}
 use Rattle.chart.specs.Trials.{points}
+use Rattle.base.proofs.Tests.{or-none}
 use Rattle.base.proofs.Lists.{has, has-at, Out, in-or-out, out-not}
 
 -- ---- a and b compare as u and w do
@@ -54,6 +55,17 @@ related-same r {a} {b} {u} {w} S = go (ℕ-discrete a b) (decLt a b)
     go (yes e) l = related-eq r a b e ∙ sym (related-eq r u w (S .eq e))
     go (no n) (yes l) = related-lt r a b l ∙ sym (related-lt r u w (S .lt l))
     go (no n) (no l) = related-gt r a b (omega arith) ∙ sym (related-gt r u w (S .gt (omega arith)))
+
+-- ---- a relation by what it says of 0 and 1, of 1 and 1, of 1 and 0
+pub related-is : (r x y : ℕ) → ((ltb x y && related r 0 1) || (eqb x y && related r 1 1)) || (ltb y x && related r 1 0) ≡ related r x y
+related-is r x y = go (ℕ-discrete x y) (decLt x y)
+  where
+    go : Dec (x ≡ y) → Dec (x < y) → ((ltb x y && related r 0 1) || (eqb x y && related r 1 1)) || (ltb y x && related r 1 0) ≡ related r x y
+    go (yes e) l = rw (le-ltb x y (omega arith), eq-eqb x y e, le-ltb y x (omega arith)) (or-none (related r 1 1) ∙ related-same r (omega arith))
+    go (no n) (yes l) =
+        rw (lt-ltb x y l, ne-eqb x y n, le-ltb y x (omega arith))
+        (or-none (related r 0 1 || false) ∙ or-none (related r 0 1) ∙ related-same r (omega arith))
+    go (no n) (no l) = rw (le-ltb x y (omega arith), ne-eqb x y n, lt-ltb y x (omega arith)) (related-same r (omega arith))
 
 -- x and y compare as u and w do, in the order s
 abbrev pub Alike : Order → ℕ → ℕ → ℕ → ℕ → Type 0

@@ -21,7 +21,7 @@ module _ (f : Operation) (e v : ℕ → ℕ) where
   unfolding holds
   holds-withConstant q A = rw q (related-same _ A)
 
-  holds-pair : withConstant f ≡ false → Alike (order f) (e (f .a)) (e (f .b)) (v (f .a)) (v (f .b)) → holds f e ≡ holds f v
+  pub holds-pair : withConstant f ≡ false → Alike (order f) (e (f .a)) (e (f .b)) (v (f .a)) (v (f .b)) → holds f e ≡ holds f v
   unfolding holds
   holds-pair q A = rw q (related-same _ A)
 
@@ -51,7 +51,7 @@ tried-swap : {l : List ℕ} {f g : Operation} {v : ℕ → ℕ} {t : Seats} → 
 tried-swap R = record { x = R .x; y = R .y; x-in = R .x-in; y-in = R .y-in; same-f = R .same-g; same-g = R .same-f }
 
 -- ---- one assumption inside the other: x at i and y at all others
-abbrev joint : ℕ → Seats
+abbrev pub joint : ℕ → Seats
 joint i = record { first = i; second = i; apart = false }
 
 -- m stands for n: x for u, or y for w
@@ -163,11 +163,11 @@ module _ (i j x y : ℕ) where
   abbrev loose : Seats
   loose = record { first = i; second = j; apart = true }
 
-  pub trial-first : trial loose x y i ≡ x
+  trial-first : trial loose x y i ≡ x
   unfolding trial
   trial-first = rw (eq-eqb i i refl)
 
-  pub trial-second : j ≢ i → trial loose x y j ≡ y
+  trial-second : j ≢ i → trial loose x y j ≡ y
   unfolding trial
   trial-second n = rw (ne-eqb j i n, eq-eqb j j refl)
 

@@ -1,9 +1,9 @@
--- How the test of two assumptions is computed: both are tried on a few values that stand for all. Nobody has to believe this file: that
+-- How the test of two assumptions is computed: both are tried on a few values that stand for all, and where fewer are enough. Nobody has to believe this file: that
 -- its answers are those of Assumptions.antt is proved, in proofs/Exact.antt.
 use mathlib.Core.Bool.{Bool, true, false, cond, _&&_, _||_, not}
 use mathlib.Core.List.{List, [], _∷_}
 use Prim.Native.Nat.{ℕ, _-_, _^_}
-use lib.Dec.{eqb}
+use lib.Dec.{eqb, ltb}
 use Rattle.base.specs.Lists.{any}
 use Rattle.chart.specs.declared.operations.Operation.{Operation}
 use Rattle.chart.specs.declared.assumptions.Implication.{Implication}
@@ -30,6 +30,29 @@ inside f g = compares g (f .a) && compares g (partner f)
 -- where f is not inside g: a variable that f compares and g does not
 abbrev pub own : Operation → Operation → ℕ
 own f g = cond (compares g (f .a)) (partner f) (f .a)
+
+-- both compare two variables, and f only those that g compares
+abbrev pub paired : Operation → Operation → Bool
+paired f g = (not (withConstant f) && not (withConstant g)) && inside f g
+
+-- f compares a variable with itself
+abbrev pub fixed : Operation → Bool
+fixed f = not (withConstant f) && eqb (f .a) (f .b)
+
+-- f and g compare no variable in common
+abbrev pub disjoint : Operation → Operation → Bool
+disjoint f g = not (compares g (f .a)) && not (compares g (partner f))
+
+-- what f makes of values has nothing to do with what g makes of them
+unfoldable pub independent : Operation → Operation → Bool
+independent f g = (disjoint f g || fixed f) || fixed g
+
+-- va can be below, and above, what f compares it with
+abbrev pub canBeBelow : Operation → Bool
+canBeBelow f = cond (withConstant f) (ltb 0 (f .c)) (not (eqb (f .a) (f .b)))
+
+abbrev pub canBeAbove : Operation → Bool
+canBeAbove f = cond (withConstant f) (ltb (f .c) (2 ^ 32 - 1)) (not (eqb (f .a) (f .b)))
 
 -- which variables a trial gives x and y to: where one is inside the other, x to its first variable and y to all others;
 -- else x and y to a variable that only f and only g compares, and 1 to all others

@@ -1,12 +1,15 @@
-// The exact test of two assumptions: both are tried on a few values that stand for all.
+// The exact test of two assumptions: at once where they have nothing to do with each other, else by a few values that stand for all.
 ghost use mathlib.Core.Path.{_≡_};
-ghost use mathlib.Core.Bool.{true};
+ghost use mathlib.Core.Bool.{true, false};
 ghost use mathlib.Core.Logic.{_↔_};
 ghost use Rattle.base.specs.Lists.{any};
 ghost use Rattle.chart.specs.Operations.{isAssumption, withConstant, right, holds};
 ghost use Rattle.chart.specs.Assumptions.{Operands, Means, OppositeCodes, Opposed, ExactlyOne};
-ghost use Rattle.chart.specs.Trials.{alike, partner, compares, inside, own, seats, trial, points, repeated, shown, shownBy, meetsBoth, together, never, exclusive, implication};
+ghost use Rattle.chart.specs.Trials.{alike, partner, compares, inside, own, paired, fixed, disjoint, independent, canBeBelow, canBeAbove, seats, trial, points, repeated, shown, shownBy, meetsBoth, together, never, exclusive, implication};
 use crate::inner::meaning::related;
+use crate::inner::meaning::when_above;
+use crate::inner::meaning::when_below;
+use crate::inner::meaning::when_equal;
 use crate::operations::Operation;
 use crate::operations::with_constant;
 
@@ -67,7 +70,7 @@ fn partner(f: Operation) -> u32
 fn compares(f: Operation, k: u32) -> bool
     ensures { λ r. ⌜ r ≡ compares f k ⌝ }
 {
-    k == f.a || k == partner(f)
+    (k == f.a) | (k == partner(f))
 }
 
 // Whether f compares only variables that g compares.
@@ -195,34 +198,122 @@ fn met_by_some(f: Operation, p: bool, g: Operation, q: bool, l: &[u32]) -> bool
     false
 }
 
-// The search where both compare with constants: one value is tried at a time, for the one variable or for each of the two.
+// The search where both compare one variable with constants: one value is tried at a time.
 fn by_values(f: Operation, p: bool, g: Operation, q: bool) -> bool
-    requires { ⌜ (withConstant f ≡ true) × (withConstant g ≡ true) ⌝ }
+    requires { ⌜ (withConstant f ≡ true) × (withConstant g ≡ true) × (f .a ≡ g .a) ⌝ }
     ensures { λ r. ⌜ r ≡ together f p g q ⌝ }
 {
     let l = points(f.c, g.c);
-    if f.a == g.a {
-        return met_by_some(f, p, g, q, &l);
+    met_by_some(f, p, g, q, &l)
+}
+
+// Whether f and g both compare two variables, and f only those that g compares.
+fn paired(f: Operation, g: Operation) -> bool
+    ensures { λ r. ⌜ r ≡ paired f g ⌝ }
+{
+    !with_constant(f) & !with_constant(g) & inside(f, g)
+}
+
+// The search where neither has a constant: only the order of the two variables matters, so that one is tried below, at and above the other.
+fn by_orders(f: Operation, p: bool, g: Operation, q: bool) -> bool
+    requires { ⌜ paired f g ≡ true ⌝ }
+    ensures { λ r. ⌜ r ≡ together f p g q ⌝ }
+{
+    let s = Seats {
+        first: f.a,
+        second: f.a,
+        apart: false,
+    };
+    if shown(s, f, p, g, q, 0, 1) {
+        return true;
     }
-    met_by_some(f, p, f, p, &l) && met_by_some(g, q, g, q, &l)
+    if shown(s, f, p, g, q, 1, 1) {
+        return true;
+    }
+    shown(s, f, p, g, q, 1, 0)
+}
+
+// Whether f compares a variable with itself, so that it makes the same of all values.
+fn fixed(f: Operation) -> bool
+    ensures { λ r. ⌜ r ≡ fixed f ⌝ }
+{
+    !with_constant(f) & (f.a == f.b)
+}
+
+// Whether f and g compare no variable in common.
+fn disjoint(f: Operation, g: Operation) -> bool
+    ensures { λ r. ⌜ r ≡ disjoint f g ⌝ }
+{
+    !compares(g, f.a) & !compares(g, partner(f))
+}
+
+// Whether what f makes of values has nothing to do with what g makes of them.
+fn independent(f: Operation, g: Operation) -> bool
+    ensures { λ r. ⌜ r ≡ independent f g ⌝ }
+{
+    disjoint(f, g) | fixed(f) | fixed(g)
+}
+
+// The search for two that may have to do with each other.
+fn sought(f: Operation, p: bool, g: Operation, q: bool) -> bool
+    requires { ⌜ independent f g ≡ false ⌝ }
+    ensures { λ r. ⌜ r ≡ together f p g q ⌝ }
+{
+    if with_constant(f) & with_constant(g) {
+        return by_values(f, p, g, q);
+    }
+    if paired(f, g) {
+        return by_orders(f, p, g, q);
+    }
+    by_trials(f, p, g, q)
+}
+
+// Whether va can be below what f compares it with.
+fn below(f: Operation) -> bool
+    ensures { λ r. ⌜ r ≡ canBeBelow f ⌝ }
+{
+    if with_constant(f) {
+        0 < f.c
+    } else {
+        f.a != f.b
+    }
+}
+
+// Whether va can be above what f compares it with.
+fn above(f: Operation) -> bool
+    ensures { λ r. ⌜ r ≡ canBeAbove f ⌝ }
+{
+    if with_constant(f) {
+        f.c < 4294967295
+    } else {
+        f.a != f.b
+    }
+}
+
+// Whether some values meet f if p says so, else not: va is below, at or above what it is compared with, and no trial is needed.
+fn possible(f: Operation, p: bool) -> bool
+    ensures { λ r. ⌜ r ≡ together f p f p ⌝ }
+{
+    let r = f.code % 8;
+    below(f) & alike(p, when_below(r))
+        | alike(p, when_equal(r))
+        | above(f) & alike(p, when_above(r))
 }
 
 // Whether some values meet f if p says so, else not, and g likewise.
 fn together(f: Operation, p: bool, g: Operation, q: bool) -> bool
     ensures { λ r. ⌜ r ≡ together f p g q ⌝ }
 {
-    if with_constant(f) {
-        if with_constant(g) {
-            return by_values(f, p, g, q);
-        }
+    if independent(f, g) {
+        return possible(f, p) & possible(g, q);
     }
-    by_trials(f, p, g, q)
+    sought(f, p, g, q)
 }
 
 fn never(f: Operation) -> bool
     ensures { λ r. ⌜ r ≡ never f ⌝ }
 {
-    !together(f, true, f, true)
+    !possible(f, true)
 }
 
 // The test of two assumptions: the first never holds, else it implies the second or does not. What it says holds of all 64 values, both ways.
@@ -233,7 +324,14 @@ pub fn implies(f: Operation, g: Operation) -> Implication
     if never(f) {
         return Implication::Never;
     }
-    if together(f, true, g, false) {
+    if independent(f, g) {
+        return if possible(g, false) {
+            Implication::NotImplied
+        } else {
+            Implication::Implied
+        };
+    }
+    if sought(f, true, g, false) {
         return Implication::NotImplied;
     }
     Implication::Implied

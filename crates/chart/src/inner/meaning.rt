@@ -29,19 +29,56 @@ pub fn value(o: Operation, values: &[u32]) -> u32
     }
 }
 
-// The relation r between two numbers: 0 =, 1 ≠, 2 <, 3 ≤, 4 >, 5 ≥.
+// Whether the relation r holds of a number and one above it, as of 0 and 1.
+pub fn when_below(r: u32) -> bool
+    ensures { λ b. ⌜ b ≡ related r 0 1 ⌝ }
+{
+    match r {
+        0 => false,
+        1 => true,
+        2 => true,
+        3 => true,
+        4 => false,
+        5 => false,
+        _ => false,
+    }
+}
+
+// Whether the relation r holds of equal numbers.
+pub fn when_equal(r: u32) -> bool
+    ensures { λ b. ⌜ b ≡ related r 1 1 ⌝ }
+{
+    match r {
+        0 => true,
+        1 => false,
+        2 => false,
+        3 => true,
+        4 => false,
+        5 => true,
+        _ => false,
+    }
+}
+
+// Whether the relation r holds of a number and one below it, as of 1 and 0.
+pub fn when_above(r: u32) -> bool
+    ensures { λ b. ⌜ b ≡ related r 1 0 ⌝ }
+{
+    match r {
+        0 => false,
+        1 => true,
+        2 => false,
+        3 => false,
+        4 => true,
+        5 => true,
+        _ => false,
+    }
+}
+
+// The relation r between two numbers: 0 =, 1 ≠, 2 <, 3 ≤, 4 >, 5 ≥. All of it is worked out, so that no jump depends on r.
 pub fn related(r: u32, x: u32, y: u32) -> bool
     ensures { λ b. ⌜ b ≡ related r x y ⌝ }
 {
-    match r {
-        0 => x == y,
-        1 => x != y,
-        2 => x < y,
-        3 => x <= y,
-        4 => x > y,
-        5 => x >= y,
-        _ => false,
-    }
+    (x < y) & when_below(r) | (x == y) & when_equal(r) | (y < x) & when_above(r)
 }
 
 // What va is compared with.

@@ -1,5 +1,4 @@
 -- `chart::assumptions::compares` meets its contract: by its two tests. Assumes nothing.
-use borrow.Author.Tests.{eq-eqb, ne-eqb}
 use borrow.Author.Needs.{needs}
 use Rattle.chart.proofs.assumptions.compares.Statement.{statement}
 use Rattle.chart.proofs.assumptions.compares.Tie as tie
@@ -8,10 +7,7 @@ partner-requires : tie.Need-partner-requires
 partner-requires c κs = search needs
 
 returns : tie.Need-returns
-returns c = rw (eq-eqb _ _ (c .if1 .taken))
-
-returns-2 : tie.Need-returns-2
-returns-2 c = rw (ne-eqb _ _ (c .before .if1 .left), c .partner .ensures)
+returns c = rw (c .partner .ensures)
 
 pub compares-spec : {M : Type 1} → statement M
-compares-spec = tie.close (tie.spec partner-requires returns returns-2)
+compares-spec = tie.close (tie.spec partner-requires returns)

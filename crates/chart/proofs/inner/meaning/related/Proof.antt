@@ -1,37 +1,21 @@
--- `chart::inner::meaning::related` meets its contract: relation by relation. Assumes nothing.
-use Rattle.chart.specs.Operations.{related}
-use Rattle.chart.proofs.Order.{related-none}
-use native.Mathlib.Omega.{arith}
+-- `chart::inner::meaning::related` meets its contract: by the three orders of two numbers. Assumes nothing.
+use Rattle.chart.proofs.Order.{related-is}
+use borrow.Author.Needs.{needs}
 use Rattle.chart.proofs.inner.meaning.related.Statement.{statement}
 use Rattle.chart.proofs.inner.meaning.related.Tie as tie
 
+when-below-requires : tie.Need-when-below-requires
+when-below-requires c κs = search needs
+
+when-equal-requires : tie.Need-when-equal-requires
+when-equal-requires c κs = search needs
+
+when-above-requires : tie.Need-when-above-requires
+when-above-requires c κs = search needs
+
 returns : tie.Need-returns
-unfolding related
-returns c = rw (c .match .keys1)
-
-returns-2 : tie.Need-returns-2
-unfolding related
-returns-2 c = rw (c .match .keys2)
-
-returns-3 : tie.Need-returns-3
-unfolding related
-returns-3 c = rw (c .match .keys3)
-
-returns-4 : tie.Need-returns-4
-unfolding related
-returns-4 c = rw (c .match .keys4)
-
-returns-5 : tie.Need-returns-5
-unfolding related
-returns-5 c = rw (c .match .keys5)
-
-returns-6 : tie.Need-returns-6
-unfolding related
-returns-6 c = rw (c .match .keys6)
-
-returns-7 : tie.Need-returns-7
-returns-7 c = related-none _ _ _ (omega arith)
+returns c = rw (c .when-above .ensures, c .before .when-equal .ensures, c .before .before .when-below .ensures) (related-is _ _ _)
 
 pub related-spec : {M : Type 1} → statement M
 related-spec =
-    tie.close (tie.spec returns returns-2 returns-3 returns-4 returns-5 returns-6 returns-7)
+    tie.close (tie.spec when-below-requires when-equal-requires when-above-requires returns)
