@@ -60,9 +60,9 @@ module _ (n : ℕ) (l : n < 4096) where
   aim-kept : (g : Graph) (r to : ℕ) → Kept n g → Kept n (aim g n r to)
   aim-kept g r to k = by-aim g n r to (Kept n) (λ p. k) (λ z. k)
 
-  -- ---- rows of pair n, where W had what is looked at before them
+  -- ---- rows of pair n; W are those who had what is looked at before them
   module _ (at : Graph → ℕ → ℕ) (L : Lasts at) (W : ℕ → Type 0) where
-    -- pair n is in the graph, and whoever has something was one of W, or is the target of a row that is done;
+    -- pair n is in the graph, and whoever has something was one of W, or is the target of a row that is done
     record Free (g : Graph) (r : ℕ) : Type 0 where
       there : 0 < markAt g n
       each : (i : ℕ) → i < 4096 → 0 < at g i → W i ⊎ Aimed n g r i

@@ -72,7 +72,8 @@ fn lower(a: usize, b: usize) -> usize
     b
 }
 
-// The target t of the pair in hand: it has been seen if it is a pair, and may wait if it does. Gives the lower of n and t where t waits; else n.
+// Takes the target t of the pair in hand into the sets: among `seen` if it is a pair, and among `waits` if it waits. Gives the lower of n
+// and t where t waits; else n.
 fn low_of(waiting: &[u8], waits: &mut [u64], seen: &mut [u64], n: usize, t: u16) -> usize
     requires { ⌜ (length (now waiting) ≡ 4096) × (length (now waits) ≡ 64) × (length (now seen) ≡ 64) ⌝ }
     ensures { λ r. ⌜ (r ≡ lowOf (now (waiting .entry)) n t)
@@ -91,7 +92,8 @@ fn low_of(waiting: &[u8], waits: &mut [u64], seen: &mut [u64], n: usize, t: u16)
     lower(n, at)
 }
 
-// Where to look on after the turn of pair n: no pair below waits. Whoever waits now is among `waits`, and whoever is in the graph among `seen`.
+// Where to look on after the turn of pair n: no pair below waits. Whoever has come to wait, or into the graph, is a target of its rows. A
+// pair that left in its own turn has stored none: then anybody may have, which is rare.
 pub fn low_after(
     marks: &[u8],
     targets: &[u16],
