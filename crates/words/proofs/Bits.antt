@@ -38,6 +38,11 @@ lowest (suc k) x p l = let g = rw pow-suc at l in go (x % 2) refl (λ e. lowest 
     go zero e half = lowest-even k x (trailingZeros k (x / 2)) e (half e)
     go (suc r) e half = record { most = omega arith; here = bit-zero x ∙ omega arith; none = λ i m. absurd (omega arith) }
 
+pub lowest-is : (x : ℕ) → 0 < x → x < 2 ^ 64 → LowestFrom x 0 (trailingZeros 64 x) × (trailingZeros 64 x < 64)
+lowest-is x p l =
+    let L = lowest 64 x p l in
+    (record { least = omega arith; most = omega (arith, L .most); none = λ i m n. L .none i n; here = λ m. L .here }, L .most)
+
 module _ (x k : ℕ) where
   bit-shifted : (i : ℕ) → bit (x / 2 ^ k) i ≡ bit x (k + i)
   bit-shifted i = ap (λ (n : ℕ). n % 2) (shr-shr x k i)

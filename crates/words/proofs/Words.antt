@@ -71,13 +71,13 @@ none-of w i e m = let z : bit (getD w (i / 64) 0) (i % 64) ≡ 0 = ap (λ (x : �
 
 -- members of one word, by its bits
 module _ (w : List ℕ) (p : ℕ) where
-  member-at : (b : ℕ) → b < 64 → bit (getD w p 0) b ≡ 1 → Member w (64 * p + b)
+  pub member-at : (b : ℕ) → b < 64 → bit (getD w p 0) b ≡ 1 → Member w (64 * p + b)
   member-at b l m =
       let y : (64 * p + b) / 64 ≡ p = omega arith in
       let z : (64 * p + b) % 64 ≡ b = omega arith in
       rw (y, z) m
 
-  not-at : (i : ℕ) → i / 64 ≡ p → bit (getD w p 0) (i % 64) ≡ 0 → Member w i → ⊥
+  pub not-at : (i : ℕ) → i / 64 ≡ p → bit (getD w p 0) (i % 64) ≡ 0 → Member w i → ⊥
   not-at i e z m = let y : bit (getD w (i / 64) 0) (i % 64) ≡ 0 = ap (λ (q : ℕ). bit (getD w q 0) (i % 64)) e ∙ z in omega (arith, m, y)
 
 -- ---- the first word with a bit: so far there is none

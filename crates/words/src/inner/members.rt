@@ -35,8 +35,16 @@ fn lowest_from(word: u64, k: usize) -> usize
     k + u64::trailing_zeros(rest) as usize
 }
 
+// The lowest bit of a word that has one.
+pub fn lowest(word: u64) -> usize
+    requires { ⌜ 0 < word ⌝ }
+    ensures { λ r. ⌜ LowestFrom word 0 r × (r < 64) ⌝ }
+{
+    u64::trailing_zeros(word) as usize
+}
+
 // One more than the highest bit of a word, or 0.
-fn highest(word: u64) -> usize
+pub fn highest(word: u64) -> usize
     ensures { λ r. ⌜ HighestBefore word 64 r × (0 < word → 0 < r) ⌝ }
 {
     64 - u64::leading_zeros(word) as usize
