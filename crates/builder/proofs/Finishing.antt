@@ -1,6 +1,6 @@
 -- The end of a build, in the form in which the code meets it. Assumes nothing.
 use mathlib.Core.Path.{_≡_, refl, sym, ap, _∙_}
-use mathlib.Core.Bool.{Bool, true, false, not}
+use mathlib.Core.Bool.{Bool, true, false, _&&_, not}
 use mathlib.Core.List.{List, [], _∷_, map}
 use mathlib.Core.Logic.{dite}
 use Prim.Native.Nat.{ℕ, zero, suc, _+_, _*_, _-_, _/_, _%_, _≤_, _<_}
@@ -8,46 +8,60 @@ use native.Mathlib.Numerals.{add-one}
 use native.Mathlib.Omega.{arith}
 use native.Mathlib.Decide.{ℕ-discrete, decLt}
 use borrow.Author.Tests.{eq-eqb, ne-eqb, lt-ltb, le-ltb}
-use lib.ListN.{length, getD, set, drop, replicate, drop-of-length-le}
+use lib.Dec.{ltb}
+use lib.ListN.{length, getD, set, drop, replicate, length-set, drop-of-length-le}
 use lib.Seq.{drop-cons, getD-set-other}
 use Rattle.base.specs.Says.{bool}
 use Rattle.base.specs.Walks.{pass, count}
+use Rattle.base.proofs.Tests.{and-true}
 use Rattle.base.proofs.Walks.{zeros-at}
 use Rattle.chart.specs.declared.charts.Head.{Head}
 use Rattle.chart.specs.declared.places.OldPlace.{OldPlace}
 use Rattle.chart.specs.declared.places.NewPlace.{NewPlace}
 use Rattle.chart.specs.Places.{keptNumber, oldOf, newOf}
+use Rattle.align.specs.Sets.{bit, without}
 use Rattle.align.specs.Steps.{fair}
+use Rattle.align.proofs.Sets.{bit-none}
 use Rattle.checker.specs.Records.{index}
 use Rattle.checker.specs.Rules.{startPair, startKept}
-use Rattle.words.specs.Words.{Member, First}
+use Rattle.words.specs.Words.{Member, LowestFrom}
+use Rattle.words.proofs.Rests.{Coming, coming-start, coming-next, coming-more, coming-less, coming-end}
 use Rattle.graph.specs.Graphs.{Graph, graph, Sized, Covers, marked}
+use Rattle.marker.specs.Spans.{among, remade}
 use Rattle.marker.specs.Marks.{finalMarks}
 use Rattle.marker.specs.Seen.{Holds}
 use Rattle.builder.specs.Builds.{redirected, finalTargets, alone, lone, finished, startOf}
 use Rattle.graph.proofs.Parts.{graph-eq}
-use Rattle.graph.proofs.Stores.{Passing, passing-none, passing-more, passing-all}
+use Rattle.graph.proofs.Stores.{Passing, passing-none, passing-all}
+use Rattle.marker.proofs.Spans.{Remaking, remaking-start, remaking-more, remaking-end, passing-span}
 
 -- ---- a target
+not-first : (a b : Bool) → a && b ≡ false → b ≡ true → a ≡ false
+not-first true b e h = sym h ∙ e
+not-first false b e h = refl
+
 module _ (m : List ℕ) (x : ℕ) where
-  pub redirect-far : 4096 ≤ x → x ≡ redirected m x
+  redirect-far : 4096 ≤ x → x ≡ redirected m x
   unfolding redirected
   redirect-far l = rw (le-ltb x 4096 l, redirected)
 
-  module _ {q : NewPlace} {k : ℕ} {b : Bool} (l : x < 4096) (a : q ≡ newOf x) (e : k ≡ keptNumber q) (d : b ≡ marked m k) where
+  module _ {q : NewPlace} {k : ℕ} {b : Bool} (a : q ≡ newOf x) (e : k ≡ keptNumber q) (d : b ≡ marked m k) where
     node : k ≡ keptNumber (newOf x)
     node = e ∙ ap (λ (y : NewPlace). keptNumber y) a
 
     told : marked m (keptNumber (newOf x)) ≡ b
     told = sym (d ∙ ap (marked m) node)
 
-    pub redirect-kept : b ≡ true → k ≡ redirected m x
+    pub redirect-kept : (b && ltb x 4096) ≡ true → k ≡ redirected m x
     unfolding redirected
-    redirect-kept t = node ∙ rw (lt-ltb x 4096 l, redirected) (rw (told ∙ t, redirected))
+    redirect-kept t = let h = and-true b (ltb x 4096) t in node ∙ rw (h .1, redirected) (rw (told ∙ h .0, redirected))
 
-    pub redirect-not : b ≡ false → x ≡ redirected m x
+    redirect-near : x < 4096 → b ≡ false → x ≡ redirected m x
     unfolding redirected
-    redirect-not t = rw (lt-ltb x 4096 l, redirected) (rw (told ∙ t, redirected))
+    redirect-near l f = rw (lt-ltb x 4096 l, redirected) (rw (told ∙ f, redirected))
+
+    pub redirect-not : (b && ltb x 4096) ≡ false → x ≡ redirected m x
+    redirect-not t = dite (decLt x 4096) (λ l. redirect-near l (not-first b (ltb x 4096) t (lt-ltb x 4096 l))) (λ l. redirect-far (omega arith))
 
 -- a pass that does not ask for the index
 pass-map : (f : ℕ → ℕ) (i : ℕ) (l : List ℕ) → pass (λ j x. f x) i l ≡ map f l
@@ -58,49 +72,97 @@ pass-map f i (x ∷ l) = ap (λ (y : List ℕ). f x ∷ y) (pass-map f (i + 1) l
 mapped : (f : ℕ → ℕ) {d₀ d : List ℕ} {i : ℕ} → Passing (λ j x. f x) d₀ d i → length d ≤ i → d ≡ map f d₀
 mapped f {d₀ = d₀} P l = passing-all (λ j x. f x) P l ∙ pass-map f 0 d₀
 
--- a pass goes on over elements that stay as they are
-passing-gap : (f : ℕ → ℕ → ℕ) {d₀ d : List ℕ} {i j : ℕ} → Passing f d₀ d i → j ≤ length d → ((k : ℕ) → i ≤ k → k < j → f k (getD d₀ k 0) ≡ getD d₀ k 0) → i ≤ j
-    → Passing f d₀ d j
-passing-gap f {i = i} P b h a =
-    record {
-      long = P .long;
-      most = b;
-      before = λ k l. dite (decLt k i) (λ m. P .before k m) (λ m. P .after k (omega arith) ∙ sym (h k (omega arith) l));
-      after = λ k l. P .after k (omega arith);
-    }
+-- elements of a span that stay as they are need no store
+module _ (a b : ℕ) (f : ℕ → ℕ) where
+  among-in : (i x : ℕ) → a ≤ i → i < b → among a b f i x ≡ f x
+  unfolding among
+  among-in i x p q = rw (le-ltb i a p, among) (rw (lt-ltb i b q, among))
 
--- the targets of the pairs before i are done
-pub record Redirecting (m t₀ t : List ℕ) (i : ℕ) : Type 0 where
+  remaking-gap : {d₀ d : List ℕ} {i j : ℕ} → Remaking a b f d₀ d i → i ≤ j → j ≤ b → ((k : ℕ) → i ≤ k → k < j → f (getD d₀ k 0) ≡ getD d₀ k 0) → Remaking a b f d₀ d j
+  remaking-gap {d₀ = d₀} {i = i} R p q h =
+      record {
+        least = omega (arith, R .least);
+        most = q;
+        short = R .short;
+        done =
+            record {
+              long = R .done .long;
+              most = omega (arith, R .short);
+              before =
+                  λ k l. dite (decLt k i) (λ m. R .done .before k m)
+                  (λ m. R .done .after k (omega arith) ∙ sym (h k (omega arith) l) ∙ sym (among-in k (getD d₀ k 0) (omega (arith, R .least)) (omega arith)));
+              after = λ k l. R .done .after k (omega arith);
+            };
+      }
+
+-- the pairs of old place p whose bits of the word were met are done: those before bit k
+pub record Redirecting (m t₀ : List ℕ) (p word : ℕ) (t : List ℕ) (rest : ℕ) : Type 0 where
+  pub k : ℕ
+  pub coming : Coming word rest k
+  pub done : Remaking (128 * p) (128 * p + 128) (redirected m) t₀ t (128 * p + 2 * k)
   pub long : length t ≡ 8192
-  pub done : Passing (λ j x. redirected m x) t₀ t (2 * i)
 
-module _ (m t₀ seen : List ℕ) (U : (i r : ℕ) → i < 4096 → r < 2 → (getD t₀ (index i r) 0 ≡ 65535 → ⊥) → Member seen i) where
-  -- pairs that were not seen have no targets
-  unused : {n r : ℕ} → First seen n r → (k : ℕ) → 2 * n ≤ k → k < 2 * r → redirected m (getD t₀ k 0) ≡ getD t₀ k 0
-  unused F k a b =
-      let z : index (k / 2) (k % 2) ≡ k = omega arith in
-      let e : getD t₀ k 0 ≡ 65535 =
-      dite (ℕ-discrete (getD t₀ k 0) 65535) (λ y. y)
-      (λ f. absurd (F .none (k / 2) (omega arith) (omega arith) (U (k / 2) (k % 2) (omega (arith, F .most)) (omega arith) (λ h. f (ap (λ (j : ℕ). getD t₀ j 0) (sym z) ∙ h))))) in
+module _ (m t₀ : List ℕ) (p word : ℕ) (U : (i r : ℕ) → i < 64 → r < 2 → (getD t₀ (index (64 * p + i) r) 0 ≡ 65535 → ⊥) → bit word i ≡ 1) where
+  -- pairs between the bits have no targets
+  unused : {k q : ℕ} → LowestFrom word k q → (j : ℕ) → 128 * p + 2 * k ≤ j → j < 128 * p + 2 * q → redirected m (getD t₀ j 0) ≡ getD t₀ j 0
+  unused {k} {q} L j a b =
+      let i : ℕ = j / 2 - 64 * p in
+      let z : index (64 * p + i) (j % 2) ≡ j = omega arith in
+      let e : getD t₀ j 0 ≡ 65535 =
+      dite (ℕ-discrete (getD t₀ j 0) 65535) (λ y. y)
+      (λ f. absurd (omega (arith, U i (j % 2) (omega (arith, L .most)) (omega arith) (λ h. f (ap (λ (n : ℕ). getD t₀ n 0) (sym z) ∙ h)), L .none i (omega arith) (omega arith)))) in
       rw e (sym (redirect-far m 65535 (omega arith)))
 
-  pub redirect-begun : {r : ℕ} → length t₀ ≡ 8192 → First seen 0 r → Redirecting m t₀ t₀ r
-  redirect-begun l F =
-      record { long = l; done = passing-gap (λ j x. redirected m x) (passing-none (λ j x. redirected m x) t₀) (omega (arith, F .most)) (unused F) (omega arith) }
+  pub word-start : length t₀ ≡ 8192 → p < 64 → Redirecting m t₀ p word t₀ word
+  word-start l b =
+      let z : 128 * p + 2 * 0 ≡ 128 * p = omega arith in
+      record { k = 0; coming = coming-start word; done = rw z (remaking-start (128 * p) (128 * p + 128) (redirected m) t₀ (omega arith) (omega arith)); long = l }
 
-  pub redirect-again : {t : List ℕ} {i x y r : ℕ} → Redirecting m t₀ t i → i < 4096 → x ≡ redirected m (getD t (2 * i) 0)
-      → y ≡ redirected m (getD t (2 * i + 1) 0) → First seen (i + 1) r → Redirecting m t₀ (set (set t (2 * i) x) (2 * i + 1) y) r
-  redirect-again {t} {i} {x} {y} {r} R l e f F =
-      let g : ℕ → ℕ → ℕ = λ j z. redirected m z in
-      let one = passing-more g (R .done) (omega (arith, R .long)) e in
-      let two = passing-more g one (omega (arith, one .long, R .done .long, R .long)) (f ∙ ap (redirected m) (sym (getD-set-other t (2 * i) (2 * i + 1) x 0 (λ h. omega arith)))) in
-      let w : 2 * i + 1 + 1 ≡ 2 * (i + 1) = omega arith in
-      let P = rw w at two in
-      let long : length (set (set t (2 * i) x) (2 * i + 1) y) ≡ 8192 = P .long ∙ sym (R .done .long) ∙ R .long in
-      record { long = long; done = passing-gap g P (omega (arith, long, F .most)) (unused F) (omega (arith, F .least)) }
+  module _ {t : List ℕ} {rest : ℕ} (R : Redirecting m t₀ p word t rest) where
+    on : {q : ℕ} → LowestFrom word (R .k) q → Remaking (128 * p) (128 * p + 128) (redirected m) t₀ t (128 * p + 2 * q)
+    on L = remaking-gap (128 * p) (128 * p + 128) (redirected m) (R .done) (omega (arith, L .least)) (omega (arith, L .most)) (unused L)
 
-pub redirect-end : (m t₀ : List ℕ) {t : List ℕ} {i : ℕ} → Redirecting m t₀ t i → 4096 ≤ i → t ≡ map (redirected m) t₀
-redirect-end m t₀ R b = mapped (redirected m) (R .done) (omega (arith, R .long))
+    pub word-again : {q z x y : ℕ} → LowestFrom rest 0 q × (q < 64) → z ≡ without rest q → x ≡ redirected m (getD t (128 * p + 2 * q) 0)
+        → y ≡ redirected m (getD t (128 * p + 2 * q + 1) 0) → Redirecting m t₀ p word (set (set t (128 * p + 2 * q) x) (128 * p + 2 * q + 1) y) z
+    word-again {q} {z} {x} {y} L e f g =
+        let at : ℕ = 128 * p + 2 * q in
+        let one = remaking-more (128 * p) (128 * p + 128) (redirected m) (on (coming-next (R .coming) (L .0) (L .1))) (omega (arith, L .1)) f in
+        let two = remaking-more (128 * p) (128 * p + 128) (redirected m) one (omega (arith, L .1)) (g ∙ ap (redirected m) (sym (getD-set-other t at (at + 1) x 0 (λ h. omega arith)))) in
+        let w : at + 1 + 1 ≡ 128 * p + 2 * (q + 1) = omega arith in
+        record { k = q + 1; coming = coming-more (R .coming) (L .0) (L .1) e; done = rw w at two; long = simp length-set (R .long) }
+
+    pub word-less : {q z : ℕ} → LowestFrom rest 0 q × (q < 64) → z ≡ without rest q → z < rest
+    word-less L e = coming-less (R .coming) (L .0) (L .1) e
+
+    pub word-end : rest ≡ 0 → t ≡ remade (128 * p) (128 * p + 128) (redirected m) t₀
+    word-end e = remaking-end (128 * p) (128 * p + 128) (redirected m) (on (coming-end (R .coming) e)) (omega arith)
+
+-- the words before p are done
+pub record Through (m t₀ t : List ℕ) (p : ℕ) : Type 0 where
+  pub most : p ≤ 64
+  pub long : length t ≡ 8192
+  pub done : Passing (λ j x. redirected m x) t₀ t (128 * p)
+
+module _ (m t₀ : List ℕ) where
+  pub all-start : length t₀ ≡ 8192 → Through m t₀ t₀ 0
+  all-start l = record { most = omega arith; long = l; done = passing-none (λ j x. redirected m x) t₀ }
+
+  module _ {t : List ℕ} {p : ℕ} (T : Through m t₀ t p) where
+    pub all-asks : (seen : List ℕ) → p < 64 → ((i r : ℕ) → i < 4096 → r < 2 → (getD t₀ (index i r) 0 ≡ 65535 → ⊥) → Member seen i)
+        → (i r : ℕ) → i < 64 → r < 2 → (getD t (index (64 * p + i) r) 0 ≡ 65535 → ⊥) → bit (getD seen p 0) i ≡ 1
+    all-asks seen l U i r a b f =
+        let y : (64 * p + i) / 64 ≡ p = omega arith in
+        let z : (64 * p + i) % 64 ≡ i = omega arith in
+        rw (y, z) at (U (64 * p + i) r (omega arith) b (λ e. f (T .done .after (index (64 * p + i) r) (omega arith) ∙ e)))
+
+    pub all-again : {t′ : List ℕ} → p < 64 → t′ ≡ remade (128 * p) (128 * p + 128) (redirected m) t → Through m t₀ t′ (p + 1)
+    all-again l e =
+        let z : 128 * (p + 1) ≡ 128 * p + 128 = omega arith in
+        let P = passing-span (λ j x. redirected m x) (redirected m) (T .done) (omega arith) (omega (arith, T .long)) e (λ k x a b. refl) in
+        record { most = omega arith; long = P .long ∙ sym (T .done .long) ∙ T .long; done = rw z P }
+
+    pub all-end : 64 ≤ p → t ≡ map (redirected m) t₀
+    all-end l = mapped (redirected m) (T .done) (omega (arith, T .long))
 
 -- ---- the lone kept start
 module _ (old new : Head) (m : List ℕ) {k : ℕ} {b : Bool} (a : k ≡ startKept new) (d : b ≡ marked m k) where
@@ -196,16 +258,12 @@ module _ (v : ℕ) (l : List ℕ) where
       record { least = omega (arith, C .least); most = q; few = omega (arith, C .few, C .least, e .1); same = omega (arith, C .same, e .0) }
 
   -- one element more
-  pub count-one : {a n i o : ℕ} → length l ≡ 4160 → Counting v l a n i → i < 4160 → (getD l i 0 ≡ v → o ≡ 1) × ((getD l i 0 ≡ v → ⊥) → o ≡ 0) × (o ≤ 1) → Counting v l a (n + o) (i + 1)
-  count-one {i = i} z C h e = count-span C (omega arith) (omega arith) (count-at i (omega arith) e)
+  pub count-one : {a b n i o : ℕ} → Counting v l a n i → i < b → b ≤ length l → (getD l i 0 ≡ v → o ≡ 1) × ((getD l i 0 ≡ v → ⊥) → o ≡ 0) × (o ≤ 1) → Counting v l a (n + o) (i + 1)
+  count-one {i = i} C h k e = count-span C (omega arith) (omega arith) (count-at i (omega arith) e)
 
-  -- the kept nodes
-  pub count-last : {n i : ℕ} → length l ≡ 4160 → Counting v l 4096 n i → 4160 ≤ i → (n ≡ count v (drop 4096 l)) × (n ≤ 64)
-  unfolding count
-  count-last {n} {i} h C b =
-      let z : drop i l ≡ [] = drop-of-length-le l {i = i} (omega arith) in
-      let y = C .same ∙ ap (λ (x : List ℕ). n + count v x) z in
-      (omega (arith, y), omega (arith, C .few, C .most))
+  -- a row of 64
+  pub count-row : {a n i : ℕ} → Counting v l a n i → i ≤ a + 64 → a + 64 ≤ i → (count v (drop a l) ≡ n + count v (drop (a + 64) l)) × (n ≤ 64)
+  count-row {a} {n} {i} C p q = let e : i ≡ a + 64 = omega arith in (rw e at (C .same), omega (arith, C .few))
 
   -- elements other than v do not count
   count-gap : (d i : ℕ) → i + d ≤ length l → ((k : ℕ) → i ≤ k → k < i + d → getD l k 0 ≡ v → ⊥) → count v (drop i l) ≡ count v (drop (i + d) l)
@@ -215,48 +273,57 @@ module _ (v : ℕ) (l : List ℕ) where
       ap (count v) (at i (omega arith)) ∙ count-no (getD l i 0) (drop (i + 1) l) (h i (omega arith) (omega arith))
       ∙ count-gap d (i + 1) (omega arith) (λ k a c. h k (omega arith) (omega arith)) ∙ ap (λ (k : ℕ). count v (drop k l)) z
 
+-- none of an old place of which no pair was seen
+pub count-unseen : (v : ℕ) (l seen : List ℕ) (p : ℕ) → length l ≡ 4160 → Holds seen l → p < 64 → 0 < v → getD seen p 0 ≡ 0
+    → (count v (drop (64 * p) l) ≡ 0 + count v (drop (64 * p + 64) l)) × (_≤_ 0 64)
+count-unseen v l seen p h H m a e = let g = count-gap v l 64 (64 * p) (omega arith) (λ k x y f. omega (arith, none k x y)) in (omega (arith, g), omega arith)
+  where
+    none : (k : ℕ) → 64 * p ≤ k → k < 64 * p + 64 → getD l k 0 ≡ 0
+    none k x y =
+        let w : k / 64 ≡ p = omega arith in
+        let z : bit (getD seen p 0) (k % 64) ≡ 0 = ap (λ (n : ℕ). bit n (k % 64)) e ∙ bit-none (k % 64) in
+        dite (ℕ-discrete (getD l k 0) 0) (λ f. f) (λ f. absurd (omega (arith, z, rw w at (H .has k (omega arith) (omega arith)))))
+
 -- of the pairs before i and of the kept nodes, n are v
 pub record Tally (v : ℕ) (l : List ℕ) (n i : ℕ) : Type 0 where
-  pub most : i ≤ 4096
   pub few : n ≤ i + 64
   pub same : n + count v (drop i l) ≡ count v l + count v (drop 4096 l)
 
-module _ (v : ℕ) (l seen : List ℕ) (p : 0 < v) (h : length l ≡ 4160) (S : (k : ℕ) → k < 4096 → 0 < getD l k 0 → Member seen k) where
-  -- pairs that were not seen have no mark
-  unmarked : {n r : ℕ} → First seen n r → (k : ℕ) → n ≤ k → k < r → getD l k 0 ≡ v → ⊥
-  unmarked F k a b e = F .none k a b (S k (omega (arith, F .most)) (omega arith))
+module _ (v : ℕ) (l : List ℕ) (h : length l ≡ 4160) where
+  tally-start : {n : ℕ} → (count v (drop 4096 l) ≡ n + count v (drop (4096 + 64) l)) × (n ≤ 64) → Tally v l n 0
+  unfolding count
+  tally-start {n} e =
+      let z : drop 4160 l ≡ [] = drop-of-length-le l {i = 4160} (omega arith) in
+      let y = e .0 ∙ ap (λ (x : List ℕ). n + count v x) z in
+      record { few = omega (arith, e .1); same = omega (arith, y) }
 
-  tally-on : {n i r : ℕ} → Tally v l n i → First seen i r → Tally v l n r
-  tally-on {n} {i} {r} T F =
-      let z : i + (r - i) ≡ r = omega (arith, F .least) in
-      let g = rw z at (count-gap v l (r - i) i (omega (arith, F .most, F .least)) (λ k a b. unmarked F k a (omega (arith, F .least)))) in
-      record { most = F .most; few = omega (arith, T .few, F .least); same = omega (arith, T .same, g) }
+  module _ (p : ℕ) {n : ℕ} (T : Tally v l n (64 * p)) where
+    next : 64 * (p + 1) ≡ 64 * p + 64
+    next = omega arith
 
-  tally-begun : {n r : ℕ} → (n ≡ count v (drop 4096 l)) × (n ≤ 64) → First seen 0 r → Tally v l n r
-  tally-begun e F = tally-on (record { most = omega arith; few = omega (arith, e .1); same = omega (arith, e .0) }) F
+    tally-row : {r : ℕ} → (count v (drop (64 * p) l) ≡ r + count v (drop (64 * p + 64) l)) × (r ≤ 64) → Tally v l (n + r) (64 * (p + 1))
+    tally-row e = rw next (record { few = omega (arith, T .few, e .1); same = omega (arith, T .same, e .0) })
 
-  tally-again : {n i o r : ℕ} → Tally v l n i → i < 4096 → (getD l i 0 ≡ v → o ≡ 1) × ((getD l i 0 ≡ v → ⊥) → o ≡ 0) × (o ≤ 1) → First seen (i + 1) r → Tally v l (n + o) r
-  tally-again {n} {i} {o} T b e F =
-      let c = count-at v l i (omega arith) e in
-      tally-on (record { most = omega arith; few = omega (arith, T .few, c .1); same = omega (arith, T .same, c .0) }) F
+  tally-end : (p : ℕ) {n : ℕ} → Tally v l n (64 * p) → p ≤ 64 → 64 ≤ p → n ≡ count v l
+  tally-end p T a b = let e : 64 * p ≡ 4096 = omega arith in omega (arith, rw e at (T .same))
 
-tally-end : (v : ℕ) (l : List ℕ) {n i : ℕ} → Tally v l n i → 4096 ≤ i → n ≡ count v l
-tally-end v l {i = i} T b = let e : i ≡ 4096 = omega (arith, T .most) in omega (arith, rw e at (T .same))
+-- all three, up to old place p
+pub record Tallies (l : List ℕ) (a b c p : ℕ) : Type 0 where
+  pub most : p ≤ 64
+  pub ones : Tally 1 l a (64 * p)
+  pub twos : Tally 2 l b (64 * p)
+  pub threes : Tally 3 l c (64 * p)
 
--- all three counts
-module _ (l seen : List ℕ) (h : length l ≡ 4160) (S : (k : ℕ) → k < 4096 → 0 < getD l k 0 → Member seen k) where
-  abbrev Is : ℕ → ℕ → ℕ → Type 0
-  Is v x o = (x ≡ v → o ≡ 1) × ((x ≡ v → ⊥) → o ≡ 0) × (o ≤ 1)
+module _ (l : List ℕ) (h : length l ≡ 4160) where
+  abbrev Row : ℕ → ℕ → ℕ → Type 0
+  Row v i n = (count v (drop i l) ≡ n + count v (drop (i + 64) l)) × (n ≤ 64)
 
-  pub tallies-begun : {a b c r : ℕ} → (a ≡ count 1 (drop 4096 l)) × (a ≤ 64) → (b ≡ count 2 (drop 4096 l)) × (b ≤ 64) → (c ≡ count 3 (drop 4096 l)) × (c ≤ 64)
-      → First seen 0 r → Tally 1 l a r × Tally 2 l b r × Tally 3 l c r
-  tallies-begun x y z F =
-      (tally-begun 1 l seen (omega arith) h S x F, tally-begun 2 l seen (omega arith) h S y F, tally-begun 3 l seen (omega arith) h S z F)
+  pub tallies-start : {a b c : ℕ} → Row 1 4096 a → Row 2 4096 b → Row 3 4096 c → Tallies l a b c 0
+  tallies-start x y z = record { most = omega arith; ones = tally-start 1 l h x; twos = tally-start 2 l h y; threes = tally-start 3 l h z }
 
-  pub tallies-again : {a b c i x y z r : ℕ} → Tally 1 l a i × Tally 2 l b i × Tally 3 l c i → i < 4096 → Is 1 (getD l i 0) x → Is 2 (getD l i 0) y → Is 3 (getD l i 0) z
-      → First seen (i + 1) r → Tally 1 l (a + x) r × Tally 2 l (b + y) r × Tally 3 l (c + z) r
-  tallies-again T m x y z F =
-      (tally-again 1 l seen (omega arith) h S (T .0) m x F, tally-again 2 l seen (omega arith) h S (T .1) m y F, tally-again 3 l seen (omega arith) h S (T .2) m z F)
+  module _ {a b c p : ℕ} (T : Tallies l a b c p) where
+    pub tallies-row : {x y z : ℕ} → p < 64 → Row 1 (64 * p) x → Row 2 (64 * p) y → Row 3 (64 * p) z → Tallies l (a + x) (b + y) (c + z) (p + 1)
+    tallies-row m x y z = record { most = omega arith; ones = tally-row 1 l h p (T .ones) x; twos = tally-row 2 l h p (T .twos) y; threes = tally-row 3 l h p (T .threes) z }
 
-pub tallies-end : (l : List ℕ) {a b c i : ℕ} → Tally 1 l a i × Tally 2 l b i × Tally 3 l c i → 4096 ≤ i → (a ≡ count 1 l) × (b ≡ count 2 l) × (c ≡ count 3 l)
-tallies-end l T e = (tally-end 1 l (T .0) e, tally-end 2 l (T .1) e, tally-end 3 l (T .2) e)
+    pub tallies-end : 64 ≤ p → (a ≡ count 1 l) × (b ≡ count 2 l) × (c ≡ count 3 l)
+    tallies-end m = (tally-end 1 l h p (T .ones) (T .most) m, tally-end 2 l h p (T .twos) (T .most) m, tally-end 3 l h p (T .threes) (T .most) m)

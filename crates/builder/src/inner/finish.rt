@@ -1,16 +1,19 @@
 // The end of a build: targets of kept places, the lone kept start, and the marks of Algorithm 1.
 ghost use mathlib.Core.Path.{_≡_};
 ghost use mathlib.Core.List.{map};
-ghost use Prim.Native.Nat.{ℕ, _≤_, _<_};
+ghost use Prim.Native.Nat.{ℕ, _+_, _*_, _≤_, _<_};
 ghost use lib.ListN.{length, getD, drop};
 ghost use Rattle.base.specs.Walks.{count};
+ghost use Rattle.align.specs.Sets.{bit};
 ghost use Rattle.checker.specs.Records.{index};
 ghost use Rattle.words.specs.Words.{Member};
 ghost use Rattle.graph.specs.Graphs.{graph, Sized, Covers};
+ghost use Rattle.marker.specs.Spans.{remade};
 ghost use Rattle.marker.specs.Seen.{Holds};
 ghost use Rattle.builder.specs.Builds.{redirected, alone, lone, finished, startOf};
 ghost use Rattle.builder.specs.Answers.{summary};
 use crate::answers::Summary;
+use align::inner::sets::without;
 use align::inner::step::fair;
 use chart::charts::Head;
 use chart::inner::pairs::kept;
@@ -23,35 +26,46 @@ use graph::inner::graphs::is_marked;
 use marker::inner::marks::rank;
 use words::inner::members;
 
-// A target whose new place is kept becomes that kept node.
+// A target whose new place is kept becomes that kept node. Both are asked at once, so that there is one branch alone.
 fn redirect(marks: &[u8], x: u16) -> u16
     requires { ⌜ length (now marks) ≡ 4160 ⌝ }
     ensures { λ r. ⌜ r ≡ redirected (now (marks .entry)) x ⌝ }
 {
-    if 4096 <= x {
-        return x;
-    }
     let node = kept(new_of(x as usize));
-    if is_marked(marks, node) {
+    if is_marked(marks, node) & (x < 4096) {
         return node as u16;
     }
     x
 }
 
-// Both targets of every pair that was seen: no other has one.
+// Both targets of the pairs with old place p that are bits of the word: no other has one.
+fn redirect_word(marks: &[u8], targets: &mut [u16], p: usize, word: u64)
+    requires { ⌜ (length (now marks) ≡ 4160) × (length (now targets) ≡ 8192) × (p < 64) ⌝ }
+    requires { ⌜ ((i r : ℕ) → i < 64 → r < 2 → (getD (now targets) (index (64 * p + i) r) 0 ≡ 65535 → ⊥) → bit word i ≡ 1) ⌝ }
+    ensures { λ _. ⌜ now (targets .exit) ≡ remade (128 * p) (128 * p + 128) (redirected (now (marks .entry))) (now (targets .entry)) ⌝ }
+{
+    let mut rest = word;
+    while rest != 0 {
+        let q = members::lowest(rest);
+        rest = without(rest, q as u32);
+        let at = 128 * p + 2 * q;
+        let x = targets[at];
+        let y = targets[at + 1];
+        targets[at] = redirect(marks, x);
+        targets[at + 1] = redirect(marks, y);
+    }
+}
+
+// Those of every pair that was seen.
 fn redirect_all(marks: &[u8], targets: &mut [u16], seen: &[u64])
     requires { ⌜ (length (now marks) ≡ 4160) × (length (now targets) ≡ 8192) × (length (now seen) ≡ 64) ⌝ }
     requires { ⌜ ((i r : ℕ) → i < 4096 → r < 2 → (getD (now targets) (index i r) 0 ≡ 65535 → ⊥) → Member (now seen) i) ⌝ }
     ensures { λ _. ⌜ now (targets .exit) ≡ map (redirected (now (marks .entry))) (now (targets .entry)) ⌝ }
 {
-    let mut i = members::first(seen, 0);
-    while i < 4096 {
-        let at = 2 * i;
-        let x = targets[at];
-        let y = targets[at + 1];
-        targets[at] = redirect(marks, x);
-        targets[at + 1] = redirect(marks, y);
-        i = members::first(seen, i + 1);
+    let mut p = 0;
+    while p < 64 {
+        redirect_word(marks, targets, p, seen[p]);
+        p += 1;
     }
 }
 
@@ -123,35 +137,45 @@ fn one_if(x: u8, v: u8) -> u8
     0
 }
 
-// How many of the kept nodes have mark v. Few enough for a small number, so that many are counted together.
-fn count_kept(marks: &[u8], v: u8) -> usize
-    requires { ⌜ length (now marks) ≡ 4160 ⌝ }
-    ensures { λ r. ⌜ (r ≡ count v (drop 4096 (now (marks .entry)))) × (r ≤ 64) ⌝ }
+// How many of the 64 marks from i on are v. Few enough for a small number, so that many are counted together.
+fn count_row(marks: &[u8], i: usize, v: u8) -> usize
+    requires { ⌜ i + 64 ≤ length (now marks) ⌝ }
+    ensures { λ r. ⌜ (count v (drop i (now (marks .entry))) ≡ r + count v (drop (i + 64) (now (marks .entry)))) × (r ≤ 64) ⌝ }
 {
     let mut n = 0;
-    let mut i = 4096;
-    while i < 4160 {
-        n += one_if(marks[i], v);
-        i += 1;
+    let mut k = i;
+    while k < i + 64 {
+        n += one_if(marks[k], v);
+        k += 1;
     }
     n as usize
 }
 
-// The start, and the counts of marks 1, 2 and 3: of the kept nodes, and of the pairs that were seen, as no other pair has a mark.
+// How many pairs with old place p have mark v, which is not 0: none, where none was seen.
+fn count_place(marks: &[u8], seen: &[u64], p: usize, v: u8) -> usize
+    requires { ⌜ (length (now marks) ≡ 4160) × Holds (now seen) (now marks) × (p < 64) × (0 < v) ⌝ }
+    ensures { λ r. ⌜ (count v (drop (64 * p) (now (marks .entry))) ≡ r + count v (drop (64 * p + 64) (now (marks .entry)))) × (r ≤ 64) ⌝ }
+{
+    if seen[p] == 0 {
+        return 0;
+    }
+    count_row(marks, 64 * p, v)
+}
+
+// The start, and the counts of marks 1, 2 and 3: of the kept nodes, and of the pairs.
 pub fn summary(start: usize, marks: &[u8], seen: &[u64]) -> Summary
     requires { ⌜ (length (now marks) ≡ 4160) × Holds (now seen) (now marks) ⌝ }
     ensures { λ r. ⌜ r ≡ summary start (now (marks .entry)) ⌝ }
 {
-    let mut opened = count_kept(marks, 1);
-    let mut kept = count_kept(marks, 2);
-    let mut covered = count_kept(marks, 3);
-    let mut i = members::first(seen, 0);
-    while i < 4096 {
-        let x = marks[i];
-        opened += one_if(x, 1) as usize;
-        kept += one_if(x, 2) as usize;
-        covered += one_if(x, 3) as usize;
-        i = members::first(seen, i + 1);
+    let mut opened = count_row(marks, 4096, 1);
+    let mut kept = count_row(marks, 4096, 2);
+    let mut covered = count_row(marks, 4096, 3);
+    let mut p = 0;
+    while p < 64 {
+        opened += count_place(marks, seen, p, 1);
+        kept += count_place(marks, seen, p, 2);
+        covered += count_place(marks, seen, p, 3);
+        p += 1;
     }
     Summary {
         start,

@@ -1,14 +1,11 @@
 -- `builder::inner::finish::redirect` meets its contract. Assumes nothing.
 use mathlib.Core.Path.{ap}
 use Rattle.chart.specs.declared.places.NewPlace.{NewPlace}
-use Rattle.builder.proofs.Finishing.{redirect-far, redirect-kept, redirect-not}
+use Rattle.builder.proofs.Finishing.{redirect-kept, redirect-not}
 use native.Mathlib.Omega.{arith}
 use borrow.Author.Needs.{needs}
 use Rattle.builder.proofs.inner.finish.redirect.Statement.{statement}
 use Rattle.builder.proofs.inner.finish.redirect.Tie as tie
-
-returns : tie.Need-returns
-returns c = search redirect-far
 
 new-of-requires : tie.Need-new-of-requires
 new-of-requires c κs = search needs
@@ -22,20 +19,13 @@ is-marked-requires c κs = let e = ap (λ (q : NewPlace). q .0) (c .before .new-
 cast-result : tie.Need-cast-result
 cast-result c = let e = ap (λ (q : NewPlace). q .0) (c .before .before .before .new-of .ensures) in omega (arith, c .before .before .kept .ensures)
 
-returns-2 : tie.Need-returns-2
-returns-2 c = search redirect-kept
+returns : tie.Need-returns
+returns c = search redirect-kept
 
-returns-3 : tie.Need-returns-3
-returns-3 c = search redirect-not
+returns-2 : tie.Need-returns-2
+returns-2 c = search redirect-not
 
 pub redirect-spec : {M : Type 1} → statement M
 redirect-spec =
     tie.close
-    (tie.spec
-    returns
-    new-of-requires
-    kept-requires
-    is-marked-requires
-    cast-result
-    returns-2
-    returns-3)
+    (tie.spec new-of-requires kept-requires is-marked-requires cast-result returns returns-2)

@@ -1,19 +1,22 @@
--- `builder::inner::finish::count_kept` meets its contract. Assumes nothing.
-use Prim.Native.Nat.{_-_, _≤_}
-use Rattle.builder.proofs.Finishing.{Counting, count-start, count-one, count-last}
+-- `builder::inner::finish::count_row` meets its contract. Assumes nothing.
+use Prim.Native.Nat.{_+_, _-_, _≤_}
+use Rattle.builder.proofs.Finishing.{Counting, count-start, count-one, count-row}
 use borrow.Author.Needs.{needs}
 use native.Mathlib.Omega.{arith}
-use Rattle.builder.proofs.inner.finish.count_kept.Statement.{statement}
-use Rattle.builder.proofs.inner.finish.count_kept.Tie as tie
+use Rattle.builder.proofs.inner.finish.count_row.Statement.{statement}
+use Rattle.builder.proofs.inner.finish.count_row.Tie as tie
 
 abbrev Inv-loop : tie.InvT-loop
-Inv-loop marks v n₀ i₀ n i = Counting v marks 4096 n i × (i ≤ 4160)
+Inv-loop marks i v n₀ k₀ n k = Counting v marks i n k × (k ≤ i + 64)
 
 abbrev μ-loop : tie.MeasureT-loop
-μ-loop marks v n₀ i₀ n i = 4160 - i
+μ-loop marks i v n₀ k₀ n k = i + 64 - k
 
 loop-holds : tie.Need-loop-holds Inv-loop μ-loop
-loop-holds c = (count-start _ _ 4096 (omega arith), search needs)
+loop-holds c = (count-start _ _ _ (omega arith), search needs)
+
+add-loop : tie.Need-add-loop Inv-loop μ-loop
+add-loop c = search needs
 
 shared-slice-read-one-if : tie.Need-shared-slice-read-one-if Inv-loop μ-loop
 shared-slice-read-one-if c = search needs
@@ -24,8 +27,8 @@ one-if-requires c κs = search needs
 add-n : tie.Need-add-n Inv-loop μ-loop
 add-n c = search needs
 
-add-i : tie.Need-add-i Inv-loop μ-loop
-add-i c = search needs
+add-k : tie.Need-add-k Inv-loop μ-loop
+add-k c = search needs
 
 loop-less : tie.Need-loop-less Inv-loop μ-loop
 loop-less c = search needs
@@ -37,19 +40,20 @@ cast-result : tie.Need-cast-result Inv-loop μ-loop
 cast-result c = search needs
 
 returns : tie.Need-returns Inv-loop μ-loop
-returns c = count-last _ _ (omega arith) (c .before .loop .inv .0) (omega arith)
+returns c = count-row _ _ (c .before .loop .inv .0) (c .before .loop .inv .1) (omega arith)
 
-pub count-kept-spec : {M : Type 1} → statement M
-count-kept-spec =
+pub count-row-spec : {M : Type 1} → statement M
+count-row-spec =
     tie.close
     (tie.spec
     Inv-loop
     μ-loop
     loop-holds
+    add-loop
     shared-slice-read-one-if
     one-if-requires
     add-n
-    add-i
+    add-k
     loop-less
     loop-again
     cast-result
