@@ -2,18 +2,18 @@
 use mathlib.Core.Path.{_≡_, refl, sym, ap, _∙_}
 use mathlib.Core.Logic.{dite}
 use mathlib.Core.List.{List}
-use Prim.Native.Nat.{ℕ, _+_, _*_, _%_, _≤_, _<_}
-use native.Mathlib.Numerals.{add-one}
+use Prim.Native.Nat.{ℕ, zero, suc, _+_, _*_, _%_, _≤_, _<_}
 use native.Mathlib.Omega.{arith}
 use native.Mathlib.Decide.{ℕ-discrete, decLt}
 use borrow.Author.Tests.{ne-eqb, lt-ltb, le-ltb}
 use lib.ListN.{length, getD, set, length-set}
-use Rattle.align.specs.Sets.{with}
+use Rattle.align.specs.Sets.{with, without}
 use Rattle.checker.specs.Records.{index}
-use Rattle.words.specs.Words.{First}
+use Rattle.words.specs.Words.{Member, LowestFrom}
 use Rattle.marker.specs.Seen.{HoldsBeyond}
-use Rattle.marker.specs.Spreads.{ledTo, ledFrom, ledBy}
-use Rattle.marker.proofs.Spans.{up-to}
+use Rattle.marker.specs.Spreads.{ledTo, ledFrom}
+use Rattle.marker.specs.Spans.{each}
+use Rattle.marker.proofs.Passes.{each-then, Going, going-start, going-more, going-end}
 
 module _ (l : List ℕ) (q n : ℕ) where
   pub led-pair : {v : ℕ} → n < 4096 → v ≡ with (getD l q 0) (n % 64) → set l q v ≡ ledTo l q n
@@ -43,34 +43,52 @@ module _ (t m l : List ℕ) (i : ℕ) where
   unfolding ledFrom
   length-led = dite (ℕ-discrete (getD m i 0) 4) (λ e. rw (e, ledFrom) (simp length-to)) (λ e. ap length (sym (led-not e)))
 
--- the loop over pairs: l₀ has become l by those below i
-pub record Leading (t m l₀ l : List ℕ) (i : ℕ) : Type 0 where
-  pub is : l ≡ ledBy t m i l₀
+-- ---- the pairs of one word: only those beyond lead, which are members
+pub record Leading (t m w : List ℕ) (p : ℕ) (l₀ l : List ℕ) (word : ℕ) : Type 0 where
   pub long : length l ≡ 64
-  pub most : i ≤ 4096
+  pub going : Going (ledFrom t m) w p l₀ l word
+
+module _ (t m w : List ℕ) (p : ℕ) where
+  pub lead-start : {l : List ℕ} → length l ≡ 64 → Leading t m w p l l (getD w p 0)
+  lead-start {l} e = record { long = e; going = going-start (ledFrom t m) w p l }
+
+  module _ {l₀ l : List ℕ} {word : ℕ} (L : Leading t m w p l₀ l word) (b : p < 64) (H : HoldsBeyond w m) where
+    idle : (i : ℕ) → i < 64 → (Member w (64 * p + i) → ⊥) → l ≡ ledFrom t m l (64 * p + i)
+    idle i c f = led-not t m l (64 * p + i) (λ e. f (H .has (64 * p + i) (omega arith) e))
+
+    pub lead-more : {l′ : List ℕ} {q rest : ℕ} → LowestFrom word 0 q → q < 64 → rest ≡ without word q → l′ ≡ ledFrom t m l (64 * p + q) → Leading t m w p l₀ l′ rest
+    lead-more {q = q} F c e d =
+        record { long = ap length d ∙ length-led t m l (64 * p + q) ∙ L .long; going = going-more (ledFrom t m) w p (L .going) idle F c e d }
+
+    pub lead-end : word ≡ 0 → l ≡ each (ledFrom t m) (64 * p) 64 l₀
+    lead-end e = going-end (ledFrom t m) w p (L .going) idle e
+
+-- ---- the words before p
+length-each : (t m : List ℕ) (a n : ℕ) (l : List ℕ) → length (each (ledFrom t m) a n l) ≡ length l
+unfolding each
+length-each t m a zero l = refl
+length-each t m a (suc n) l = length-led t m (each (ledFrom t m) a n l) (a + n) ∙ length-each t m a n l
+
+pub record Led (t m l₀ l : List ℕ) (p : ℕ) : Type 0 where
+  pub is : l ≡ each (ledFrom t m) 0 (64 * p) l₀
+  pub long : length l ≡ 64
+  pub most : p ≤ 64
 
 module _ (t m : List ℕ) where
-  lead-more : {l₀ l l′ : List ℕ} {i : ℕ} → Leading t m l₀ l i → i < 4096 → l′ ≡ ledFrom t m l i → Leading t m l₀ l′ (i + 1)
-  unfolding ledBy
-  lead-more {l = l} {i = i} L b e =
-      record {
-        is = e ∙ rw (add-one i, ledBy) (ap (λ (x : List ℕ). ledFrom t m x i) (L .is));
-        long = ap length e ∙ length-led t m l i ∙ L .long;
-        most = omega arith;
-      }
+  pub led-start : {l : List ℕ} → length l ≡ 64 → Led t m l l 0
+  unfolding each
+  led-start e = record { is = refl; long = e; most = omega arith }
 
-  -- up to the next member, none leads
-  lead-past : {w l₀ l : List ℕ} {i j : ℕ} → HoldsBeyond w m → Leading t m l₀ l i → First w i j → Leading t m l₀ l j
-  lead-past {l₀ = l₀} {l = l} {j = j} H L F =
-      up-to (Leading t m l₀ l) j (F .least) L
-      (λ k p q D. lead-more D (omega (arith, F .most)) (led-not t m l k (λ e. F .none k p q (H .has k (omega (arith, F .most)) e))))
+  module _ {l₀ l : List ℕ} {p : ℕ} (L : Led t m l₀ l p) where
+    pub led-more : {l′ : List ℕ} → p < 64 → l′ ≡ each (ledFrom t m) (64 * p) 64 l → Led t m l₀ l′ (p + 1)
+    led-more b e =
+        let z : 0 + 64 * p ≡ 64 * p = omega arith in
+        let s : 64 * p + 64 ≡ 64 * (p + 1) = omega arith in
+        record {
+          is = e ∙ ap (each (ledFrom t m) (64 * p) 64) (L .is) ∙ rw (z, s) at (each-then (ledFrom t m) 0 (64 * p) 64 l₀);
+          long = ap length e ∙ length-each t m (64 * p) 64 l ∙ L .long;
+          most = omega arith;
+        }
 
-  pub lead-start : {w l : List ℕ} {j : ℕ} → HoldsBeyond w m → length l ≡ 64 → First w 0 j → Leading t m l l j
-  unfolding ledBy
-  lead-start H e F = lead-past H (record { is = refl; long = e; most = omega arith }) F
-
-  pub lead-next : {w l₀ l l′ : List ℕ} {i j : ℕ} → HoldsBeyond w m → Leading t m l₀ l i → i < 4096 → l′ ≡ ledFrom t m l i → First w (i + 1) j → Leading t m l₀ l′ j
-  lead-next H L b e F = lead-past H (lead-more L b e) F
-
-  pub lead-end : {l₀ l : List ℕ} {i : ℕ} → Leading t m l₀ l i → 4096 ≤ i → l ≡ ledBy t m 4096 l₀
-  lead-end {l₀} {i = i} L b = let e : i ≡ 4096 = omega (arith, L .most) in L .is ∙ ap (λ (x : ℕ). ledBy t m x l₀) e
+    pub led-end : 64 ≤ p → l ≡ each (ledFrom t m) 0 4096 l₀
+    led-end b = let z : 64 * p ≡ 4096 = omega (arith, L .most) in rw z at (L .is)

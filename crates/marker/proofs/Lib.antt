@@ -1,7 +1,9 @@
 -- Laws of Algorithm 1.
 pub mod Marks
 pub mod Spans
+pub mod Passes
 pub mod Seen
+pub mod Sweeps
 pub mod Ranking
 pub mod Least
 pub mod Orders

@@ -16,8 +16,6 @@ use Rattle.base.specs.Walks.{firstFrom}
 use Rattle.base.proofs.Repeat.{repeated-keeps}
 use Rattle.base.proofs.Tests.{T-or, T-true, and-true}
 use Rattle.checker.specs.Records.{index}
-use Rattle.words.specs.Words.{First, Last}
-use Rattle.marker.specs.Seen.{HoldsBeyond}
 use Rattle.marker.specs.Marks.{inQ, opening, nextOpening, opened, allOpened, Opened, none-yet, one-more, Tried, Swept}
 use Rattle.marker.proofs.Marks.{opening-why, fours, open-less, left-beyond, all-rest}
 
@@ -130,68 +128,52 @@ module _ (t : List ℕ) where
     pub tried-no : b ≡ false → Tried t x i 0 x
     tried-no h = record { did = none-yet; most = omega arith; here = λ z. absurd (z refl); else-not = λ z. (refl, sym e ∙ h) }
 
-  sweep-start : (x : List ℕ) (e : ℕ) → Swept t x e e 0 x
-  sweep-start x e = record { did = none-yet; long = refl; near = omega arith; most = omega arith; else-not = λ z. (refl, λ k a b. absurd (omega arith)) }
+  -- ---- spans of pairs that had their turn
+  -- none of them is beyond
+  pub swept-none : (x : List ℕ) {i e : ℕ} → i ≤ e → ((k : ℕ) → i ≤ k → k < e → getD x k 0 ≡ 4 → ⊥) → Swept t x i e 0 x
+  unfolding opening
+  swept-none x l h =
+      record { did = none-yet; long = refl; near = l; most = omega arith; else-not = λ z. (refl, λ k a b. rw (ne-eqb (getD x k 0) 4 (h k a b))) }
 
-  module _ {x y : List ℕ} {a b n : ℕ} (S : Swept t x a b n y) (i e : ℕ) where
-    -- what the pass found of y it found of x, as it opened none
-    same-pair : n ≡ 0 → (k : ℕ) → opening t y k (getD y k 0) ≡ false → opening t x k (getD x k 0) ≡ false
-    same-pair h k f = subst (λ (w : List ℕ). opening t w k (getD w k 0) ≡ false) (S .else-not h .0) f
+  -- no pair at all
+  pub swept-start : (x : List ℕ) (e : ℕ) → Swept t x e e 0 x
+  swept-start x e = swept-none x (omega arith) (λ k a b. absurd (omega arith))
 
-    -- the span grows by pair j
-    sweep-more : {z : List ℕ} {j r : ℕ} → Tried t y j r z → suc (b - a) ≤ e - i → ((k : ℕ) → i ≤ k → k < e → (k ≡ j → ⊥) → (a ≤ k) × (k < b)) → Swept t x i e (n + r) z
-    sweep-more {j = j} T l others =
-        record {
-          did = opened-then t (S .did) (T .did);
-          long = opened-long t (T .did) ∙ S .long;
-          near = omega arith;
-          most = omega (arith, S .most, T .most);
-          else-not = λ h. (
-            T .else-not (omega arith) .0 ∙ S .else-not (omega arith) .0,
-            λ k p q. dite (ℕ-discrete k j) (λ f. same-pair (omega arith) k (rw f (T .else-not (omega arith) .1)))
-                (λ f. let w = others k p q f in S .else-not (omega arith) .1 k (w .0) (w .1)),
-          );
-        }
+  -- one pair alone
+  pub swept-one : {x y : List ℕ} {i r : ℕ} → Tried t x i r y → Swept t x i (i + 1) r y
+  swept-one {i = i} T =
+      record {
+        did = T .did;
+        long = opened-long t (T .did);
+        near = omega arith;
+        most = omega (arith, T .most);
+        else-not = λ z. (T .else-not z .0, λ k a b. (let e : k ≡ i = omega arith in rw e (T .else-not z .1)));
+      }
 
-    -- it grows over pairs that are not beyond
-    sweep-past : i ≤ a → b ≤ e → ((k : ℕ) → i ≤ k → k < e → getD y k 0 ≡ 4 → (a ≤ k) × (k < b)) → Swept t x i e n y
-    unfolding opening
-    sweep-past l m others =
-        record {
-          did = S .did;
-          long = S .long;
-          near = omega (arith, S .near);
-          most = omega (arith, S .most, S .near);
-          else-not = λ h. (
-            S .else-not h .0,
-            λ k p q. dite (ℕ-discrete (getD y k 0) 4) (λ f. let w = others k p q f in S .else-not h .1 k (w .0) (w .1))
-                (λ f. same-pair h k (rw (ne-eqb (getD y k 0) 4 f))),
-          );
-        }
+  -- two spans, whichever is the higher
+  swept-both : {x y z : List ℕ} {a b c d n r : ℕ} (i e : ℕ) → Swept t x a b n y → Swept t y c d r z → i ≤ e → b - a + (d - c) ≤ e - i
+      → ((k : ℕ) → i ≤ k → k < e → ((a ≤ k) × (k < b)) ⊎ ((c ≤ k) × (k < d))) → Swept t x i e (n + r) z
+  swept-both {x} i e S R l m cases =
+      record {
+        did = opened-then t (S .did) (R .did);
+        long = R .long ∙ S .long;
+        near = l;
+        most = omega (arith, S .most, R .most);
+        else-not = λ h. (
+          R .else-not (omega arith) .0 ∙ S .else-not (omega arith) .0,
+          λ k p q. ⊎-elim (λ u. S .else-not (omega arith) .1 k (u .0) (u .1))
+              (λ u. subst (λ (w : List ℕ). opening t w k (getD w k 0) ≡ false) (S .else-not (omega arith) .0) (R .else-not (omega arith) .1 k (u .0) (u .1))) (cases k p q),
+        );
+      }
 
-  -- ---- down: the pairs from i on are done
-  pub down-start : {w x : List ℕ} {i : ℕ} → HoldsBeyond w x → Last w 4096 i → Swept t x i 4096 0 x
-  down-start {x = x} {i = i} H L = sweep-past (sweep-start x 4096) i 4096 (L .most) (omega arith) (λ k p q f. absurd (L .none k p q (H .has k q f)))
+  module _ {x y z : List ℕ} {a b c n r : ℕ} where
+    pub swept-up : Swept t x a b n y → Swept t y b c r z → Swept t x a c (n + r) z
+    swept-up S R =
+        swept-both a c S R (omega (arith, S .near, R .near)) (omega (arith, S .near, R .near)) (λ k p q. dite (decLt k b) (λ h. inl (p, h)) (λ h. inr (omega arith, q)))
 
-  pub down-more : {w x y z : List ℕ} {i j n r : ℕ} → Swept t x i 4096 n y → 0 < i → Tried t y (i - 1) r z → HoldsBeyond w z → Last w (i - 1) j → Swept t x j 4096 (n + r) z
-  down-more {i = i} {j = j} S l T H L =
-      sweep-past (sweep-more S (i - 1) 4096 T (omega (arith, S .near)) (λ k p q f. (omega arith, q))) j 4096 (L .most) (omega arith)
-      (λ k p q f. dite (decLt k (i - 1)) (λ h. absurd (L .none k p h (H .has k q f))) (λ h. (omega arith, q)))
-
-  pub down-end : {x y : List ℕ} {i n : ℕ} → Swept t x i 4096 n y → i ≤ 0 → Swept t x 0 4096 n y
-  down-end {i = i} S l = let e : i ≡ 0 = omega arith in rw e at S
-
-  -- ---- up: the pairs below i are done
-  pub up-start : {w x : List ℕ} {i : ℕ} → HoldsBeyond w x → First w 0 i → Swept t x 0 i 0 x
-  up-start {x = x} {i = i} H F = sweep-past (sweep-start x 0) 0 i (omega arith) (omega arith) (λ k p q f. absurd (F .none k p q (H .has k (omega (arith, F .most)) f)))
-
-  pub up-more : {w x y z : List ℕ} {i j n r : ℕ} → Swept t x 0 i n y → i < 4096 → Tried t y i r z → HoldsBeyond w z → First w (i + 1) j → Swept t x 0 j (n + r) z
-  up-more {i = i} {j = j} S l T H F =
-      sweep-past (sweep-more S 0 (i + 1) T (omega arith) (λ k p q f. (p, omega arith))) 0 j (omega arith) (F .least)
-      (λ k p q f. dite (decLt k (i + 1)) (λ h. (p, h)) (λ h. absurd (F .none k (omega arith) q (H .has k (omega (arith, F .most)) f))))
-
-  pub up-end : {x y : List ℕ} {i n : ℕ} → Swept t x 0 i n y → i ≤ 4096 → 4096 ≤ i → Swept t x 0 4096 n y
-  up-end {i = i} S l m = let e : i ≡ 4096 = omega arith in rw e at S
+    pub swept-down : Swept t x b c n y → Swept t y a b r z → Swept t x a c (n + r) z
+    swept-down S R =
+        swept-both a c S R (omega (arith, S .near, R .near)) (omega (arith, S .near, R .near)) (λ k p q. dite (decLt k b) (λ h. inr (p, h)) (λ h. inl (omega arith, q)))
 
   -- a pass that opened none leaves none to open
   pub swept-rests : {x y : List ℕ} → length x ≡ 4160 → Swept t x 0 4096 0 y → nextOpening t y ≡ none

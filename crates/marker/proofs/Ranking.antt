@@ -3,7 +3,7 @@ use mathlib.Core.Path.{_≡_, refl, sym, ap, _∙_}
 use mathlib.Core.Bool.{Bool, true, false, _||_}
 use mathlib.Core.List.{List, [], _∷_}
 use mathlib.Core.Logic.{dite}
-use Prim.Native.Nat.{ℕ, suc, _+_, _*_, _≤_, _<_}
+use Prim.Native.Nat.{ℕ, zero, suc, _+_, _*_, _≤_, _<_}
 use native.Mathlib.Numerals.{add-one}
 use native.Mathlib.Omega.{arith}
 use native.Mathlib.Decide.{ℕ-discrete, decLt}
@@ -12,13 +12,15 @@ use lib.Dec.{eqb}
 use lib.ListN.{length, getD, set, drop, length-set, length-drop, drop-of-length-le, List·getD-eq-default}
 use lib.Seq.{drop-cons, getD-drop, getD-set-same, getD-set-other}
 use Rattle.checker.specs.Records.{index}
-use Rattle.words.specs.Words.{First}
-use Rattle.marker.specs.Spans.{remade}
+use Rattle.align.specs.Sets.{without}
+use Rattle.words.specs.Words.{Member, LowestFrom}
+use Rattle.marker.specs.Spans.{remade, each}
 use Rattle.marker.specs.Seen.{Holds}
 use Rattle.marker.specs.Marks.{plainMark, plainAs, plainMarks, inQ, opening, allOpened, transitions, cover, covered, coverFrom, allCovered, finalMarks}
 use Rattle.graph.proofs.Stores.{passing-none, passing-all}
 use Rattle.marker.proofs.Marks.{cover-same}
-use Rattle.marker.proofs.Spans.{up-to, passing-span}
+use Rattle.marker.proofs.Spans.{passing-span}
+use Rattle.marker.proofs.Passes.{Going, going-start, going-more, going-end}
 use Rattle.marker.proofs.Seen.{holds-kept}
 
 -- ---- plain marks
@@ -135,7 +137,7 @@ module _ (t m : List ℕ) (i : ℕ) where
       (λ e. ap length (from-is e) ∙ length-cover (cover m (getD t (index i 0) 0)) (getD t (index i 1) 0) ∙ length-cover m (getD t (index i 0) 0))
       (λ e. ap length (sym (from-not e)))
 
-  pub holds-from : {w m₁ : List ℕ} → Holds w m → m₁ ≡ coverFrom t m i → Holds w m₁
+  holds-from : {w m₁ : List ℕ} → Holds w m → m₁ ≡ coverFrom t m i → Holds w m₁
   holds-from H e = rw e (holds-kept H (λ k z. go k z (ℕ-discrete (getD m i 0) 1)))
     where
       go : (k : ℕ) → getD m k 0 ≡ 0 → Dec (getD m i 0 ≡ 1) → getD (coverFrom t m i) k 0 ≡ 0
@@ -163,9 +165,9 @@ pub record Covering (t w m₀ m : List ℕ) (i : ℕ) : Type 0 where
   pub most : i ≤ 4096
   pub same : allCovered t m₀ ≡ covered m (transitions (drop i m) (drop (2 * i) t))
 
-cover-begin : (t : List ℕ) {w m : List ℕ} → length m ≡ 4160 → Holds w m → Covering t w m m 0
+pub cover-start : (t : List ℕ) {w m : List ℕ} → length m ≡ 4160 → Holds w m → Covering t w m m 0
 unfolding allCovered
-cover-begin t l H = record { long = l; held = H; most = omega arith; same = refl }
+cover-start t l H = record { long = l; held = H; most = omega arith; same = refl }
 
 module _ (t : List ℕ) (w : length t ≡ 8192) where
   heads : (i : ℕ) → i < 4096 → drop (2 * i) t ≡ getD t (index i 0) 0 ∷ (getD t (index i 1) 0 ∷ drop (2 * (i + 1)) t)
@@ -195,27 +197,51 @@ module _ (t : List ℕ) (w : length t ≡ 8192) where
             (λ k. rw (getD-drop, getD-drop) (from-ones t m i (i + 1 + k)))));
       })
 
-  -- up to the next member, none covers
-  cover-over : {v m₀ m : List ℕ} {i j : ℕ} → Covering t v m₀ m i → First v i j → Covering t v m₀ m j
-  cover-over {v} {m₀} {m} {i} {j} C F =
-      up-to (Covering t v m₀ m) j (F .least) C
-      (λ k p q D. cover-more D (omega (arith, F .most)) (from-not t m k (λ e. F .none k p q (C .held .has k (omega (arith, F .most)) (omega arith)))))
+  cover-span : {v m₀ m : List ℕ} {i : ℕ} (n : ℕ) → Covering t v m₀ m i → i + n ≤ 4096 → Covering t v m₀ (each (coverFrom t) i n m) (i + n)
+  unfolding each
+  cover-span {i = i} zero C l = let e : i + 0 ≡ i = omega arith in rw e C
+  cover-span {v} {m₀} {m} {i} (suc n) C l =
+      let e : i + n + 1 ≡ i + suc n = omega arith in
+      rw e at (cover-more (cover-span n C (omega arith)) (omega arith) refl)
 
-  pub cover-start : {v m : List ℕ} {j : ℕ} → length m ≡ 4160 → Holds v m → First v 0 j → Covering t v m m j
-  cover-start l H F = cover-over (cover-begin t l H) F
+  -- the next word
+  pub cover-next : {v m₀ m m′ : List ℕ} {p : ℕ} → Covering t v m₀ m (64 * p) → p < 64 → m′ ≡ each (coverFrom t) (64 * p) 64 m → Covering t v m₀ m′ (64 * (p + 1))
+  cover-next {p = p} C l e = let z : 64 * (p + 1) ≡ 64 * p + 64 = omega arith in rw (e, z) (cover-span 64 C (omega arith))
 
-  pub cover-next : {v m₀ m m′ : List ℕ} {i j : ℕ} → Covering t v m₀ m i → i < 4096 → m′ ≡ coverFrom t m i → First v (i + 1) j → Covering t v m₀ m′ j
-  cover-next C l e F = cover-over (cover-more C l e) F
-
-  pub cover-end : {v m₀ m : List ℕ} {i : ℕ} → Covering t v m₀ m i → 4096 ≤ i → m ≡ allCovered t m₀
+  pub cover-end : {v m₀ m : List ℕ} {p : ℕ} → Covering t v m₀ m (64 * p) → 64 ≤ p → m ≡ allCovered t m₀
   unfolding covered transitions
-  cover-end {m = m} {i = i} C l =
-      let e : drop (2 * i) t ≡ [] = drop-of-length-le t {i = 2 * i} (omega arith) in
-      sym (C .same ∙ rw e (none-left (drop i m)))
+  cover-end {m = m} {p = p} C l =
+      let e : drop (2 * (64 * p)) t ≡ [] = drop-of-length-le t {i = 2 * (64 * p)} (omega arith) in
+      sym (C .same ∙ rw e (none-left (drop (64 * p) m)))
     where
       none-left : (x : List ℕ) → covered m (transitions x []) ≡ m
       none-left [] = refl
       none-left (a ∷ x) = refl
+
+-- ---- the pairs of one word: only open ones cover, which are members
+pub record CoveringWord (t w : List ℕ) (p : ℕ) (m₀ m : List ℕ) (word : ℕ) : Type 0 where
+  pub long : length m ≡ 4160
+  pub held : Holds w m
+  pub going : Going (coverFrom t) w p m₀ m word
+
+module _ (t w : List ℕ) (p : ℕ) where
+  pub word-start : {m : List ℕ} → length m ≡ 4160 → Holds w m → CoveringWord t w p m m (getD w p 0)
+  word-start {m} l H = record { long = l; held = H; going = going-start (coverFrom t) w p m }
+
+  module _ {m₀ m : List ℕ} {word : ℕ} (C : CoveringWord t w p m₀ m word) (b : p < 64) where
+    idle : (i : ℕ) → i < 64 → (Member w (64 * p + i) → ⊥) → m ≡ coverFrom t m (64 * p + i)
+    idle i c f = from-not t m (64 * p + i) (λ e. f (C .held .has (64 * p + i) (omega arith) (omega arith)))
+
+    pub word-more : {m′ : List ℕ} {q rest : ℕ} → LowestFrom word 0 q → q < 64 → rest ≡ without word q → m′ ≡ coverFrom t m (64 * p + q) → CoveringWord t w p m₀ m′ rest
+    word-more {q = q} L c e d =
+        record {
+          long = ap length d ∙ length-from t m (64 * p + q) ∙ C .long;
+          held = holds-from t m (64 * p + q) (C .held) d;
+          going = going-more (coverFrom t) w p (C .going) idle L c e d;
+        }
+
+    pub word-end : word ≡ 0 → m ≡ each (coverFrom t) (64 * p) 64 m₀
+    word-end e = going-end (coverFrom t) w p (C .going) idle e
 
 -- ---- all of it
 pub rank-is : (n : ℕ) (t m : List ℕ) {m₁ m₂ m₃ m₄ : List ℕ} → m₁ ≡ plainMarks m → m₂ ≡ set m₁ n 1 → m₃ ≡ allOpened t m₂ → m₄ ≡ allCovered t m₃ → m₄ ≡ finalMarks n t m

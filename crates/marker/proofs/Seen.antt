@@ -11,8 +11,7 @@ use Rattle.words.specs.Words.{added, removed}
 use Rattle.words.proofs.Words.{length-added, length-removed, added-here, added-old, removed-other}
 use Rattle.graph.proofs.Stores.{Passing, passing-more}
 use Rattle.marker.specs.Seen.{Holds, HoldsBeyond}
-use Rattle.marker.specs.Marks.{plainMarks, allOpened, Tried, allCovered, transitions}
-use Rattle.marker.specs.Spreads.{Spread}
+use Rattle.marker.specs.Marks.{plainMarks, allOpened, Opened, Tried, allCovered, transitions}
 use Rattle.marker.proofs.Marks.{plain-ranks, covered-same}
 use Rattle.marker.proofs.Orders.{opened-at, some-opened}
 
@@ -46,9 +45,8 @@ module _ {w x : List ℕ} (H : Holds w x) where
 
 -- ---- every pair beyond
 module _ {w x : List ℕ} (H : HoldsBeyond w x) where
-  pub beyond-spread : {t y : List ℕ} {r : ℕ} → length x ≡ 4160 → Spread t x r y → HoldsBeyond w y
-  beyond-spread {t} l S =
-      record { long = H .long; has = λ k b p. H .has k b (⊎-elim (λ s. sym s ∙ p) (λ s. s .0) (opened-at t l (S .did) k)) }
+  pub beyond-opened : {t y : List ℕ} {n : ℕ} → length x ≡ 4160 → Opened t x n y → HoldsBeyond w y
+  beyond-opened {t} l o = record { long = H .long; has = λ k b p. H .has k b (⊎-elim (λ s. sym s ∙ p) (λ s. s .0) (opened-at t l o k)) }
 
   module _ {t y : List ℕ} {i r : ℕ} (T : Tried t x i r y) where
     pub beyond-same : r ≡ 0 → HoldsBeyond w y

@@ -11,7 +11,7 @@ use Rattle.marker.specs.Marks.{allOpened, none-yet, Tried, Swept}
 use Rattle.marker.specs.Seen.{HoldsBeyond}
 use Rattle.marker.specs.Spreads.{Spread}
 use Rattle.marker.proofs.Marks.{fours}
-use Rattle.marker.proofs.Seen.{beyond-spread}
+use Rattle.marker.proofs.Seen.{beyond-opened}
 use Rattle.marker.proofs.Orders.{opened-long, opened-then, opened-fours, Sweeping, sweeping-again, sweeping-less, sweeping-done}
 
 joined-none : _≡_ {A = ℕ} (joined 0 0) 0
@@ -79,7 +79,7 @@ module _ (t : List ℕ) where
       long = S .long ∙ W .same ∙ W .long
 
       pub passes-rest : {u : List ℕ} → HoldsBeyond u w → HoldsBeyond u v
-      passes-rest H = beyond-spread H (R .long ∙ long) P
+      passes-rest H = beyond-opened H (R .long ∙ long) (P .did)
 
       pub passes-less : (r ≡ 0 → ⊥) → fours t v < fours t y
       passes-less h = omega (arith, sweeping-less t W S h, opened-fours t long (R .did), opened-fours t (R .long ∙ long) (P .did))

@@ -1,7 +1,7 @@
--- Spans of a list: the elements from one index up to another.
+-- Spans of a list: the elements from one index up to another; and work for each number of a span.
 use mathlib.Core.Bool.{Bool, true, false}
 use mathlib.Core.List.{List}
-use Prim.Native.Nat.{ℕ, _+_, _-_}
+use Prim.Native.Nat.{ℕ, zero, suc, _+_, _-_}
 use lib.Dec.{eqb, ltb}
 use lib.ListN.{getD}
 use Rattle.base.specs.Says.{every}
@@ -18,3 +18,8 @@ among a b f i x = elim (ltb i a) [ true ↦ x | false ↦ elim (ltb i b) [ true 
 -- these elements made anew, the others as they were
 unfoldable pub remade : ℕ → ℕ → (ℕ → ℕ) → List ℕ → List ℕ
 remade a b f l = pass (among a b f) 0 l
+
+-- f for each of the n numbers from a on, in ascending order, one after another
+unfoldable pub each : (List ℕ → ℕ → List ℕ) → ℕ → ℕ → List ℕ → List ℕ
+each f a zero x = x
+each f a (suc n) x = f (each f a n x) (a + n)

@@ -2,7 +2,7 @@
 use mathlib.Core.Path.{_≡_}
 use mathlib.Core.Bool.{true, false}
 use mathlib.Core.List.{List}
-use Prim.Native.Nat.{ℕ, zero, suc, _%_, _<_}
+use Prim.Native.Nat.{ℕ, _%_, _<_}
 use lib.Dec.{eqb, ltb}
 use lib.ListN.{length, getD, set}
 use Rattle.align.specs.Sets.{with}
@@ -24,8 +24,3 @@ ledTo l q n = elim (ltb n 4096) [ true ↦ set l q (with (getD l q 0) (n % 64)) 
 -- that of pair i's new place with those of its targets, if it is beyond
 unfoldable pub ledFrom : List ℕ → List ℕ → List ℕ → ℕ → List ℕ
 ledFrom t m l i = elim (eqb (getD m i 0) 4) [ true ↦ ledTo (ledTo l (i % 64) (getD t (index i 0) 0)) (i % 64) (getD t (index i 1) 0) | false ↦ l ]
-
--- so for the first n pairs
-unfoldable pub ledBy : List ℕ → List ℕ → ℕ → List ℕ → List ℕ
-ledBy t m zero l = l
-ledBy t m (suc n) l = ledFrom t m (ledBy t m n l) n

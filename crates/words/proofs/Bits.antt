@@ -5,11 +5,10 @@ use Prim.Native.Nat.{ℕ, zero, suc, _+_, _*_, _-_, _/_, _%_, _^_, _≤_, _<_}
 use native.Mathlib.Nat.{pow-suc, div-eq-of-lt, lt-of-lt-of-le, lt-of-le-of-lt, div-le-self, eq-zero-or-pos, div-one}
 use native.Mathlib.Decide.{decLt}
 use native.Mathlib.Omega.{arith}
-use lib.Pow.{shr-shr, pow-lt, pow-pos, pow-mono, high}
-use lib.Bits.{bitAnd, mask-lt}
+use lib.Pow.{shr-shr, pow-mono, high}
 use lib.Count.{trailingZeros, leadingZeros, under, leading-top, leading-of-zero}
-use Rattle.align.specs.Sets.{bit, alone}
-use Rattle.align.proofs.Sets.{bit-zero, bit-suc, bit-none, bit-and, bit-not}
+use Rattle.align.specs.Sets.{bit}
+use Rattle.align.proofs.Sets.{bit-zero, bit-suc, bit-none}
 use Rattle.words.specs.Words.{LowestFrom, HighestBefore}
 
 -- no bit of x from k on
@@ -98,32 +97,3 @@ module _ (x : ℕ) (l : x < 2 ^ 64) where
       go : (x ≡ 0) ⊎ (0 < x) → HighestBefore x 64 (64 - leadingZeros 64 x) × (0 < x → 0 < 64 - leadingZeros 64 x)
       go (inl e) = rw (e, leading-of-zero 64) (record { most = omega arith; none = λ i m n. bit-none i; here = λ n. absurd (omega arith) }, λ p. absurd (omega arith))
       go (inr p) = let t = leading-top 64 x p l in some (t .0) (t .1) (t .2) (t .3)
-
--- ---- the bits before k
-module _ (x k : ℕ) (l : k < 64) where
-  bit-masked : (i : ℕ) → i < k → bit (bitAnd x (2 ^ k - 1)) i ≡ bit x i
-  bit-masked i m =
-      let z : 2 ^ k - 1 ≡ 2 ^ k - 1 - 0 = omega arith in
-      let e : bit (2 ^ k - 1) i ≡ 1 = ap (λ (y : ℕ). bit y i) z ∙ bit-not k i 0 m (pow-pos k) ∙ ap (λ (b : ℕ). 1 - b) (bit-none i) in
-      bit-and x (2 ^ k - 1) i ∙ omega (arith, e)
-
-  highest-masked : {r : ℕ} → HighestBefore (bitAnd x (2 ^ k - 1)) 64 r → HighestBefore x k r
-  highest-masked {r} H =
-      record {
-        most = most;
-        none = λ i m n. sym (bit-masked i n) ∙ H .none i m (omega arith);
-        here = λ n. let m : r - 1 < k = omega (arith, most) in sym (bit-masked (r - 1) m) ∙ H .here n;
-      }
-    where
-      most : r ≤ k
-      most = dite (decLt k r) (λ m. absurd (omega (arith, H .here (omega arith), bit-past (bitAnd x (2 ^ k - 1)) k (r - 1) (mask-lt x k) (omega arith)))) (λ m. omega arith)
-
--- the same of a mask that is one less than the set of k alone
-module _ (k : ℕ) {y : ℕ} (e : y ≡ alone k) where
-  pub mask-some : 1 ≤ y
-  unfolding alone
-  mask-some = rw e (pow-pos k)
-
-  pub masked-is : (x : ℕ) {r : ℕ} → k < 64 → HighestBefore (bitAnd x (y - 1)) 64 r → HighestBefore x k r
-  unfolding alone
-  masked-is x {r} l H = highest-masked x k l (rw e at H)

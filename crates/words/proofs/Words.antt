@@ -1,6 +1,6 @@
 -- Members of sets of pairs: added, removed, and looked for. Assumes nothing.
-use mathlib.Core.Path.{_≡_, refl, sym, ap, _∙_}
-use mathlib.Core.Logic.{_⊎_, inl, inr, dite}
+use mathlib.Core.Path.{_≡_, refl, ap, _∙_}
+use mathlib.Core.Logic.{dite}
 use mathlib.Core.List.{List}
 use Prim.Native.Nat.{ℕ, _+_, _*_, _-_, _/_, _%_, _^_, _≤_, _<_}
 use native.Mathlib.Decide.{ℕ-discrete, decLt}
@@ -10,7 +10,7 @@ use lib.Seq.{getD-set-same, getD-set-other}
 use Rattle.base.proofs.Walks.{same-at}
 use Rattle.align.specs.Sets.{bit, with, without}
 use Rattle.align.proofs.Sets.{bit-none, bit-not, with-here, with-old, without-kept}
-use Rattle.words.specs.Words.{Member, added, removed, LowestFrom, HighestBefore, FirstWord, LastWord, First, LastHere, Last}
+use Rattle.words.specs.Words.{Member, added, removed, LowestFrom, FirstWord, First}
 
 -- ---- added and removed
 module _ (w : List ℕ) (n : ℕ) where
@@ -105,29 +105,6 @@ module _ (w : List ℕ) (p : ℕ) where
     pub first-word-none : 64 ≤ i → FirstWord w p i
     first-word-none f = record { least = N .least; most = N .most; none = N .none; here = λ m. absurd (omega arith) }
 
--- ---- the last word with a bit: none from i on
-module _ (w : List ℕ) (p : ℕ) where
-  pub record NoneFrom (i : ℕ) : Type 0 where
-    pub most : i ≤ p
-    pub none : (k : ℕ) → i ≤ k → k < p → getD w k 0 ≡ 0
-
-  pub from-begun : NoneFrom p
-  from-begun = record { most = omega arith; none = λ k a b. absurd (omega arith) }
-
-  module _ {i : ℕ} (N : NoneFrom i) where
-    pub from-again : 0 < i → getD w (i - 1) 0 ≡ 0 → NoneFrom (i - 1)
-    from-again l e =
-        record {
-          most = omega (arith, N .most);
-          none = λ k a b. dite (ℕ-discrete k (i - 1)) (λ z. rw z e) (λ z. N .none k (omega arith) b);
-        }
-
-    pub last-word-found : (getD w (i - 1) 0 ≡ 0 → ⊥) → LastWord w p i
-    last-word-found f = record { most = N .most; none = N .none; here = λ m. omega arith }
-
-    pub last-word-none : i ≡ 0 → LastWord w p i
-    last-word-none e = record { most = N .most; none = N .none; here = λ m. absurd (omega arith) }
-
 -- ---- the first pair
 module _ (w : List ℕ) (n : ℕ) (l : n ≤ 4096) where
   pub first-end : n ≡ 4096 → First w n n
@@ -164,54 +141,6 @@ module _ (w : List ℕ) (n : ℕ) (l : n ≤ 4096) where
         where
           below : y < 64
           below = s refl (F .here (omega (arith, F .most)))
-
--- ---- the last pair
-module _ (w : List ℕ) (n : ℕ) (l : n ≤ 4096) where
-  pub here-end : n ≡ 4096 → LastHere w n 0
-  here-end e = record { most = omega arith; none = λ i a b c m. absurd (omega arith); own = λ m. absurd (omega arith); here = λ m. absurd (omega arith) }
-
-  module _ {x : ℕ} (H : HighestBefore (getD w (n / 64) 0) (n % 64) x) where
-    pub here-none : x ≡ 0 → LastHere w n 0
-    here-none e =
-        record {
-          most = omega arith;
-          none = λ i a b c. not-at w (n / 64) i (omega arith) (H .none (i % 64) (omega arith) (omega arith));
-          own = λ m. absurd (omega arith);
-          here = λ m. absurd (omega arith);
-        }
-
-    pub here-some : (x ≡ 0 → ⊥) → LastHere w n (64 * (n / 64) + x)
-    here-some f =
-        record {
-          most = omega (arith, H .most);
-          none = λ i a b c. not-at w (n / 64) i (omega arith) (H .none (i % 64) (omega arith) (omega arith));
-          own = λ m. omega arith;
-          here = λ m. let e : 64 * (n / 64) + x - 1 ≡ 64 * (n / 64) + (x - 1) = omega arith in rw e (member-at w (n / 64) (x - 1) (omega (arith, H .most)) (H .here (omega arith)));
-        }
-
-  module _ {x : ℕ} (H : LastHere w n x) where
-    pub last-here : 0 < x → Last w n x
-    last-here p = record { most = H .most; none = λ i a b. H .none i a b (omega (arith, H .own p)); here = H .here }
-
-    module _ {q : ℕ} (z : x ≤ 0) (L : LastWord w (n / 64) q) where
-      -- pairs from word q on are no members
-      behind : (i : ℕ) → 64 * q ≤ i → i < n → Member w i → ⊥
-      behind i a b m =
-          dite (decLt i (n / 64 * 64)) (λ c. none-of w i (L .none (i / 64) (omega arith) (omega arith)) m) (λ c. H .none i (omega arith) b (omega arith) m)
-
-      pub last-none : q ≡ 0 → Last w n 0
-      last-none e = record { most = omega arith; none = λ i a b. behind i (omega arith) b; here = λ m. absurd (omega arith) }
-
-      pub last-there : {y : ℕ} → (q ≡ 0 → ⊥) → HighestBefore (getD w (q - 1) 0) 64 y → (0 < getD w (q - 1) 0 → 0 < y) → Last w n (64 * (q - 1) + y)
-      last-there {y} f M s =
-          record {
-            most = omega (arith, L .most, M .most);
-            none = λ i a b m. dite (decLt i (64 * q)) (λ h. not-at w (q - 1) i (omega arith) (M .none (i % 64) (omega arith) (omega arith)) m) (λ h. behind i (omega arith) b m);
-            here = λ m. let e : 64 * (q - 1) + y - 1 ≡ 64 * (q - 1) + (y - 1) = omega (arith, pos) in rw e (member-at w (q - 1) (y - 1) (omega (arith, pos, M .most)) (M .here pos));
-          }
-        where
-          pos : 0 < y
-          pos = s (L .here (omega arith))
 
 -- ---- each pair is a member of words that have all their bits
 pub all-members : (i : ℕ) → i < 4096 → Member (replicate 64 (2 ^ 64 - 1)) i

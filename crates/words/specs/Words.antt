@@ -1,7 +1,7 @@
 -- Sets of pairs as bits of 64 words. They only say where to look: no rule of document 01 speaks of them.
 use mathlib.Core.Path.{_≡_}
 use mathlib.Core.List.{List}
-use Prim.Native.Nat.{ℕ, _*_, _-_, _/_, _%_, _≤_, _<_}
+use Prim.Native.Nat.{ℕ, _-_, _/_, _%_, _≤_, _<_}
 use lib.ListN.{getD, set}
 use Rattle.align.specs.Sets.{bit, with, without}
 
@@ -37,12 +37,6 @@ pub record FirstWord (w : List ℕ) (p r : ℕ) : Type 0 where
   pub none : (i : ℕ) → p ≤ i → i < r → getD w i 0 ≡ 0
   pub here : r < 64 → 0 < getD w r 0
 
--- r is one more than the last before p that has a bit, or 0
-pub record LastWord (w : List ℕ) (p r : ℕ) : Type 0 where
-  pub most : r ≤ p
-  pub none : (i : ℕ) → r ≤ i → i < p → getD w i 0 ≡ 0
-  pub here : 0 < r → 0 < getD w (r - 1) 0
-
 -- ---- pairs
 -- r is the first from n on, or 4,096
 pub record First (w : List ℕ) (n r : ℕ) : Type 0 where
@@ -50,16 +44,3 @@ pub record First (w : List ℕ) (n r : ℕ) : Type 0 where
   pub most : r ≤ 4096
   pub none : (i : ℕ) → n ≤ i → i < r → Member w i → ⊥
   pub here : r < 4096 → Member w r
-
--- r is one more than the last before n, or 0
-pub record Last (w : List ℕ) (n r : ℕ) : Type 0 where
-  pub most : r ≤ n
-  pub none : (i : ℕ) → r ≤ i → i < n → Member w i → ⊥
-  pub here : 0 < r → Member w (r - 1)
-
--- the same of those in n's own word
-pub record LastHere (w : List ℕ) (n r : ℕ) : Type 0 where
-  pub most : r ≤ n
-  pub none : (i : ℕ) → r ≤ i → i < n → n / 64 * 64 ≤ i → Member w i → ⊥
-  pub own : 0 < r → n / 64 * 64 < r
-  pub here : 0 < r → Member w (r - 1)

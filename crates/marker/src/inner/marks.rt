@@ -1,12 +1,13 @@
 // Algorithm 1: the final marks, from those between turns and the final targets.
 ghost use mathlib.Core.Path.{_≡_};
-ghost use Prim.Native.Nat.{_≤_, _<_};
+ghost use Prim.Native.Nat.{_+_, _*_, _≤_, _<_};
 ghost use lib.ListN.{length, getD};
-ghost use Rattle.marker.specs.Spans.{remade};
+ghost use Rattle.marker.specs.Spans.{remade, each};
 ghost use Rattle.marker.specs.Seen.{Holds, HoldsBeyond};
 ghost use Rattle.marker.specs.Marks.{plainAs, plainMarks, inQ, opening, Tried, Swept, allOpened};
 ghost use Rattle.marker.specs.Marks.{cover, coverFrom, allCovered, finalMarks};
 use crate::inner::spread::spread;
+use align::inner::sets::without;
 use graph::inner::buffers;
 use words::inner::members;
 
@@ -97,6 +98,37 @@ fn open_out(marks: &mut [u8], targets: &[u16], rest: &mut [u64], i: usize) -> us
     n
 }
 
+// Opens every pair of word p that is to be opened when its turn comes, from the highest down, and says how many that were. It goes through those
+// that are in rest when it begins: what is opened leaves rest, and none comes in.
+fn sweep_word_down(marks: &mut [u8], targets: &[u16], rest: &mut [u64], p: usize) -> usize
+    requires { ⌜ (length (now marks) ≡ 4160) × (length (now targets) ≡ 8192) × (p < 64) × HoldsBeyond (now rest) (now marks) ⌝ }
+    ensures { λ r. ⌜ Swept (now (targets .entry)) (now (marks .entry)) (64 * p) (64 * p + 64) r (now (marks .exit)) × HoldsBeyond (now (rest .exit)) (now (marks .exit)) ⌝ }
+{
+    let mut n = 0;
+    let mut word = rest[p];
+    while word != 0 {
+        let q = members::highest(word) - 1;
+        word = without(word, q as u32);
+        n += open_out(marks, targets, rest, 64 * p + q);
+    }
+    n
+}
+
+// The same from the lowest up.
+fn sweep_word_up(marks: &mut [u8], targets: &[u16], rest: &mut [u64], p: usize) -> usize
+    requires { ⌜ (length (now marks) ≡ 4160) × (length (now targets) ≡ 8192) × (p < 64) × HoldsBeyond (now rest) (now marks) ⌝ }
+    ensures { λ r. ⌜ Swept (now (targets .entry)) (now (marks .entry)) (64 * p) (64 * p + 64) r (now (marks .exit)) × HoldsBeyond (now (rest .exit)) (now (marks .exit)) ⌝ }
+{
+    let mut n = 0;
+    let mut word = rest[p];
+    while word != 0 {
+        let q = members::lowest(word);
+        word = without(word, q as u32);
+        n += open_out(marks, targets, rest, 64 * p + q);
+    }
+    n
+}
+
 // Opens every pair that is to be opened when its turn comes, from the highest of rest down, and says how many that were. Rows mostly lead to
 // higher nodes, so that few such passes are needed.
 fn sweep_down(marks: &mut [u8], targets: &[u16], rest: &mut [u64]) -> usize
@@ -104,11 +136,10 @@ fn sweep_down(marks: &mut [u8], targets: &[u16], rest: &mut [u64]) -> usize
     ensures { λ r. ⌜ Swept (now (targets .entry)) (now (marks .entry)) 0 4096 r (now (marks .exit)) × HoldsBeyond (now (rest .exit)) (now (marks .exit)) ⌝ }
 {
     let mut n = 0;
-    let mut i = members::last(&*rest, 4096);
-    while 0 < i {
-        i -= 1;
-        n += open_out(marks, targets, rest, i);
-        i = members::last(&*rest, i);
+    let mut p = 64;
+    while 0 < p {
+        p -= 1;
+        n += sweep_word_down(marks, targets, rest, p);
     }
     n
 }
@@ -119,10 +150,10 @@ fn sweep_up(marks: &mut [u8], targets: &[u16], rest: &mut [u64]) -> usize
     ensures { λ r. ⌜ Swept (now (targets .entry)) (now (marks .entry)) 0 4096 r (now (marks .exit)) × HoldsBeyond (now (rest .exit)) (now (marks .exit)) ⌝ }
 {
     let mut n = 0;
-    let mut i = members::first(&*rest, 0);
-    while i < 4096 {
-        n += open_out(marks, targets, rest, i);
-        i = members::first(&*rest, i + 1);
+    let mut p = 0;
+    while p < 64 {
+        n += sweep_word_up(marks, targets, rest, p);
+        p += 1;
     }
     n
 }
@@ -190,15 +221,28 @@ fn cover_from(marks: &mut [u8], targets: &[u16], i: usize)
     }
 }
 
-// The other targets of open pairs. Those not seen have no mark, and are not open.
+// The same of the pairs of word p. Those not seen have no mark, and are not open.
+fn cover_word(marks: &mut [u8], targets: &[u16], seen: &[u64], p: usize)
+    requires { ⌜ (length (now marks) ≡ 4160) × (length (now targets) ≡ 8192) × (p < 64) × Holds (now seen) (now marks) ⌝ }
+    ensures { λ _. ⌜ now (marks .exit) ≡ each (coverFrom (now (targets .entry))) (64 * p) 64 (now (marks .entry)) ⌝ }
+{
+    let mut word = seen[p];
+    while word != 0 {
+        let q = members::lowest(word);
+        word = without(word, q as u32);
+        cover_from(marks, targets, 64 * p + q);
+    }
+}
+
+// The other targets of open pairs.
 fn cover_all(marks: &mut [u8], targets: &[u16], seen: &[u64])
     requires { ⌜ (length (now marks) ≡ 4160) × (length (now targets) ≡ 8192) × Holds (now seen) (now marks) ⌝ }
     ensures { λ _. ⌜ now (marks .exit) ≡ allCovered (now (targets .entry)) (now (marks .entry)) ⌝ }
 {
-    let mut i = members::first(seen, 0);
-    while i < 4096 {
-        cover_from(marks, targets, i);
-        i = members::first(seen, i + 1);
+    let mut p = 0;
+    while p < 64 {
+        cover_word(marks, targets, seen, p);
+        p += 1;
     }
 }
 

@@ -1,15 +1,17 @@
 // Open marks along chains of pairs, in rounds: each looks only at the new places from which a row leads to a new place where the round before
 // opened a pair. Which places these are changes no mark: it is each opening that has to be right.
 ghost use mathlib.Core.Path.{_≡_};
-ghost use Prim.Native.Nat.{_<_};
+ghost use Prim.Native.Nat.{_*_, _<_};
 ghost use lib.ListN.{length};
+ghost use Rattle.marker.specs.Spans.{each};
 ghost use Rattle.marker.specs.Seen.{HoldsBeyond};
-ghost use Rattle.marker.specs.Spreads.{Spread, ledTo, ledFrom, ledBy};
+ghost use Rattle.marker.specs.Spreads.{Spread, ledTo, ledFrom};
 use crate::inner::marks::open_if;
 use align::inner::sets::alone;
 use align::inner::sets::joined;
 use align::inner::sets::meets;
 use align::inner::sets::with;
+use align::inner::sets::without;
 use words::inner::members;
 
 // New place q leads to the new place of a target that is a pair.
@@ -34,15 +36,28 @@ fn lead_from(marks: &[u8], targets: &[u16], leads: &mut [u64], i: usize)
     }
 }
 
-// For each new place the set of those to which pairs beyond lead. All of these are members of rest.
+// Likewise the pairs of word p. All of these that are beyond are members of rest.
+fn lead_word(marks: &[u8], targets: &[u16], rest: &[u64], leads: &mut [u64], p: usize)
+    requires { ⌜ (length (now marks) ≡ 4160) × (length (now targets) ≡ 8192) × HoldsBeyond (now rest) (now marks) × (length (now leads) ≡ 64) × (p < 64) ⌝ }
+    ensures { λ _. ⌜ now (leads .exit) ≡ each (ledFrom (now (targets .entry)) (now (marks .entry))) (64 * p) 64 (now (leads .entry)) ⌝ }
+{
+    let mut word = rest[p];
+    while word != 0 {
+        let q = members::lowest(word);
+        word = without(word, q as u32);
+        lead_from(marks, targets, leads, 64 * p + q);
+    }
+}
+
+// For each new place the set of those to which pairs beyond lead.
 fn lead_all(marks: &[u8], targets: &[u16], rest: &[u64], leads: &mut [u64])
     requires { ⌜ (length (now marks) ≡ 4160) × (length (now targets) ≡ 8192) × HoldsBeyond (now rest) (now marks) × (length (now leads) ≡ 64) ⌝ }
-    ensures { λ _. ⌜ now (leads .exit) ≡ ledBy (now (targets .entry)) (now (marks .entry)) 4096 (now (leads .entry)) ⌝ }
+    ensures { λ _. ⌜ now (leads .exit) ≡ each (ledFrom (now (targets .entry)) (now (marks .entry))) 0 4096 (now (leads .entry)) ⌝ }
 {
-    let mut i = members::first(rest, 0);
-    while i < 4096 {
-        lead_from(marks, targets, leads, i);
-        i = members::first(rest, i + 1);
+    let mut p = 0;
+    while p < 64 {
+        lead_word(marks, targets, rest, leads, p);
+        p += 1;
     }
 }
 

@@ -2,8 +2,7 @@
 ghost use mathlib.Core.Path.{_≡_};
 ghost use Prim.Native.Nat.{_≤_, _<_};
 ghost use lib.ListN.{length};
-ghost use Rattle.words.specs.Words.{added, removed, LowestFrom, HighestBefore, FirstWord, LastWord, First, LastHere, Last};
-use align::inner::sets::alone;
+ghost use Rattle.words.specs.Words.{added, removed, LowestFrom, HighestBefore, FirstWord, First};
 use align::inner::sets::with;
 use align::inner::sets::without;
 
@@ -50,14 +49,6 @@ pub fn highest(word: u64) -> usize
     64 - u64::leading_zeros(word) as usize
 }
 
-// One more than the highest bit before k, or 0.
-fn highest_before(word: u64, k: usize) -> usize
-    requires { ⌜ k < 64 ⌝ }
-    ensures { λ r. ⌜ HighestBefore word k r ⌝ }
-{
-    highest(word & (alone(k as u32) - 1))
-}
-
 // The first word from p on that has a bit, or 64.
 fn first_word(words: &[u64], p: usize) -> usize
     requires { ⌜ (length (now words) ≡ 64) × (p ≤ 64) ⌝ }
@@ -69,22 +60,6 @@ fn first_word(words: &[u64], p: usize) -> usize
             return i;
         }
         i += 1;
-    }
-    i
-}
-
-// One more than the last word before p that has a bit, or 0.
-fn last_word(words: &[u64], p: usize) -> usize
-    requires { ⌜ (length (now words) ≡ 64) × (p ≤ 64) ⌝ }
-    ensures { λ r. ⌜ LastWord (now (words .entry)) p r ⌝ }
-{
-    let mut i = p;
-    while 0 < i {
-        let before = i - 1;
-        if words[before] != 0 {
-            return i;
-        }
-        i = before;
     }
     i
 }
@@ -107,37 +82,4 @@ pub fn first(words: &[u64], n: usize) -> usize
         return 4096;
     }
     64 * next + lowest_from(words[next], 0)
-}
-
-// One more than the last pair before n that stands in n's own word, or 0.
-fn last_here(words: &[u64], n: usize) -> usize
-    requires { ⌜ (length (now words) ≡ 64) × (n ≤ 4096) ⌝ }
-    ensures { λ r. ⌜ LastHere (now (words .entry)) n r ⌝ }
-{
-    if n == 4096 {
-        return 0;
-    }
-    let p = n / 64;
-    let bits = highest_before(words[p], n % 64);
-    if bits == 0 {
-        return 0;
-    }
-    64 * p + bits
-}
-
-// One more than the last pair before n, or 0.
-pub fn last(words: &[u64], n: usize) -> usize
-    requires { ⌜ (length (now words) ≡ 64) × (n ≤ 4096) ⌝ }
-    ensures { λ r. ⌜ Last (now (words .entry)) n r ⌝ }
-{
-    let here = last_here(words, n);
-    if 0 < here {
-        return here;
-    }
-    let next = last_word(words, n / 64);
-    if next == 0 {
-        return 0;
-    }
-    let p = next - 1;
-    64 * p + highest(words[p])
 }

@@ -1,30 +1,24 @@
 -- `marker::inner::marks::cover_all` meets its contract. Assumes nothing.
-use Prim.Native.Nat.{_-_}
+use Prim.Native.Nat.{_*_, _-_}
 use Rattle.marker.proofs.Ranking.{Covering, cover-start, cover-next, cover-end}
 use borrow.Author.Needs.{needs}
 use Rattle.marker.proofs.inner.marks.cover_all.Statement.{statement}
 use Rattle.marker.proofs.inner.marks.cover_all.Tie as tie
 
 abbrev Inv-loop : tie.InvT-loop
-Inv-loop marks₀ targets seen i₀ marks i = Covering targets seen marks₀ marks i
+Inv-loop marks₀ targets seen p₀ marks p = Covering targets seen marks₀ marks (64 * p)
 
 abbrev μ-loop : tie.MeasureT-loop
-μ-loop marks₀ targets seen i₀ marks i = 4096 - i
-
-first-requires : tie.Need-first-requires Inv-loop μ-loop
-first-requires c κs = search needs
+μ-loop marks₀ targets seen p₀ marks p = 64 - p
 
 loop-holds : tie.Need-loop-holds Inv-loop μ-loop
 loop-holds c = search cover-start
 
-cover-from-requires : tie.Need-cover-from-requires Inv-loop μ-loop
-cover-from-requires c κs = search needs
+cover-word-requires : tie.Need-cover-word-requires Inv-loop μ-loop
+cover-word-requires c κs = search needs
 
-add-first : tie.Need-add-first Inv-loop μ-loop
-add-first c = search needs
-
-first-requires-2 : tie.Need-first-requires-2 Inv-loop μ-loop
-first-requires-2 c κs = search needs
+add-p : tie.Need-add-p Inv-loop μ-loop
+add-p c = search needs
 
 loop-less : tie.Need-loop-less Inv-loop μ-loop
 loop-less c = search needs
@@ -44,11 +38,9 @@ cover-all-spec =
     (tie.spec
     Inv-loop
     μ-loop
-    first-requires
     loop-holds
-    cover-from-requires
-    add-first
-    first-requires-2
+    cover-word-requires
+    add-p
     loop-less
     loop-again
     same-length

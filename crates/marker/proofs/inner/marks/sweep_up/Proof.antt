@@ -1,35 +1,30 @@
 -- `marker::inner::marks::sweep_up` meets its contract. Assumes nothing.
-use Prim.Native.Nat.{_-_, _≤_}
+use Prim.Native.Nat.{_*_, _-_, _≤_}
 use Rattle.marker.specs.Seen.{HoldsBeyond}
 use Rattle.marker.specs.Marks.{Swept}
-use Rattle.marker.proofs.Orders.{up-start, up-more, up-end}
+use Rattle.marker.proofs.Orders.{swept-start}
+use Rattle.marker.proofs.Sweeps.{up-more, up-end}
 use borrow.Author.Needs.{needs}
 use Rattle.marker.proofs.inner.marks.sweep_up.Statement.{statement}
 use Rattle.marker.proofs.inner.marks.sweep_up.Tie as tie
 
 abbrev Inv-loop : tie.InvT-loop
-Inv-loop marks₀ targets rest₀ n₀ i₀ marks rest n i = Swept targets marks₀ 0 i n marks × (i ≤ 4096) × HoldsBeyond rest marks
+Inv-loop marks₀ targets rest₀ n₀ p₀ marks rest n p = Swept targets marks₀ 0 (64 * p) n marks × (p ≤ 64) × HoldsBeyond rest marks
 
 abbrev μ-loop : tie.MeasureT-loop
-μ-loop marks₀ targets rest₀ n₀ i₀ marks rest n i = 4096 - i
-
-first-requires : tie.Need-first-requires Inv-loop μ-loop
-first-requires c κs = search needs
+μ-loop marks₀ targets rest₀ n₀ p₀ marks rest n p = 64 - p
 
 loop-holds : tie.Need-loop-holds Inv-loop μ-loop
-loop-holds c = (search up-start, search needs, search needs)
+loop-holds c = (search swept-start, search needs, search needs)
 
-open-out-requires : tie.Need-open-out-requires Inv-loop μ-loop
-open-out-requires c κs = search needs
+sweep-word-up-requires : tie.Need-sweep-word-up-requires Inv-loop μ-loop
+sweep-word-up-requires c κs = search needs
 
 add-n : tie.Need-add-n Inv-loop μ-loop
 add-n c = search needs
 
-add-first : tie.Need-add-first Inv-loop μ-loop
-add-first c = search needs
-
-first-requires-2 : tie.Need-first-requires-2 Inv-loop μ-loop
-first-requires-2 c κs = search needs
+add-p : tie.Need-add-p Inv-loop μ-loop
+add-p c = search needs
 
 loop-less : tie.Need-loop-less Inv-loop μ-loop
 loop-less c = search needs
@@ -52,12 +47,10 @@ sweep-up-spec =
     (tie.spec
     Inv-loop
     μ-loop
-    first-requires
     loop-holds
-    open-out-requires
+    sweep-word-up-requires
     add-n
-    add-first
-    first-requires-2
+    add-p
     loop-less
     loop-again
     same-length

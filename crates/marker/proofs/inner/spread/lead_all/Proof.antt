@@ -1,42 +1,36 @@
 -- `marker::inner::spread::lead_all` meets its contract. Assumes nothing.
 use Prim.Native.Nat.{_-_}
-use Rattle.marker.proofs.Leads.{Leading, lead-start, lead-next, lead-end}
+use Rattle.marker.proofs.Leads.{Led, led-start, led-more, led-end}
 use borrow.Author.Needs.{needs}
 use Rattle.marker.proofs.inner.spread.lead_all.Statement.{statement}
 use Rattle.marker.proofs.inner.spread.lead_all.Tie as tie
 
 abbrev Inv-loop : tie.InvT-loop
-Inv-loop marks targets rest leads₀ i₀ leads i = Leading targets marks leads₀ leads i
+Inv-loop marks targets rest leads₀ p₀ leads p = Led targets marks leads₀ leads p
 
 abbrev μ-loop : tie.MeasureT-loop
-μ-loop marks targets rest leads₀ i₀ leads i = 4096 - i
-
-first-requires : tie.Need-first-requires Inv-loop μ-loop
-first-requires c κs = search needs
+μ-loop marks targets rest leads₀ p₀ leads p = 64 - p
 
 loop-holds : tie.Need-loop-holds Inv-loop μ-loop
-loop-holds c = search lead-start
+loop-holds c = search led-start
 
-lead-from-requires : tie.Need-lead-from-requires Inv-loop μ-loop
-lead-from-requires c κs = search needs
+lead-word-requires : tie.Need-lead-word-requires Inv-loop μ-loop
+lead-word-requires c κs = search needs
 
-add-first : tie.Need-add-first Inv-loop μ-loop
-add-first c = search needs
-
-first-requires-2 : tie.Need-first-requires-2 Inv-loop μ-loop
-first-requires-2 c κs = search needs
+add-p : tie.Need-add-p Inv-loop μ-loop
+add-p c = search needs
 
 loop-less : tie.Need-loop-less Inv-loop μ-loop
 loop-less c = search needs
 
 loop-again : tie.Need-loop-again Inv-loop μ-loop
-loop-again c = search lead-next
+loop-again c = search led-more
 
 same-length : tie.Need-same-length Inv-loop μ-loop
 same-length c = search needs
 
 returns : tie.Need-returns Inv-loop μ-loop
-returns c = search lead-end
+returns c = search led-end
 
 pub lead-all-spec : {M : Type 1} → statement M
 lead-all-spec =
@@ -44,11 +38,9 @@ lead-all-spec =
     (tie.spec
     Inv-loop
     μ-loop
-    first-requires
     loop-holds
-    lead-from-requires
-    add-first
-    first-requires-2
+    lead-word-requires
+    add-p
     loop-less
     loop-again
     same-length

@@ -1,7 +1,6 @@
 -- `words::inner::members::highest` meets its contract. Assumes nothing.
 use lib.Count.{leading-le}
 use Rattle.words.proofs.Bits.{highest-is}
-use borrow.Author.Needs.{needs}
 use native.Mathlib.Omega.{arith}
 use Rattle.words.proofs.inner.members.highest.Statement.{statement}
 use Rattle.words.proofs.inner.members.highest.Tie as tie

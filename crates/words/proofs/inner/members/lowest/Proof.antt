@@ -2,7 +2,6 @@
 use lib.Count.{trailing-le}
 use Rattle.words.proofs.Bits.{lowest-is}
 use native.Mathlib.Omega.{arith}
-use borrow.Author.Needs.{needs}
 use Rattle.words.proofs.inner.members.lowest.Statement.{statement}
 use Rattle.words.proofs.inner.members.lowest.Tie as tie
 
