@@ -2,7 +2,7 @@
 use mathlib.Core.Path.{_≡_, refl, sym, ap, _∙_}
 use mathlib.Core.Logic.{_⊎_, inl, inr, dite}
 use Prim.Native.Nat.{ℕ, zero, suc, _+_, _*_, _-_, _/_, _%_, _^_, _≤_, _<_}
-use native.Mathlib.Nat.{pow-suc, div-eq-of-lt, lt-of-lt-of-le, lt-of-le-of-lt, div-le-self, eq-zero-or-pos, div-one}
+use native.Mathlib.Nat.{pow-suc, div-eq-of-lt, lt-of-lt-of-le, lt-of-le-of-lt, div-le-self, eq-zero-or-pos}
 use native.Mathlib.Decide.{decLt}
 use native.Mathlib.Omega.{arith}
 use lib.Pow.{shr-shr, pow-mono, high}
@@ -49,31 +49,26 @@ module _ (x k : ℕ) where
   from-shifted : (i : ℕ) → k ≤ i → bit x i ≡ bit (x / 2 ^ k) (i - k)
   from-shifted i m = let e : i ≡ k + (i - k) = omega arith in ap (bit x) e ∙ sym (bit-shifted (i - k))
 
-  pub lowest-none : k < 64 → x / 2 ^ k ≡ 0 → LowestFrom x k 64 × (k ≡ 0 → 0 < x → 64 < 64)
-  lowest-none l e = (
-    record {
-      least = omega arith;
-      most = omega arith;
-      none = λ i m n. from-shifted i m ∙ ap (λ (y : ℕ). bit y (i - k)) e ∙ bit-none (i - k);
-      here = λ n. absurd (omega arith);
-    },
-    λ z p. absurd (omega (arith, sym (div-one x) ∙ ap (λ (i : ℕ). x / 2 ^ i) (sym z) ∙ e)),
-  )
+  pub lowest-none : k < 64 → x / 2 ^ k ≡ 0 → LowestFrom x k 64
+  lowest-none l e =
+      record {
+        least = omega arith;
+        most = omega arith;
+        none = λ i m n. from-shifted i m ∙ ap (λ (y : ℕ). bit y (i - k)) e ∙ bit-none (i - k);
+        here = λ n. absurd (omega arith);
+      }
 
-  pub lowest-some : x < 2 ^ 64 → (x / 2 ^ k ≡ 0 → ⊥)
-      → LowestFrom x k (k + trailingZeros 64 (x / 2 ^ k)) × (k ≡ 0 → 0 < x → k + trailingZeros 64 (x / 2 ^ k) < 64)
+  pub lowest-some : x < 2 ^ 64 → (x / 2 ^ k ≡ 0 → ⊥) → LowestFrom x k (k + trailingZeros 64 (x / 2 ^ k))
   lowest-some l f =
       let L = lowest 64 (x / 2 ^ k) (omega arith) (lt-of-le-of-lt (div-le-self x (2 ^ k)) l) in
       let t = trailingZeros 64 (x / 2 ^ k) in
-      let e : bit x (k + t) ≡ 1 = sym (bit-shifted t) ∙ L .here in (
-        record {
-          least = omega arith;
-          most = omega (arith, inside t e);
-          none = λ i m n. from-shifted i m ∙ L .none (i - k) (omega arith);
-          here = λ n. e;
-        },
-        λ z p. inside t e,
-      )
+      let e : bit x (k + t) ≡ 1 = sym (bit-shifted t) ∙ L .here in
+      record {
+        least = omega arith;
+        most = omega (arith, inside t e);
+        none = λ i m n. from-shifted i m ∙ L .none (i - k) (omega arith);
+        here = λ n. e;
+      }
     where
       inside : (t : ℕ) → bit x (k + t) ≡ 1 → k + t < 64
       inside t e = dite (decLt (k + t) 64) (λ m. m) (λ m. absurd (omega (arith, e, bit-past x 64 (k + t) l (omega arith))))

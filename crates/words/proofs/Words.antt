@@ -1,5 +1,5 @@
 -- Members of sets of pairs: added, removed, and looked for. Assumes nothing.
-use mathlib.Core.Path.{_≡_, refl, ap, _∙_}
+use mathlib.Core.Path.{_≡_, ap, _∙_}
 use mathlib.Core.Logic.{dite}
 use mathlib.Core.List.{List}
 use Prim.Native.Nat.{ℕ, _+_, _*_, _-_, _/_, _%_, _^_, _≤_, _<_}
@@ -105,6 +105,9 @@ module _ (w : List ℕ) (p : ℕ) where
     pub first-word-none : 64 ≤ i → FirstWord w p i
     first-word-none f = record { least = N .least; most = N .most; none = N .none; here = λ m. absurd (omega arith) }
 
+pub word-some : {w : List ℕ} {p r : ℕ} → FirstWord w p r → (r ≡ 64 → ⊥) → 0 < getD w r 0
+word-some F f = F .here (omega (arith, F .most))
+
 -- ---- the first pair
 module _ (w : List ℕ) (n : ℕ) (l : n ≤ 4096) where
   pub first-end : n ≡ 4096 → First w n n
@@ -130,17 +133,14 @@ module _ (w : List ℕ) (n : ℕ) (l : n ≤ 4096) where
       pub first-none : q ≡ 64 → First w n 4096
       first-none e = record { least = l; most = omega arith; none = λ i a d. passed i a (omega arith); here = λ m. absurd (omega arith) }
 
-      pub first-there : {y : ℕ} → (q ≡ 64 → ⊥) → LowestFrom (getD w q 0) 0 y → (_≡_ {A = ℕ} 0 0 → 0 < getD w q 0 → y < 64) → First w n (64 * q + y)
+      pub first-there : {y : ℕ} → (q ≡ 64 → ⊥) → LowestFrom (getD w q 0) 0 y → y < 64 → First w n (64 * q + y)
       first-there {y} f M s =
           record {
             least = omega (arith, F .least);
-            most = omega (arith, F .most, below);
+            most = omega (arith, F .most);
             none = λ i a d m. dite (decLt i (64 * q)) (λ h. passed i a h m) (λ h. not-at w q i (omega arith) (M .none (i % 64) (omega arith) (omega arith)) m);
-            here = λ m. member-at w q y below (M .here below);
+            here = λ m. member-at w q y s (M .here s);
           }
-        where
-          below : y < 64
-          below = s refl (F .here (omega (arith, F .most)))
 
 -- ---- each pair is a member of words that have all their bits
 pub all-members : (i : ℕ) → i < 4096 → Member (replicate 64 (2 ^ 64 - 1)) i

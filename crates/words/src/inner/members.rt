@@ -25,7 +25,7 @@ pub fn remove(words: &mut [u64], n: usize)
 // The lowest bit of a word from k on, or 64.
 fn lowest_from(word: u64, k: usize) -> usize
     requires { ⌜ k < 64 ⌝ }
-    ensures { λ r. ⌜ LowestFrom word k r × (k ≡ 0 → 0 < word → r < 64) ⌝ }
+    ensures { λ r. ⌜ LowestFrom word k r ⌝ }
 {
     let rest = word >> k;
     if rest == 0 {
@@ -81,5 +81,5 @@ pub fn first(words: &[u64], n: usize) -> usize
     if next == 64 {
         return 4096;
     }
-    64 * next + lowest_from(words[next], 0)
+    64 * next + lowest(words[next])
 }

@@ -1,5 +1,5 @@
 -- `words::inner::members::first` meets its contract. Assumes nothing.
-use Rattle.words.proofs.Words.{first-end, first-here, first-none, first-there}
+use Rattle.words.proofs.Words.{word-some, first-end, first-here, first-none, first-there}
 use native.Mathlib.Omega.{arith}
 use borrow.Author.Needs.{needs}
 use Rattle.words.proofs.inner.members.first.Statement.{statement}
@@ -38,14 +38,14 @@ returns-3 c = search first-none
 mul-result-2 : tie.Need-mul-result-2
 mul-result-2 c = search needs
 
-mul-lowest-from-2 : tie.Need-mul-lowest-from-2
-mul-lowest-from-2 c = search needs
+mul-lowest : tie.Need-mul-lowest
+mul-lowest c = search needs
 
-shared-slice-read-lowest-from-2 : tie.Need-shared-slice-read-lowest-from-2
-shared-slice-read-lowest-from-2 c = search needs
+shared-slice-read-lowest : tie.Need-shared-slice-read-lowest
+shared-slice-read-lowest c = search needs
 
-lowest-from-requires-2 : tie.Need-lowest-from-requires-2
-lowest-from-requires-2 c κs = search needs
+lowest-requires : tie.Need-lowest-requires
+lowest-requires c κs = search word-some
 
 add-result-2 : tie.Need-add-result-2
 add-result-2 c = search needs
@@ -68,8 +68,8 @@ first-spec =
     first-word-requires
     returns-3
     mul-result-2
-    mul-lowest-from-2
-    shared-slice-read-lowest-from-2
-    lowest-from-requires-2
+    mul-lowest
+    shared-slice-read-lowest
+    lowest-requires
     add-result-2
     returns-4)
