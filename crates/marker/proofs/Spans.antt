@@ -1,20 +1,15 @@
 -- Spans of a list, in the form in which the code meets them. Assumes nothing.
 use mathlib.Core.Path.{_≡_, refl, sym, ap, _∙_}
-use mathlib.Core.Bool.{Bool, true, _&&_}
 use mathlib.Core.Logic.{dite}
 use mathlib.Core.List.{List}
-use Prim.Native.Nat.{ℕ, zero, suc, _+_, _-_, _≤_, _<_}
+use Prim.Native.Nat.{ℕ, zero, suc, _+_, _≤_, _<_}
 use native.Mathlib.Omega.{arith}
 use native.Mathlib.Decide.{ℕ-discrete, decLt}
 use borrow.Author.Tests.{lt-ltb, le-ltb}
-use lib.Dec.{eqb, eqb→eq}
 use lib.ListN.{length, getD, set, length-set, List·getD-eq-default}
-use Rattle.base.specs.Says.{every}
 use Rattle.base.specs.Walks.{pass}
-use Rattle.base.proofs.Says.{every-at}
-use Rattle.base.proofs.Tests.{T-true}
 use Rattle.base.proofs.Walks.{length-pass, pass-at, pass-is}
-use Rattle.marker.specs.Spans.{allAre, among, remade}
+use Rattle.marker.specs.Spans.{among, remade}
 use Rattle.graph.proofs.Stores.{Passing, passing-more}
 
 -- what holds at i and passes from each number to the next holds at j
@@ -25,33 +20,6 @@ up-to P {i} (suc j) l p f = go (ℕ-discrete i (suc j)) (λ h. up-to P j h p (λ
     go : Dec (i ≡ suc j) → (i ≤ j → P j) → P (suc j)
     go (yes e) ih = rw e at p
     go (no e) ih = let z : j + 1 ≡ suc j = omega arith in rw z at (f j (omega arith) (omega arith) (ih (omega arith)))
-
--- ---- the loop that asks whether all elements from a up to b are v: of those below i, r says whether they are
-pub record Alike (v a b : ℕ) (l : List ℕ) (r : Bool) (i : ℕ) : Type 0 where
-  pub least : a ≤ i
-  pub most : i ≤ b
-  pub same : r ≡ allAre v a i l
-
-module _ (v a b : ℕ) (l : List ℕ) where
-  pub alike-start : a ≤ b → Alike v a b l true a
-  unfolding allAre every
-  alike-start h = let z : a - a ≡ 0 = omega arith in record { least = omega arith; most = h; same = rw z }
-
-  pub alike-more : {r : Bool} {i : ℕ} → Alike v a b l r i → i < b → Alike v a b l (r && eqb (getD l i 0) v) (i + 1)
-  unfolding allAre every
-  alike-more {r} {i} A h =
-      let z : i + 1 - a ≡ suc (i - a) = omega (arith, A .least) in
-      let w : a + (i - a) ≡ i = omega (arith, A .least) in
-      record { least = omega (arith, A .least); most = omega arith; same = rw (z, every, w) (ap (λ (x : Bool). x && eqb (getD l i 0) v) (A .same)) }
-
-  pub alike-end : {r : Bool} {i : ℕ} → Alike v a b l r i → b ≤ i → r ≡ allAre v a b l
-  alike-end {i = i} A h = let e : i ≡ b = omega (arith, A .most) in A .same ∙ ap (λ (x : ℕ). allAre v a x l) e
-
-  pub all-at : allAre v a b l ≡ true → (k : ℕ) → a ≤ k → k < b → getD l k 0 ≡ v
-  unfolding allAre
-  all-at e k p q =
-      let z : a + (k - a) ≡ k = omega arith in
-      eqb→eq (getD l k 0) v (rw z at (every-at (λ j. eqb (getD l (a + j) 0) v) (b - a) (k - a) (T-true e) (omega arith)))
 
 -- ---- the elements of a span made anew
 module _ (a b : ℕ) (f : ℕ → ℕ) (i x : ℕ) where
@@ -101,16 +69,6 @@ module _ (a b : ℕ) (f : ℕ → ℕ) where
   remaking-end {d₀} {d} {i} R l =
       pass-is (among a b f) d₀ d (R .done .long)
       (λ j k. dite (decLt j i) (λ m. R .done .before j m) (λ m. R .done .after j (omega arith) ∙ sym (among-after a b f j (getD d₀ j 0) (omega arith))))
-
-  -- what stays as it is need not be made anew
-  pub remade-same : (d : List ℕ) → ((k : ℕ) → a ≤ k → k < b → f (getD d k 0) ≡ getD d k 0) → d ≡ remade a b f d
-  unfolding remade
-  remade-same d h = pass-is (among a b f) d d refl (λ j l. sym (go j (decLt j a) (decLt j b)))
-    where
-      go : (j : ℕ) → Dec (j < a) → Dec (j < b) → among a b f j (getD d j 0) ≡ getD d j 0
-      go j (yes p) q = among-before a b f j (getD d j 0) p
-      go j (no p) (yes q) = among-in a b f j (getD d j 0) (omega arith) q ∙ h j (omega arith) q
-      go j (no p) (no q) = among-after a b f j (getD d j 0) (omega arith)
 
 -- a pass goes on by the elements from i up to j
 pub passing-span : (g : ℕ → ℕ → ℕ) (f : ℕ → ℕ) {d₀ d d₁ : List ℕ} {i j : ℕ} → Passing g d₀ d i → i ≤ j → j ≤ length d → d₁ ≡ remade i j f d

@@ -1,15 +1,10 @@
--- Spans of a list: the elements from one index up to another; and work for each number of a span.
-use mathlib.Core.Bool.{Bool, true, false}
+-- Spans of a list, the elements from one index up to another, and work for each number of a span: how the parts of Algorithm 1 are said. No rule of
+-- document 01 speaks of them.
+use mathlib.Core.Bool.{true, false}
 use mathlib.Core.List.{List}
-use Prim.Native.Nat.{ℕ, zero, suc, _+_, _-_}
-use lib.Dec.{eqb, ltb}
-use lib.ListN.{getD}
-use Rattle.base.specs.Says.{every}
+use Prim.Native.Nat.{ℕ, zero, suc, _+_}
+use lib.Dec.{ltb}
 use Rattle.base.specs.Walks.{pass}
-
--- all elements from a up to b are v
-unfoldable pub allAre : ℕ → ℕ → ℕ → List ℕ → Bool
-allAre v a b l = every (b - a) (λ k. eqb (getD l (a + k) 0) v)
 
 -- f x for the element x at i, if i is from a up to b
 unfoldable pub among : ℕ → ℕ → (ℕ → ℕ) → ℕ → ℕ → ℕ
