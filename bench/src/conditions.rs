@@ -1,5 +1,5 @@
-//! The table of building and checking: the proved code, plain Rust over the same buffers, and Rust over std's
-//! collections, taking turns on the same charts.
+//! The table of building and checking: the proved code, plain Rust over the same buffers (and once more with lists on the heap beside
+//! them), and Rust over std's collections, taking turns on the same charts.
 
 use crate::plain_build;
 use picker_tests::checker::Record;
@@ -95,14 +95,15 @@ fn lines(what: &str, pairs: &[(Chart, Chart)]) {
     }
     let records: Vec<Record> = built.into_iter().map(Record::from).collect();
 
-    let mut plain = lent();
     let mut all: Vec<Contender> = ours::builder(pairs).into_iter().collect();
-    all.push(Box::new(move || {
-        for (old, new) in pairs {
-            black_box(plain_build::build(black_box(old), black_box(new), &mut plain.marks, &mut plain.targets, &mut plain.sets, &mut plain.waiting))
-                .ok();
-        }
-    }));
+    for build in [plain_build::build, plain_build::build_with_lists] {
+        let mut plain = lent();
+        all.push(Box::new(move || {
+            for (old, new) in pairs {
+                black_box(build(black_box(old), black_box(new), &mut plain.marks, &mut plain.targets, &mut plain.sets, &mut plain.waiting)).ok();
+            }
+        }));
+    }
     all.push(Box::new(|| {
         for (old, new) in pairs {
             black_box(algorithms::build(black_box(old), black_box(new)));
@@ -124,20 +125,30 @@ fn lines(what: &str, pairs: &[(Chart, Chart)]) {
     line(&format!("check {what}"), nodes, pairs.len(), turns(all));
 }
 
+/// Proved, plain, over std's collections; a build also with lists on the heap, before the last.
 fn line(what: &str, nodes: usize, pairs: usize, measured: Vec<(f64, f64)>) {
     let micros = |i: usize| format!("{:.2} µs", measured[i].0 / 1000.0 / pairs as f64);
-    match measured.len() {
-        3 => println!("| {what} | {nodes} | {} | {} | {} | {:.2} | {:.3} |", micros(0), micros(1), micros(2), measured[1].1, measured[2].1),
-        _ => println!("| {what} | {nodes} | – | {} | {} | – | – |", micros(0), micros(1)),
-    }
+    let last = measured.len() - 1;
+    let lists = if last == 3 { (micros(2), format!("{:.2}", measured[2].1)) } else { ("".into(), "".into()) };
+    println!(
+        "| {what} | {nodes} | {} | {} | {} | {} | {:.2} | {} | {:.3} |",
+        micros(0),
+        micros(1),
+        lists.0,
+        micros(last),
+        measured[1].1,
+        lists.1,
+        measured[last].1
+    );
 }
 
 pub fn table() {
     println!();
     let random = &mut Random::new(20281);
-    println!("Times are of one pair of charts; nodes are those of its record, on average. Ratios: ours to plain Rust, and to std's collections.\n");
-    println!("| Work | Nodes | Proved | Plain Rust | Over std's collections | Ratio to plain | Ratio to std |");
-    println!("|---|---|---|---|---|---|---|");
+    println!("Times are of one pair of charts; nodes are those of its record, on average. Ratios: ours to plain Rust over the same buffers and no");
+    println!("other memory but a few words, to plain Rust with lists on the heap beside them, and to Rust over std's collections.\n");
+    println!("| Work | Nodes | Proved | Plain Rust | With lists | Over std's collections | Ratio to plain | Ratio with lists | Ratio to std |");
+    println!("|---|---|---|---|---|---|---|---|---|");
     let mut renumbered = Vec::new();
     for places in [8, 16, 32, 64] {
         let pairs: Vec<_> = (0..20).map(|_| drawn::procedures(random, places)).collect();
