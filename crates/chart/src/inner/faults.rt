@@ -1,8 +1,7 @@
 // The first fault of a chart.
 ghost use mathlib.Core.Path.{_≡_};
 ghost use mathlib.Core.Bool.{true, false, _&&_, _||_};
-ghost use mathlib.Core.Option.{none};
-ghost use Prim.Native.Nat.{_-_, _<_, _≤_};
+ghost use Prim.Native.Nat.{_-_, _<_};
 ghost use lib.Dec.{eqb, leb, ltb};
 ghost use Rattle.base.specs.Options.{missing, firstOf};
 ghost use Rattle.base.specs.Tests.{someBelow};
@@ -212,20 +211,16 @@ fn plainly_apart(rows: &[u32], i: usize) -> bool
     opposed(operation_at(rows, i - 1), operation_at(rows, i))
 }
 
-// So many rows from the first on that are plainly apart: in most charts all.
-fn plain_rows(rows: &[u32]) -> usize
+// Whether row i is in conflict with an earlier one: looked for only where it is not plainly apart.
+fn conflicts(rows: &[u32], i: usize) -> bool
+    requires { ⌜ i < size (now rows) ⌝ }
     requires { ⌜ Ascending (now rows) ⌝ }
-    ensures { λ r. ⌜ (r ≤ size (now (rows .entry))) × (firstOf r (conflictFault (now (rows .entry))) ≡ none) ⌝ }
+    ensures { λ r. ⌜ r ≡ someBelow i (clash (now (rows .entry)) i) ⌝ }
 {
-    let n = rows.len() / 6;
-    let mut i = 0;
-    while i < n {
-        if !plainly_apart(rows, i) {
-            return i;
-        }
-        i += 1;
+    if plainly_apart(rows, i) {
+        return false;
     }
-    i
+    in_conflict(rows, i)
 }
 
 // 8, of the first row that is in conflict with an earlier one.
@@ -234,9 +229,9 @@ fn first_conflict(rows: &[u32]) -> Judged
     ensures { λ r. ⌜ told r ≡ firstOf (size (now (rows .entry))) (conflictFault (now (rows .entry))) ⌝ }
 {
     let n = rows.len() / 6;
-    let mut i = plain_rows(rows);
+    let mut i = 0;
     while i < n {
-        if in_conflict(rows, i) {
+        if conflicts(rows, i) {
             return Judged::Faulty {
                 number: 8,
                 position: i,

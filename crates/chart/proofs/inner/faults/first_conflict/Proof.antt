@@ -1,4 +1,4 @@
--- `chart::inner::faults::first_conflict` meets its contract. The invariant: no row passed is in conflict, those that are plainly apart first. Assumes nothing.
+-- `chart::inner::faults::first_conflict` meets its contract. The invariant: no row passed is in conflict. Assumes nothing.
 use Rattle.chart.proofs.Faults.{conflict-here, no-conflict}
 use mathlib.Core.Path.{_≡_, refl, sym, ap, _∙_}
 use mathlib.Core.Option.{none}
@@ -18,17 +18,15 @@ Inv-loop rows n i₀ i = (i ≤ size rows) × (firstOf i (conflictFault rows) �
 abbrev μ-loop : tie.MeasureT-loop
 μ-loop rows n i₀ i = size rows - i
 
-plain-rows-requires : tie.Need-plain-rows-requires Inv-loop μ-loop
-plain-rows-requires c κs = search needs
-
 loop-holds : tie.Need-loop-holds Inv-loop μ-loop
-loop-holds c = c .plain-rows .ensures
+unfolding firstOf
+loop-holds c = search needs
 
-in-conflict-requires : tie.Need-in-conflict-requires Inv-loop μ-loop
-in-conflict-requires c κs = (c .loop-test .taken, c .before .before .before .before .pre)
+conflicts-requires : tie.Need-conflicts-requires Inv-loop μ-loop
+conflicts-requires c κs = (c .loop-test .taken, c .before .before .before .pre)
 
 returns : tie.Need-returns Inv-loop μ-loop
-returns c = conflict-here _ (c .before .before .before .loop .i) (c .before .in-conflict .ensures) (c .if1 .taken) ∙ sym (first-at _ _ (c .before .before .before .loop .i) (c .before .before .loop-test .taken) (c .before .before .before .loop .inv .1) (ap missing (sym (conflict-here _ (c .before .before .before .loop .i) (c .before .in-conflict .ensures) (c .if1 .taken)))))
+returns c = conflict-here _ (c .before .before .before .loop .i) (c .before .conflicts .ensures) (c .if1 .taken) ∙ sym (first-at _ _ (c .before .before .before .loop .i) (c .before .before .loop-test .taken) (c .before .before .before .loop .inv .1) (ap missing (sym (conflict-here _ (c .before .before .before .loop .i) (c .before .conflicts .ensures) (c .if1 .taken)))))
 
 add-i : tie.Need-add-i Inv-loop μ-loop
 add-i c = search needs
@@ -37,7 +35,7 @@ loop-less : tie.Need-loop-less Inv-loop μ-loop
 loop-less c = omega arith
 
 loop-again : tie.Need-loop-again Inv-loop μ-loop
-loop-again c = (omega arith, none-at _ (c .before .before .before .loop .i) (c .before .before .before .loop .inv .1) (no-conflict _ (c .before .before .before .loop .i) (c .before .in-conflict .ensures) (c .if1 .left)))
+loop-again c = (omega arith, none-at _ (c .before .before .before .loop .i) (c .before .before .before .loop .inv .1) (no-conflict _ (c .before .before .before .loop .i) (c .before .conflicts .ensures) (c .if1 .left)))
 
 returns-2 : tie.Need-returns-2 Inv-loop μ-loop
 returns-2 c = none-all _ _ _ (c .before .loop .inv .0) (c .loop-test .left) (c .before .loop .inv .1)
@@ -48,9 +46,8 @@ first-conflict-spec =
     (tie.spec
     Inv-loop
     μ-loop
-    plain-rows-requires
     loop-holds
-    in-conflict-requires
+    conflicts-requires
     returns
     add-i
     loop-less
