@@ -1,21 +1,16 @@
 -- A place is this one if it is one of the places up to this one, and of none before. Assumes nothing.
-use mathlib.Core.Path.{_≡_, refl, sym, _∙_}
-use mathlib.Core.Bool.{Bool, true, false}
+use mathlib.Core.Path.{_≡_}
+use mathlib.Core.Bool.{Bool, _&&_, not}
+use mathlib.Core.Logic.{dite}
 use Prim.Native.Nat.{ℕ, _+_}
+use native.Mathlib.Decide.{ℕ-discrete, decLt}
 use native.Mathlib.Omega.{arith}
 use lib.Dec.{eqb, ltb}
-use borrow.Author.Tests.{ltb-true, ltb-false, eqb-true, eqb-false, lt-ltb, le-ltb, ne-eqb}
+use borrow.Author.Tests.{lt-ltb, le-ltb, eq-eqb, ne-eqb}
 
-module _ (p n : ℕ) {b : Bool} (e : b ≡ ltb p n) where
-  pub before-is-not : b ≡ true → false ≡ eqb p n
-  before-is-not t = let l = ltb-true p n (sym e ∙ t) in sym (ne-eqb p n (λ q. omega arith))
-
-  pub up-to-is : {r : Bool} → b ≡ false → r ≡ ltb p (n + 1) → r ≡ eqb p n
-  up-to-is f h = h ∙ go (eqb p n) refl
-    where
-      go : (t : Bool) → eqb p n ≡ t → ltb p (n + 1) ≡ t
-      go true i = let q = eqb-true p n i in lt-ltb p (n + 1) (omega arith)
-      go false i =
-          let q : p ≡ n → ⊥ = eqb-false p n i in
-          let l = ltb-false p n (sym e ∙ f) in
-          le-ltb p (n + 1) (omega arith)
+pub this-one : (p n : ℕ) {a b : Bool} → a ≡ ltb p n → b ≡ ltb p (n + 1) → not a && b ≡ eqb p n
+this-one p n ea eb =
+    dite (ℕ-discrete p n)
+    (λ e. rw (ea, eb, le-ltb p n (omega arith), lt-ltb p (n + 1) (omega arith), eq-eqb p n e))
+    (λ d. dite (decLt p n) (λ l. rw (ea, lt-ltb p n l, ne-eqb p n d))
+    (λ g. rw (ea, eb, le-ltb p n (omega arith), le-ltb p (n + 1) (omega arith), ne-eqb p n d)))

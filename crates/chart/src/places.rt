@@ -28,10 +28,7 @@ impl OldPlace {
         ensures { λ r. ⌜ r ≡ eqb (self .0) place ⌝ }
     {
         let n = place as u64;
-        if self.below(n) {
-            return false;
-        }
-        self.below(n + 1)
+        !self.below(n) & self.below(n + 1)
     }
 }
 
@@ -48,9 +45,6 @@ impl NewPlace {
         ensures { λ r. ⌜ r ≡ eqb (self .0) place ⌝ }
     {
         let n = place as u64;
-        if self.below(n) {
-            return false;
-        }
-        self.below(n + 1)
+        !self.below(n) & self.below(n + 1)
     }
 }

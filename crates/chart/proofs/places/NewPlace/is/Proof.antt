@@ -1,5 +1,5 @@
 -- `chart::places::NewPlace::is` meets its contract: by two comparisons with n. Assumes nothing.
-use Rattle.chart.proofs.Comparisons.{before-is-not, up-to-is}
+use Rattle.chart.proofs.Comparisons.{this-one}
 use borrow.Author.Needs.{needs}
 use Rattle.chart.proofs.places.NewPlace.is.Statement.{statement}
 use Rattle.chart.proofs.places.NewPlace.is.Tie as tie
@@ -7,17 +7,14 @@ use Rattle.chart.proofs.places.NewPlace.is.Tie as tie
 below-requires : tie.Need-below-requires
 below-requires c κs = search needs
 
-returns : tie.Need-returns
-returns c = before-is-not (c .before .before .args .self .0) (c .before .before .args .place) (c .before .below .ensures) (c .if1 .taken)
-
 add-below : tie.Need-add-below
 add-below c = search needs
 
 below-requires-2 : tie.Need-below-requires-2
 below-requires-2 c κs = search needs
 
-returns-2 : tie.Need-returns-2
-returns-2 c = up-to-is (c .before .before .before .args .self .0) (c .before .before .before .args .place) (c .before .before .below .ensures) (c .before .if1 .left) (c .below2 .ensures)
+returns : tie.Need-returns
+returns c = this-one (c .before .before .args .self .0) (c .before .before .args .place) (c .before .below .ensures) (c .below2 .ensures)
 
 pub is-spec : {M : Type 1} → statement M
-is-spec = tie.close (tie.spec below-requires returns add-below below-requires-2 returns-2)
+is-spec = tie.close (tie.spec below-requires add-below below-requires-2 returns)
