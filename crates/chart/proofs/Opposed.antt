@@ -5,11 +5,11 @@ use mathlib.Core.List.{List, [], _∷_}
 use Prim.Native.Nat.{ℕ, _%_, _<_}
 use native.Mathlib.Decide.{ℕ-discrete, decLt}
 use native.Mathlib.Omega.{arith}
-use borrow.Author.Tests.{eqb-true}
+use borrow.Author.Tests.{eqb-true, eqb-false, not-true}
 use lib.Dec.{eqb}
 use lib.ListN.{getD}
 use Rattle.base.proofs.Lists.{any-false}
-use Rattle.base.proofs.Tests.{T-true}
+use Rattle.base.proofs.Tests.{T-true, and-true}
 use Rattle.chart.specs.declared.operations.Operation.{Operation}
 use Rattle.chart.specs.Operations.{kind, byKind, isAssumption, relation, related, withConstant, right, holds}
 use Rattle.chart.specs.Assumptions.{OppositeCodes, Opposed}
@@ -53,11 +53,19 @@ module _ (f g : Operation) where
       go true false e = absurd (T-true e)
       go false true e = absurd (T-true (sym e))
 
-  pub opposed-codes : f .a ≡ g .a → f .b ≡ g .b → f .c ≡ g .c → (s : ℕ) → ((s ≡ 6 → ⊥) → OppositeCodes (f .code) s)
-      → (s ≡ 6 → ⊥) → eqb s (g .code) ≡ true → (isAssumption f ≡ true) × (isAssumption g ≡ true) × Opposed f g
-  opposed-codes ea eb ec s h n e =
-      let o : OppositeCodes (f .code) (g .code) = subst (OppositeCodes (f .code)) (eqb-true s (g .code) e) (h n) in
-      (o .first, o .second, opposed-by ea eb ec (alike-same (withConstant f) (withConstant g) (o .sort)) (o .relations))
+  pub opposed-codes : (s : ℕ) → ((s ≡ 6 → ⊥) → OppositeCodes (f .code) s)
+      → (((eqb (f .a) (g .a) && eqb (f .b) (g .b)) && eqb (f .c) (g .c)) && not (eqb s 6)) && eqb s (g .code) ≡ true
+      → (isAssumption f ≡ true) × (isAssumption g ≡ true) × Opposed f g
+  opposed-codes s h t =
+      let (t, e) = and-true _ _ t in
+      let (t, n) = and-true _ _ t in
+      let (t, c) = and-true _ _ t in
+      let (a, b) = and-true _ _ t in
+      let o : OppositeCodes (f .code) (g .code) = subst (OppositeCodes (f .code)) (eqb-true s (g .code) e) (h (eqb-false s 6 (not-true _ n))) in (
+        o .first,
+        o .second,
+        opposed-by (eqb-true _ _ a) (eqb-true _ _ b) (eqb-true _ _ c) (alike-same (withConstant f) (withConstant g) (o .sort)) (o .relations),
+      )
 
   -- no trial meets both, and none fails both
   neither : (b h : Bool) → alike b (not h) && alike b h ≡ false

@@ -5,7 +5,7 @@ ghost use mathlib.Core.Logic.{_↔_};
 ghost use Rattle.base.specs.Lists.{any};
 ghost use Rattle.chart.specs.Operations.{isAssumption, withConstant, right, holds};
 ghost use Rattle.chart.specs.Assumptions.{Operands, Means, OppositeCodes, Opposed, ExactlyOne};
-ghost use Rattle.chart.specs.Trials.{alike, partner, compares, inside, own, paired, fixed, disjoint, independent, canBeBelow, canBeAbove, seats, trial, points, repeated, shown, shownBy, meetsBoth, together, never, exclusive, implication};
+ghost use Rattle.chart.specs.Trials.{alike, partner, compares, inside, own, paired, fixed, disjoint, independent, canBeBelow, canBeAbove, seats, trial, points, repeated, shown, shownBy, meetsBoth, together, exclusive, implication};
 use crate::inner::meaning::related;
 use crate::inner::meaning::when_above;
 use crate::inner::meaning::when_below;
@@ -310,18 +310,12 @@ fn together(f: Operation, p: bool, g: Operation, q: bool) -> bool
     sought(f, p, g, q)
 }
 
-fn never(f: Operation) -> bool
-    ensures { λ r. ⌜ r ≡ never f ⌝ }
-{
-    !possible(f, true)
-}
-
 // The test of two assumptions: the first never holds, else it implies the second or does not. What it says holds of all 64 values, both ways.
 pub fn implies(f: Operation, g: Operation) -> Implication
     ensures is { λ r. ⌜ r ≡ implication f g ⌝ }
     ensures means { λ r. ⌜ (Operands f → Operands g → Means r f g) ⌝ }
 {
-    if never(f) {
+    if !possible(f, true) {
         return Implication::Never;
     }
     if independent(f, g) {
@@ -362,20 +356,8 @@ fn opposite(code: u32) -> u32
 pub fn opposed(f: Operation, g: Operation) -> bool
     ensures { λ r. ⌜ (r ≡ true → (isAssumption f ≡ true) × (isAssumption g ≡ true) × Opposed f g) ⌝ }
 {
-    if f.a != g.a {
-        return false;
-    }
-    if f.b != g.b {
-        return false;
-    }
-    if f.c != g.c {
-        return false;
-    }
     let s = opposite(f.code);
-    if s == 6 {
-        return false;
-    }
-    s == g.code
+    (f.a == g.a) & (f.b == g.b) & (f.c == g.c) & (s != 6) & (s == g.code)
 }
 
 // Whether exactly one of two assumptions holds, for all values.

@@ -15,7 +15,7 @@ related-requires c κs = search needs
 
 returns : tie.Need-returns
 unfolding holds
-returns c = cc
+returns c = rw (← c .before .before .trial .ensures, ← c .before .right .ensures) (c .related .ensures)
 
 pub holds-spec : {M : Type 1} → statement M
 holds-spec = tie.close (tie.spec trial-requires right-requires related-requires returns)
