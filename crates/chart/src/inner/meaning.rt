@@ -1,31 +1,34 @@
 // What an operation does with values: the value that an assignment writes, and whether an assumption holds.
 ghost use mathlib.Core.Path.{_≡_};
 ghost use mathlib.Core.Bool.{true};
+ghost use Prim.Native.Nat.{_<_};
 ghost use lib.ListN.{length};
 ghost use Rattle.chart.specs.Operations.{isAssignment, operandsFit, value, related, right, holds};
 ghost use Rattle.chart.specs.Runs.{var};
 use crate::operations::Operation;
 use crate::operations::with_constant;
 
+// The value of variable k.
+fn held(values: &[u32], k: u32) -> u32
+    requires { ⌜ (k < 64) × (length (now values) ≡ 64) ⌝ }
+    ensures { λ r. ⌜ r ≡ var (now (values .entry)) k ⌝ }
+{
+    let at = k as usize;
+    values[at]
+}
+
 pub fn value(o: Operation, values: &[u32]) -> u32
     requires { ⌜ (isAssignment o ≡ true) × (operandsFit o ≡ true) × (length (now values) ≡ 64) ⌝ }
     ensures { λ r. ⌜ r ≡ value o (var (now (values .entry))) ⌝ }
 {
     let code = o.code;
-    let b = o.b as usize;
     match code {
         0 => o.c,
-        1 => values[b],
-        2 => std::num::wrapping_add_u32(values[b], o.c),
-        3 => {
-            let c = o.c as usize;
-            std::num::wrapping_add_u32(values[b], values[c])
-        }
-        4 => {
-            let c = o.c as usize;
-            std::num::wrapping_sub_u32(values[b], values[c])
-        }
-        _ => std::num::wrapping_sub_u32(0, values[b]),
+        1 => held(values, o.b),
+        2 => std::num::wrapping_add_u32(held(values, o.b), o.c),
+        3 => std::num::wrapping_add_u32(held(values, o.b), held(values, o.c)),
+        4 => std::num::wrapping_sub_u32(held(values, o.b), held(values, o.c)),
+        _ => std::num::wrapping_sub_u32(0, held(values, o.b)),
     }
 }
 
@@ -89,14 +92,12 @@ fn right(o: Operation, values: &[u32]) -> u32
     if with_constant(o) {
         return o.c;
     }
-    let b = o.b as usize;
-    values[b]
+    held(values, o.b)
 }
 
 pub fn holds(o: Operation, values: &[u32]) -> bool
     requires { ⌜ (operandsFit o ≡ true) × (length (now values) ≡ 64) ⌝ }
     ensures { λ r. ⌜ r ≡ holds o (var (now (values .entry))) ⌝ }
 {
-    let a = o.a as usize;
-    related(o.code % 8, values[a], right(o, values))
+    related(o.code % 8, held(values, o.a), right(o, values))
 }
