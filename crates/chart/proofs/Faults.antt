@@ -23,29 +23,6 @@ use Rattle.chart.specs.Trials.{exclusive}
 use Rattle.chart.specs.Lookup.{Ascending}
 use Rattle.chart.proofs.Opposed.{opposed-one}
 
--- ---- faults 1 and 2
-module _ (C : Chart) where
-  pub no-places : C .places ≡ 0 → some (record { number = 1; position = 0 }) ≡ countFault C
-  unfolding countFault
-  no-places e = rw (eq-eqb (C .places) 0 e)
-
-  pub no-rows : size (C .table) ≡ 0 → some (record { number = 1; position = 0 }) ≡ countFault C
-  unfolding countFault
-  no-rows e = rw (eq-eqb (size (C .table)) 0 e, or-true (eqb (C .places) 0))
-
-  module _ (p : C .places ≡ 0 → ⊥) (r : size (C .table) ≡ 0 → ⊥) where
-    pub many-places : 64 < C .places → some (record { number = 2; position = 0 }) ≡ countFault C
-    unfolding countFault
-    many-places l = rw (ne-eqb (C .places) 0 p, ne-eqb (size (C .table)) 0 r, lt-ltb 64 (C .places) l)
-
-    pub many-rows : 128 < size (C .table) → some (record { number = 2; position = 0 }) ≡ countFault C
-    unfolding countFault
-    many-rows l = rw (ne-eqb (C .places) 0 p, ne-eqb (size (C .table)) 0 r, lt-ltb 128 (size (C .table)) l, or-true (ltb 64 (C .places)))
-
-    pub counted : C .places ≤ 64 → size (C .table) ≤ 128 → none ≡ countFault C
-    unfolding countFault
-    counted l m = rw (ne-eqb (C .places) 0 p, ne-eqb (size (C .table)) 0 r, le-ltb 64 (C .places) l, le-ltb 128 (size (C .table)) m)
-
 -- ---- fault 5
 module _ (t : List ℕ) (i : ℕ) where
   pub first-row : i ≡ 0 → false ≡ ltb (from t i) (fromBefore t i)
@@ -73,14 +50,14 @@ module _ (C : Chart) (i : ℕ) (s d : Bool) (es : s ≡ leb (C .places) (from (C
       rw (sym es ∙ zs, sym ed ∙ zd, ap isKnown (sym eo) ∙ b .0, ap operandsFit (sym eo) ∙ b .1)
 
   module _ (k : Bool) (ek : k ≡ isKnown o) where
-    pub row-unknown : not k ≡ true → some (record { number = 6; position = i }) ≡ rowFault C i
+    pub row-unknown : k ≡ false → some (record { number = 6; position = i }) ≡ rowFault C i
     unfolding rowFault
-    row-unknown h = rw (sym es ∙ zs, sym ed ∙ zd, ap isKnown (sym eo) ∙ sym ek ∙ not-true k h)
+    row-unknown h = rw (sym es ∙ zs, sym ed ∙ zd, ap isKnown (sym eo) ∙ sym ek ∙ h)
 
-    pub row-unfit : r ≡ false → not k ≡ false → some (record { number = 7; position = i }) ≡ rowFault C i
+    pub row-unfit : r ≡ false → k ≡ true → some (record { number = 7; position = i }) ≡ rowFault C i
     unfolding rowFault
     row-unfit f h =
-        let t : isKnown o ≡ true = sym ek ∙ not-false k h in
+        let t : isKnown o ≡ true = sym ek ∙ h in
         rw (sym es ∙ zs, sym ed ∙ zd, ap isKnown (sym eo) ∙ t, ap operandsFit (sym eo) ∙ and-right (isKnown o) (operandsFit o) (sym er ∙ f) t)
 
 -- ---- conflicts
@@ -99,6 +76,17 @@ place-inside k i x r e h = leb-true k i (and-true (leb k i) x (sym e ∙ not-fal
 pub other-place : (t : List ℕ) (i j : ℕ) → (from t j ≡ from t i → ⊥) → clash t i j ≡ false
 unfolding clash
 other-place t i j n = rw (ne-eqb (from t j) (from t i) n)
+
+-- rows of one place do where they are not assumptions of which exactly one holds
+pub not-both : (a b x : Bool) → a && b ≡ false → false ≡ a && (b && x)
+not-both true b x e = rw e
+not-both false b x e = refl
+
+pub one-place : (t : List ℕ) (i j : ℕ) → from t j ≡ from t i → (f g : Operation) → f ≡ operation t j → g ≡ operation t i
+    → (r : Bool) → r ≡ isAssumption f && (isAssumption g && exclusive f g) → clash t i j ≡ not r
+unfolding clash
+one-place t i j e f g ef eg r h =
+    rw (eq-eqb (from t j) (from t i) e) (ap not (ap₂ (λ f g. isAssumption f && (isAssumption g && exclusive f g)) (sym ef) (sym eg) ∙ sym h))
 
 -- going back from row i, a row of another place ends the search: those before it leave lower places
 pub none-before : (t : List ℕ) → Ascending t → (i j : ℕ) → i < size t → None-since (clash t i) i j → 0 < j → (from t (j - 1) ≡ from t i → ⊥)

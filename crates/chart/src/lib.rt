@@ -1,8 +1,9 @@
 // Charts: what a chart is, what its operations mean, when it is faulty. Here stand the entry points, which refuse bad input themselves;
 // `inner` is what the crates above may call once a chart is known to be faultless.
 ghost use mathlib.Core.Path.{_≡_};
-ghost use mathlib.Core.Bool.{true};
-ghost use Rattle.chart.specs.Charts.{charted};
+ghost use mathlib.Core.Bool.{true, cond};
+ghost use mathlib.Core.List.{[]};
+ghost use Rattle.chart.specs.Charts.{charted, leaving};
 ghost use Rattle.chart.specs.Faults.{refusal, told, writtenBy, toldWritten, metBy, toldMet};
 ghost use Rattle.chart.specs.Lookup.{openTo, lookup};
 use assumptions::Implication;
@@ -11,9 +12,6 @@ use charts::Judged;
 use operations::Met;
 use operations::Operation;
 use operations::Written;
-use places::NewPlace;
-use places::OldPlace;
-use places::Place;
 
 pub mod places; // places.rt: places of the old and of the new chart
 pub mod operations; // operations.rt: kinds and operands of operations
@@ -41,6 +39,16 @@ fn open_to(head: Head, rows: &[u32], place: u32) -> bool
     false
 }
 
+// The rows that leave a place of a chart, as a part of its table; an empty part where the chart is faulty or has no such place.
+fn rows_open(head: Head, rows: &[u32], place: u32) -> &[u32]
+    ensures { λ r. ⌜ now r ≡ cond (openTo (charted head (now (rows .entry))) place) (leaving (now (rows .entry)) place) [] ⌝ }
+{
+    if open_to(head, rows, place) {
+        return inner::rows::rows_in(rows, place);
+    }
+    &rows[0..0]
+}
+
 // The rows that leave a place of the chart named (0 old, 1 new), as a part of its table; an empty part where there is no such chart or
 // place, or the chart named is faulty.
 pub fn lookup<'a>(
@@ -54,16 +62,10 @@ pub fn lookup<'a>(
     ensures { λ r. ⌜ now r ≡ lookup (charted old (now («old_rows» .entry))) (charted new (now («new_rows» .entry))) chart place ⌝ }
 {
     if chart == 0 {
-        if open_to(old, old_rows, place) {
-            return inner::rows::rows_sought(old_rows, new_rows, Place::Old(OldPlace(place)));
-        }
-        return &old_rows[0..0];
+        return rows_open(old, old_rows, place);
     }
     if chart == 1 {
-        if open_to(new, new_rows, place) {
-            return inner::rows::rows_sought(old_rows, new_rows, Place::New(NewPlace(place)));
-        }
-        return &new_rows[0..0];
+        return rows_open(new, new_rows, place);
     }
     &old_rows[0..0]
 }

@@ -5,15 +5,20 @@ ghost use Prim.Native.Nat.{_-_, _<_};
 ghost use lib.Dec.{eqb, leb, ltb};
 ghost use Rattle.base.specs.Options.{missing, firstOf};
 ghost use Rattle.base.specs.Tests.{someBelow};
+ghost use Rattle.chart.specs.Operations.{isAssumption};
 ghost use Rattle.chart.specs.Charts.{charted, size, from, to};
 ghost use Rattle.chart.specs.Faults.{told, countFault, alarmFault, fromBefore, rowFault, clash, conflictFault, rowsFault, fault};
 ghost use Rattle.chart.specs.Lookup.{Ascending};
+ghost use Rattle.chart.specs.Trials.{exclusive};
 use crate::assumptions::exactly_one;
 use crate::assumptions::opposed;
 use crate::charts::Head;
 use crate::charts::Judged;
+use crate::inner::rows::from_at;
 use crate::inner::rows::operation_at;
+use crate::inner::rows::to_at;
 use crate::operations;
+use crate::operations::Operation;
 
 pub fn is_faultless(j: Judged) -> bool
     ensures { λ r. ⌜ r ≡ missing (told j) ⌝ }
@@ -33,25 +38,13 @@ fn count_fault(head: Head, rows: &[u32]) -> Judged
     ensures { λ r. ⌜ told r ≡ countFault (charted head (now (rows .entry))) ⌝ }
 {
     let n = rows.len() / 6;
-    if head.places == 0 {
+    if (head.places == 0) | (n == 0) {
         return Judged::Faulty {
             number: 1,
             position: 0,
         };
     }
-    if n == 0 {
-        return Judged::Faulty {
-            number: 1,
-            position: 0,
-        };
-    }
-    if 64 < head.places {
-        return Judged::Faulty {
-            number: 2,
-            position: 0,
-        };
-    }
-    if 128 < n {
+    if (64 < head.places) | (128 < n) {
         return Judged::Faulty {
             number: 2,
             position: 0,
@@ -78,11 +71,7 @@ fn strays(n: u32, rows: &[u32], i: usize) -> bool
     requires { ⌜ i < size (now rows) ⌝ }
     ensures { λ r. ⌜ r ≡ leb n (from (now (rows .entry)) i) || leb n (to (now (rows .entry)) i) ⌝ }
 {
-    let at = i * 6;
-    if n <= rows[at] {
-        return true;
-    }
-    n <= rows[at + 1]
+    (n <= from_at(rows, i)) | (n <= to_at(rows, i))
 }
 
 // Whether row i stands before a row with a lower "from" than the one before it.
@@ -93,8 +82,7 @@ fn descends(rows: &[u32], i: usize) -> bool
     if i == 0 {
         return false;
     }
-    let before = i - 1;
-    rows[i * 6] < rows[before * 6]
+    from_at(rows, i) < from_at(rows, i - 1)
 }
 
 // 4 to 7, of one row.
@@ -118,14 +106,14 @@ fn row_fault(head: Head, rows: &[u32], i: usize) -> Judged
     if operations::is_right(o) {
         return Judged::Faultless;
     }
-    if !operations::is_known(o) {
+    if operations::is_known(o) {
         return Judged::Faulty {
-            number: 6,
+            number: 7,
             position: i,
         };
     }
     Judged::Faulty {
-        number: 7,
+        number: 6,
         position: i,
     }
 }
@@ -146,23 +134,14 @@ fn first_row_fault(head: Head, rows: &[u32]) -> Judged
     Judged::Faultless
 }
 
-// Whether row i and the earlier row j, which leave the same place, are not two assumptions of which exactly one holds.
-fn clashes(rows: &[u32], i: usize, j: usize) -> bool
-    requires { ⌜ (i < size (now rows)) × (j < size (now rows)) ⌝ }
-    ensures { λ r. ⌜ r ≡ clash (now (rows .entry)) i j ⌝ }
+// Whether two operations are assumptions of which exactly one holds.
+fn one_of(f: Operation, g: Operation) -> bool
+    ensures { λ r. ⌜ r ≡ isAssumption f && (isAssumption g && exclusive f g) ⌝ }
 {
-    if rows[j * 6] != rows[i * 6] {
-        return false;
+    if operations::is_assumption(f) & operations::is_assumption(g) {
+        return exactly_one(f, g);
     }
-    let earlier = operation_at(rows, j);
-    let later = operation_at(rows, i);
-    if !operations::is_assumption(earlier) {
-        return true;
-    }
-    if !operations::is_assumption(later) {
-        return true;
-    }
-    !exactly_one(earlier, later)
+    false
 }
 
 // Whether row i is in conflict with an earlier one: rows of one place stand together, so it is enough to go back to the first of them.
@@ -174,10 +153,10 @@ fn in_conflict(rows: &[u32], i: usize) -> bool
     let mut j = i;
     while 0 < j {
         j -= 1;
-        if rows[j * 6] != rows[i * 6] {
+        if from_at(rows, j) != from_at(rows, i) {
             return false;
         }
-        if clashes(rows, i, j) {
+        if !one_of(operation_at(rows, j), operation_at(rows, i)) {
             return true;
         }
     }
@@ -192,8 +171,7 @@ fn same_place(rows: &[u32], i: usize, k: usize) -> bool
     if i < k {
         return false;
     }
-    let j = i - k;
-    rows[j * 6] == rows[i * 6]
+    from_at(rows, i - k) == from_at(rows, i)
 }
 
 // Whether row i is plainly in no conflict, as nearly every row: the first of its place, or the second and opposed to the first.

@@ -11,6 +11,22 @@ use crate::places::NewPlace;
 use crate::places::OldPlace;
 use crate::places::Place;
 
+// The place that row i leaves.
+pub fn from_at(rows: &[u32], i: usize) -> u32
+    requires { ⌜ i < size (now rows) ⌝ }
+    ensures { λ r. ⌜ r ≡ from (now (rows .entry)) i ⌝ }
+{
+    rows[i * 6]
+}
+
+// The place that it leads to.
+pub fn to_at(rows: &[u32], i: usize) -> u32
+    requires { ⌜ i < size (now rows) ⌝ }
+    ensures { λ r. ⌜ r ≡ to (now (rows .entry)) i ⌝ }
+{
+    rows[i * 6 + 1]
+}
+
 pub fn operation_at(rows: &[u32], i: usize) -> Operation
     requires { ⌜ i < size (now rows) ⌝ }
     ensures { λ r. ⌜ r ≡ operation (now (rows .entry)) i ⌝ }
@@ -29,7 +45,7 @@ pub fn old_to(rows: &[u32], i: usize) -> OldPlace
     requires { ⌜ i < size (now rows) ⌝ }
     ensures { λ r. ⌜ r .0 ≡ to (now (rows .entry)) i ⌝ }
 {
-    OldPlace(rows[i * 6 + 1])
+    OldPlace(to_at(rows, i))
 }
 
 // Where row i of the new table leads.
@@ -37,14 +53,15 @@ pub fn new_to(rows: &[u32], i: usize) -> NewPlace
     requires { ⌜ i < size (now rows) ⌝ }
     ensures { λ r. ⌜ r .0 ≡ to (now (rows .entry)) i ⌝ }
 {
-    NewPlace(rows[i * 6 + 1])
+    NewPlace(to_at(rows, i))
 }
 
-fn same_field(rows: &[u32], i: usize, others: &[u32], j: usize) -> bool
-    requires { ⌜ (i < length (now rows)) × (j < length (now others)) ⌝ }
-    ensures { λ r. ⌜ r ≡ eqb (getD (now (rows .entry)) i 0) (getD (now (others .entry)) j 0) ⌝ }
+// Whether field k of row i of one table and of row j of another are equal.
+fn same_field(rows: &[u32], i: usize, others: &[u32], j: usize, k: usize) -> bool
+    requires { ⌜ (i < size (now rows)) × (j < size (now others)) × (k < 6) ⌝ }
+    ensures { λ r. ⌜ r ≡ eqb (getD (now (rows .entry)) (i * 6 + k) 0) (getD (now (others .entry)) (j * 6 + k) 0) ⌝ }
 {
-    rows[i] == others[j]
+    rows[i * 6 + k] == others[j * 6 + k]
 }
 
 // Whether row i of one table and row j of another have equal operations: compared where they stand, no row is copied.
@@ -52,18 +69,9 @@ pub fn same_operation(rows: &[u32], i: usize, others: &[u32], j: usize) -> bool
     requires { ⌜ (i < size (now rows)) × (j < size (now others)) ⌝ }
     ensures { λ r. ⌜ r ≡ same (operation (now (rows .entry)) i) (operation (now (others .entry)) j) ⌝ }
 {
-    let a = i * 6;
-    let b = j * 6;
-    if !same_field(rows, a + 2, others, b + 2) {
-        return false;
-    }
-    if !same_field(rows, a + 3, others, b + 3) {
-        return false;
-    }
-    if !same_field(rows, a + 4, others, b + 4) {
-        return false;
-    }
-    same_field(rows, a + 5, others, b + 5)
+    same_field(rows, i, others, j, 2)
+        & (same_field(rows, i, others, j, 3)
+            & (same_field(rows, i, others, j, 4) & same_field(rows, i, others, j, 5)))
 }
 
 // The first row whose "from" is not below the place, or the count of rows.
@@ -75,7 +83,7 @@ fn lower(rows: &[u32], place: u32) -> usize
     let mut high = rows.len() / 6;
     while low < high {
         let middle = low + (high - low) / 2;
-        if rows[middle * 6] < place {
+        if from_at(rows, middle) < place {
             low = middle + 1;
         } else {
             high = middle;
@@ -93,7 +101,7 @@ fn past(rows: &[u32], place: u32, first: usize) -> usize
     let n = rows.len() / 6;
     let mut i = first;
     while i < n {
-        if rows[i * 6] != place {
+        if from_at(rows, i) != place {
             return i;
         }
         i += 1;
@@ -111,23 +119,13 @@ fn part(rows: &[u32], first: usize, end: usize) -> &[u32]
     &rows[a..e]
 }
 
-fn rows_in(rows: &[u32], place: u32) -> &[u32]
+// The rows that leave a place, as a part of their table: sought there, for whoever has no index.
+pub fn rows_in(rows: &[u32], place: u32) -> &[u32]
     requires { ⌜ Ascending (now rows) ⌝ }
     ensures { λ r. ⌜ now r ≡ leaving (now (rows .entry)) place ⌝ }
 {
     let first = lower(rows, place);
     part(rows, first, past(rows, place, first))
-}
-
-// The rows that leave a place of either chart, as a part of that chart's table: sought there, for whoever has no index.
-pub fn rows_sought<'a>(old: &'a [u32], new: &'a [u32], place: Place) -> &'a [u32]
-    requires { ⌜ Ascending (tableOf place (now old) (now new)) ⌝ }
-    ensures { λ r. ⌜ now r ≡ leaving (tableOf place (now (old .entry)) (now (new .entry))) (numberOf place) ⌝ }
-{
-    match place {
-        Place::Old(p) => rows_in(old, p.0),
-        Place::New(q) => rows_in(new, q.0),
-    }
 }
 
 // The index of two tables, made once, so that no lookup after it has to search.

@@ -2,7 +2,7 @@
 use mathlib.Core.Path.{refl, sym, _∙_}
 use Rattle.base.proofs.Tests.{None-since, none-here, some-here, none-left}
 use Rattle.chart.specs.Faults.{clash}
-use Rattle.chart.proofs.Faults.{none-before}
+use Rattle.chart.proofs.Faults.{none-before, one-place}
 use borrow.Author.Needs.{needs}
 use native.Mathlib.Omega.{arith}
 use Rattle.chart.proofs.inner.faults.in_conflict.Statement.{statement}
@@ -20,38 +20,32 @@ loop-holds c = record { within = omega arith; rest = refl }
 sub-j : tie.Need-sub-j Inv-loop μ-loop
 sub-j c = search needs
 
-mul-if1 : tie.Need-mul-if1 Inv-loop μ-loop
-mul-if1 c = search needs
+from-at-requires : tie.Need-from-at-requires Inv-loop μ-loop
+from-at-requires c κs = search needs
 
-mul-if1-2 : tie.Need-mul-if1-2 Inv-loop μ-loop
-mul-if1-2 c = search needs
-
-shared-slice-read-if1 : tie.Need-shared-slice-read-if1 Inv-loop μ-loop
-shared-slice-read-if1 c = search needs
-
-mul-if1-3 : tie.Need-mul-if1-3 Inv-loop μ-loop
-mul-if1-3 c = search needs
-
-mul-if1-4 : tie.Need-mul-if1-4 Inv-loop μ-loop
-mul-if1-4 c = search needs
-
-shared-slice-read-if1-2 : tie.Need-shared-slice-read-if1-2 Inv-loop μ-loop
-shared-slice-read-if1-2 c = search needs
+from-at-requires-2 : tie.Need-from-at-requires-2 Inv-loop μ-loop
+from-at-requires-2 c κs = search needs
 
 returns : tie.Need-returns Inv-loop μ-loop
-returns c = none-before _ (c .before .before .before .before .before .before .pre .1) _ _ (c .before .before .before .before .before .before .pre .0) (c .before .before .before .before .loop .inv) (c .before .before .before .loop-test .taken) (c .if1 .taken)
+returns c = none-before _ (c .before .before .before .before .before .before .pre .1) _ _ (c .before .before .before .before .before .before .pre .0) (c .before .before .before .before .loop .inv) (c .before .before .before .loop-test .taken) (λ e. c .if1 .taken (c .before .before .from-at .ensures ∙ e ∙ sym (c .before .from-at2 .ensures)))
 
-clashes-requires : tie.Need-clashes-requires Inv-loop μ-loop
-clashes-requires c κs = search needs
+operation-at-requires : tie.Need-operation-at-requires Inv-loop μ-loop
+operation-at-requires c κs = search needs
+
+operation-at-requires-2 : tie.Need-operation-at-requires-2 Inv-loop μ-loop
+operation-at-requires-2 c κs = search needs
+
+one-of-requires : tie.Need-one-of-requires Inv-loop μ-loop
+one-of-requires c κs = search needs
 
 returns-2 : tie.Need-returns-2 Inv-loop μ-loop
-returns-2 c = some-here _ _ _ (c .before .before .before .before .before .before .loop .inv) (c .before .before .before .before .before .loop-test .taken) (sym (c .before .clashes .ensures) ∙ c .if2 .taken)
+returns-2 c = some-here _ _ _ (c .before .before .before .before .before .before .before .before .loop .inv) (c .before .before .before .before .before .before .before .loop-test .taken) (one-place _ _ _ (sym (c .before .before .before .before .before .before .from-at .ensures) ∙ c .before .before .before .before .if1 .left ∙ c .before .before .before .before .before .from-at2 .ensures) _ _ (c .before .before .before .operation-at .ensures) (c .before .before .operation-at2 .ensures) _ (c .before .one-of .ensures) ∙ c .if2 .taken)
 
 loop-less : tie.Need-loop-less Inv-loop μ-loop
 loop-less c = omega arith
 
 loop-again : tie.Need-loop-again Inv-loop μ-loop
-loop-again c = none-here _ _ _ (c .before .before .before .before .before .before .loop .inv) (c .before .before .before .before .before .loop-test .taken) (sym (c .before .clashes .ensures) ∙ c .if2 .left)
+loop-again c = none-here _ _ _ (c .before .before .before .before .before .before .before .before .loop .inv) (c .before .before .before .before .before .before .before .loop-test .taken) (one-place _ _ _ (sym (c .before .before .before .before .before .before .from-at .ensures) ∙ c .before .before .before .before .if1 .left ∙ c .before .before .before .before .before .from-at2 .ensures) _ _ (c .before .before .before .operation-at .ensures) (c .before .before .operation-at2 .ensures) _ (c .before .one-of .ensures) ∙ c .if2 .left)
 
 returns-3 : tie.Need-returns-3 Inv-loop μ-loop
 returns-3 c = none-left _ _ _ (c .before .loop .inv) (λ k l. absurd (omega arith))
@@ -64,14 +58,12 @@ in-conflict-spec =
     μ-loop
     loop-holds
     sub-j
-    mul-if1
-    mul-if1-2
-    shared-slice-read-if1
-    mul-if1-3
-    mul-if1-4
-    shared-slice-read-if1-2
+    from-at-requires
+    from-at-requires-2
     returns
-    clashes-requires
+    operation-at-requires
+    operation-at-requires-2
+    one-of-requires
     returns-2
     loop-less
     loop-again

@@ -32,10 +32,10 @@ is-known-requires : tie.Need-is-known-requires
 is-known-requires c κs = search needs
 
 returns-4 : tie.Need-returns-4
-returns-4 c = search row-unknown
+returns-4 c = search row-unfit
 
 returns-5 : tie.Need-returns-5
-returns-5 c = search row-unfit
+returns-5 c = search row-unknown
 
 pub row-fault-spec : {M : Type 1} → statement M
 row-fault-spec =

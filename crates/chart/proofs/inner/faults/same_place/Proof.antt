@@ -7,36 +7,14 @@ use Rattle.chart.proofs.inner.faults.same_place.Tie as tie
 returns : tie.Need-returns
 returns c = search place-none
 
-mul-result : tie.Need-mul-result
-mul-result c = search needs
+from-at-requires : tie.Need-from-at-requires
+from-at-requires c κs = search needs
 
-mul-result-2 : tie.Need-mul-result-2
-mul-result-2 c = search needs
-
-shared-slice-read-result : tie.Need-shared-slice-read-result
-shared-slice-read-result c = search needs
-
-mul-result-3 : tie.Need-mul-result-3
-mul-result-3 c = search needs
-
-mul-result-4 : tie.Need-mul-result-4
-mul-result-4 c = search needs
-
-shared-slice-read-result-2 : tie.Need-shared-slice-read-result-2
-shared-slice-read-result-2 c = search needs
+from-at-requires-2 : tie.Need-from-at-requires-2
+from-at-requires-2 c κs = search needs
 
 returns-2 : tie.Need-returns-2
-returns-2 c = search place-there
+returns-2 c = rw (c .before .from-at .ensures, c .from-at2 .ensures) (place-there (c .before .before .before .before .args .rows .now) (c .before .before .before .before .args .i) (c .before .before .before .before .args .k) (c .before .before .if1 .left))
 
 pub same-place-spec : {M : Type 1} → statement M
-same-place-spec =
-    tie.close
-    (tie.spec
-    returns
-    mul-result
-    mul-result-2
-    shared-slice-read-result
-    mul-result-3
-    mul-result-4
-    shared-slice-read-result-2
-    returns-2)
+same-place-spec = tie.close (tie.spec returns from-at-requires from-at-requires-2 returns-2)

@@ -13,7 +13,7 @@ abbrev μ-loop : tie.MeasureT-loop
 μ-loop rows place low₀ high₀ low high = high - low
 
 loop-holds : tie.Need-loop-holds Inv-loop μ-loop
-loop-holds c = all-between _ _ (c .pre)
+loop-holds c = all-between _ _ (c .before .pre)
 
 sub-middle : tie.Need-sub-middle Inv-loop μ-loop
 sub-middle c = search needs
@@ -21,14 +21,8 @@ sub-middle c = search needs
 add-middle : tie.Need-add-middle Inv-loop μ-loop
 add-middle c = search needs
 
-mul-if1 : tie.Need-mul-if1 Inv-loop μ-loop
-mul-if1 c = search needs
-
-mul-if1-2 : tie.Need-mul-if1-2 Inv-loop μ-loop
-mul-if1-2 c = search needs
-
-shared-slice-read-if1 : tie.Need-shared-slice-read-if1 Inv-loop μ-loop
-shared-slice-read-if1 c = search needs
+from-at-requires : tie.Need-from-at-requires Inv-loop μ-loop
+from-at-requires c κs = search needs
 
 add-low : tie.Need-add-low Inv-loop μ-loop
 add-low c = search needs
@@ -37,16 +31,16 @@ loop-less : tie.Need-loop-less Inv-loop μ-loop
 loop-less c = omega arith
 
 loop-again : tie.Need-loop-again Inv-loop μ-loop
-loop-again c = upper-half _ _ (c .before .before .before .before .pre) _ (c .before .before .before .loop .inv) (omega arith) (c .if1 .taken)
+loop-again c = upper-half _ _ (c .before .before .before .before .before .pre) _ (c .before .before .before .loop .inv) (omega arith) (rw (c .before .from-at .ensures) at (c .if1 .taken))
 
 loop-less-2 : tie.Need-loop-less-2 Inv-loop μ-loop
 loop-less-2 c = omega arith
 
 loop-again-2 : tie.Need-loop-again-2 Inv-loop μ-loop
-loop-again-2 c = lower-half _ _ (c .before .before .before .before .pre) _ (c .before .before .before .loop .inv) (omega arith) (omega arith) (c .if1 .left)
+loop-again-2 c = lower-half _ _ (c .before .before .before .before .before .pre) _ (c .before .before .before .loop .inv) (omega arith) (omega arith) (rw (c .before .from-at .ensures) at (c .if1 .left))
 
 returns : tie.Need-returns Inv-loop μ-loop
-returns c = met _ _ (c .before .before .pre) (c .before .loop .inv) (c .loop-test .left)
+returns c = met _ _ (c .before .before .before .pre) (c .before .loop .inv) (c .loop-test .left)
 
 pub lower-spec : {M : Type 1} → statement M
 lower-spec =
@@ -57,9 +51,7 @@ lower-spec =
     loop-holds
     sub-middle
     add-middle
-    mul-if1
-    mul-if1-2
-    shared-slice-read-if1
+    from-at-requires
     add-low
     loop-less
     loop-again

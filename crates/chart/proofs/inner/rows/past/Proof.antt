@@ -1,4 +1,5 @@
 -- `chart::inner::rows::past` meets its contract: the rows passed leave the place or a lower one. Assumes nothing.
+use mathlib.Core.Path.{sym, _∙_}
 use Prim.Native.Nat.{_-_}
 use Rattle.chart.specs.Charts.{size}
 use Rattle.chart.proofs.Rows.{Past, past-none, past-more, past-ends}
@@ -14,19 +15,13 @@ abbrev μ-loop : tie.MeasureT-loop
 μ-loop rows place first n i₀ i = size rows - i
 
 loop-holds : tie.Need-loop-holds Inv-loop μ-loop
-loop-holds c = past-none _ _ (c .pre .0) (c .pre .1)
+loop-holds c = past-none _ _ (c .before .pre .0) (c .before .pre .1)
 
-mul-if1 : tie.Need-mul-if1 Inv-loop μ-loop
-mul-if1 c = search needs
-
-mul-if1-2 : tie.Need-mul-if1-2 Inv-loop μ-loop
-mul-if1-2 c = search needs
-
-shared-slice-read-if1 : tie.Need-shared-slice-read-if1 Inv-loop μ-loop
-shared-slice-read-if1 c = search needs
+from-at-requires : tie.Need-from-at-requires Inv-loop μ-loop
+from-at-requires c κs = search needs
 
 returns : tie.Need-returns Inv-loop μ-loop
-returns c = past-ends _ _ (c .before .before .before .before .pre .0) (c .before .before .before .before .pre .1) (c .before .before .before .loop .inv) (λ l e. c .if1 .taken e)
+returns c = past-ends _ _ (c .before .before .before .before .before .pre .0) (c .before .before .before .before .before .pre .1) (c .before .before .before .loop .inv) (λ l e. c .if1 .taken (c .before .from-at .ensures ∙ e))
 
 add-i : tie.Need-add-i Inv-loop μ-loop
 add-i c = search needs
@@ -35,10 +30,10 @@ loop-less : tie.Need-loop-less Inv-loop μ-loop
 loop-less c = omega arith
 
 loop-again : tie.Need-loop-again Inv-loop μ-loop
-loop-again c = past-more _ _ (c .before .before .before .before .pre .0) (c .before .before .before .loop .inv) (c .before .before .loop-test .taken) (c .if1 .left)
+loop-again c = past-more _ _ (c .before .before .before .before .before .pre .0) (c .before .before .before .loop .inv) (c .before .before .loop-test .taken) (sym (c .before .from-at .ensures) ∙ c .if1 .left)
 
 returns-2 : tie.Need-returns-2 Inv-loop μ-loop
-returns-2 c = past-ends _ _ (c .before .before .pre .0) (c .before .before .pre .1) (c .before .loop .inv) (λ l e. absurd (omega arith))
+returns-2 c = past-ends _ _ (c .before .before .before .pre .0) (c .before .before .before .pre .1) (c .before .loop .inv) (λ l e. absurd (omega arith))
 
 pub past-spec : {M : Type 1} → statement M
 past-spec =
@@ -47,9 +42,7 @@ past-spec =
     Inv-loop
     μ-loop
     loop-holds
-    mul-if1
-    mul-if1-2
-    shared-slice-read-if1
+    from-at-requires
     returns
     add-i
     loop-less
