@@ -20,7 +20,7 @@ use Rattle.chart.specs.Charts.{Chart, size, from, to, operation}
 use Rattle.chart.specs.Trials.{exclusive}
 use Rattle.chart.specs.Faults.{Fault, due, countFault, alarmFault, fromBefore, rowFault, clash, conflictFault, rowsFault, fault, refusal}
 use Rattle.chart.specs.Faultless.{FaultlessRow, Apart, FaultlessChart}
-use Rattle.chart.specs.Lookup.{openTo, Ascending}
+use Rattle.chart.specs.Lookup.{openTo, Ascending, Indexable}
 
 -- ---- from the test to what it says
 pub faultless-row : (C : Chart) (i : ℕ) → rowFault C i ≡ none → FaultlessRow C i
@@ -130,6 +130,15 @@ module _ (C : Chart) where
   -- no refusal is due exactly where the chart is faultless
   pub faultless-exactly : (refusal C ≡ none) ↔ FaultlessChart C
   faultless-exactly = (faultless C, no-refusal)
+
+-- the rows of a faultless chart can be indexed
+pub indexable : (C : Chart) → FaultlessChart C → Indexable (C .table)
+indexable C F =
+    record {
+      ascending = ascends C (no-refusal C F);
+      few-rows = F .few-rows;
+      few-places = λ i l. omega (arith, F .rows i l .from-below, F .few-places);
+    }
 
 -- a place that lookup opens is one of a faultless chart
 pub opened : (C : Chart) (p : ℕ) → openTo C p ≡ true → Ascending (C .table)

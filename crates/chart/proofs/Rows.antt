@@ -12,7 +12,7 @@ use lib.Dec.{eqb}
 use lib.ListN.{length, getD, set, take, drop, length-set}
 use lib.Seq.{take-add, drop-drop, getD-set-same, getD-set-other}
 use Rattle.chart.specs.Charts.{size, from, leavingOf, leaving}
-use Rattle.chart.specs.Lookup.{Ascending, Lower, Indexed}
+use Rattle.chart.specs.Lookup.{Ascending, Lower, Indexable, End, Ends, lastOf, Carried, Indexed}
 
 -- rows that do not leave p add nothing
 skip : (t : List ℕ) (p m k : ℕ) → ((j : ℕ) → m ≤ j → j < m + k → from t j ≡ p → ⊥) → leavingOf t p (m + k) ≡ leavingOf t p m
@@ -124,47 +124,115 @@ module _ (t : List ℕ) (p : ℕ) (s : Ascending t) where
 pub lower-first : (t : List ℕ) → Lower t 0 0
 lower-first t = record { inside = omega arith; below = λ k l. absurd (omega arith); reached = λ l. omega arith }
 
--- the entries of the places below p are there; i and j are those of p
-pub record Entered (old new index : List ℕ) (i j p : ℕ) : Type 0 where
-  pub long : length index ≡ 130
-  pub few : p ≤ 65
-  pub old-next : Lower old p i
-  pub new-next : Lower new p j
-  pub olds : (q : ℕ) → q < p → Lower old q (getD index q 0)
-  pub news : (q : ℕ) → q < p → Lower new q (getD index (65 + q) 0)
+-- no row seen, and no entry made
+pub ends-none : (t : List ℕ) (at : ℕ) (e : List ℕ) → length e ≡ 130 → ((p : ℕ) → p ≤ 64 → getD e (at + p) 0 ≡ 0) → Ends t 0 at e e
+ends-none t at e l z =
+    record {
+      long = l;
+      ends = λ p u. rw (z p u) (record { within = omega arith; leaves = λ h. absurd (omega arith); last = λ k h g. absurd (omega arith) });
+      below = λ j h. refl;
+      above = λ j h. refl;
+    }
+
+-- row i is the last one of its place so far
+pub ends-more : (t : List ℕ) (i at : ℕ) (e₀ e : List ℕ) → Ends t i at e₀ e → from t i < 64 → at ≤ 65
+    → Ends t (i + 1) at e₀ (set e (at + from t i + 1) (i + 1))
+ends-more t i at e₀ e E f l =
+    record {
+      long = simp length-set (E .long);
+      ends = λ p u. elim (ℕ-discrete (at + p) (at + from t i + 1)) [
+        | yes s ↦ rw (s, getD-set-same e (at + from t i + 1) (i + 1) 0 (omega (arith, E .long))) (here p (omega arith))
+        | no n ↦ rw (getD-set-other e (at + from t i + 1) (at + p) (i + 1) 0 n) (elsewhere p (λ s. n (omega arith)) (E .ends p u))
+      ];
+      below = λ j h. rw (getD-set-other e (at + from t i + 1) j (i + 1) 0 (λ s. omega arith)) (E .below j h);
+      above = λ j h. rw (getD-set-other e (at + from t i + 1) j (i + 1) 0 (λ s. omega arith)) (E .above j h);
+    }
+  where
+    here : (p : ℕ) → from t i + 1 ≡ p → End t (i + 1) p (i + 1)
+    here p s = let d : i + 1 - 1 ≡ i = omega arith in record { within = omega arith; leaves = λ h. rw d s; last = λ k h g. absurd (omega arith) }
+
+    elsewhere : (p : ℕ) {r : ℕ} → (from t i + 1 ≡ p → ⊥) → End t i p r → End t (i + 1) p r
+    elsewhere p n P =
+        record {
+          within = omega (arith, P .within);
+          leaves = P .leaves;
+          last = λ k h g s. elim (ℕ-discrete k i) [
+            | yes q ↦ n (rw q at s)
+            | no d ↦ P .last k h (let D : k ≡ i → ⊥ = d in omega arith) s
+          ];
+        }
+
+-- ---- a place without rows ends where the one before it ends
+pub carried-none : (at : ℕ) (e : List ℕ) → length e ≡ 130 → Carried e at 0 e
+carried-none at e l = record { long = l; first = λ p h. absurd (omega arith); below = λ j h. refl; above = λ j h. refl }
+
+module _ (e₀ : List ℕ) (at p : ℕ) (e : List ℕ) (C : Carried e₀ at p e) {r : ℕ} where
+  pub last-more : {last : ℕ} → last ≡ lastOf e₀ at p → r ≡ cond (eqb (getD e (at + p) 0) 0) last (getD e (at + p) 0) → r ≡ lastOf e₀ at (p + 1)
+  unfolding lastOf
+  last-more l q = let n : p + 1 ≡ suc p = omega arith in rw (n, ← l, ← C .above (at + p) (omega arith)) q
+
+  pub carried-more : r ≡ lastOf e₀ at (p + 1) → at + p < 130 → Carried e₀ at (p + 1) (set e (at + p) r)
+  carried-more q u =
+      let n : p + 1 ≡ suc p = omega arith in
+      record {
+        long = simp length-set (C .long);
+        first = λ k h. elim (ℕ-discrete k p) [
+          | yes s ↦ rw (s, getD-set-same e (at + p) r 0 (omega (arith, C .long))) (rw n at q)
+          | no d ↦ rw (getD-set-other e (at + p) (at + k) r 0 (λ s. d (omega arith))) (C .first k (let D : k ≡ p → ⊥ = d in omega arith))
+        ];
+        below = λ j h. rw (getD-set-other e (at + p) j r 0 (λ s. omega arith)) (C .below j h);
+        above = λ j h. rw (getD-set-other e (at + p) j r 0 (λ s. omega arith)) (C .above j (omega arith));
+      }
+
+module _ (t : List ℕ) (s : Ascending t) where
+  -- where no row leaves place p, the next place's rows begin where its own would
+  passed : {p last : ℕ} → Lower t p last → End t (size t) (suc p) 0 → Lower t (suc p) last
+  passed {p} {last} L E =
+      record {
+        inside = L .inside;
+        below = λ k u. (let h = L .below k u in omega arith);
+        reached = λ u. (let h = L .reached u in let n : from t last + 1 ≡ suc p → ⊥ = E .last last (omega arith) u in omega arith);
+      }
+
+  -- else they begin after its last one
+  ended : {p r : ℕ} → 0 < r → End t (size t) (suc p) r → Lower t (suc p) r
+  ended {p} {r} z E =
+      let l = E .leaves z in
+      record {
+        inside = E .within;
+        below = λ k u. (let h = s .order k (r - 1) (omega arith) (omega (arith, E .within)) in omega arith);
+        reached = λ u. (let h = s .order (r - 1) r (omega arith) u in let n : from t r + 1 ≡ suc p → ⊥ = E .last r (omega arith) u in omega arith);
+      }
+
+  pub lowers : (at : ℕ) (e : List ℕ) → ((p : ℕ) → p ≤ 64 → End t (size t) p (getD e (at + p) 0)) → (p : ℕ) → p ≤ 64 → Lower t p (lastOf e at (suc p))
+  unfolding lastOf
+  lowers at e E zero u = first (getD e (at + 0) 0) (E 0 u)
+    where
+      first : (r : ℕ) → End t (size t) 0 r → Lower t 0 (cond (eqb r 0) 0 r)
+      first r P =
+          elim (ℕ-discrete r 0) [
+            | yes z ↦ rw z (lower-first t)
+            | no n ↦ absurd (let N : r ≡ 0 → ⊥ = n in let h = P .leaves (omega arith) in omega arith)
+          ]
+  lowers at e E (suc p) u = next (getD e (at + suc p) 0) (lowers at e E p (omega arith)) (E (suc p) u)
+    where
+      next : {last : ℕ} (r : ℕ) → Lower t p last → End t (size t) (suc p) r → Lower t (suc p) (cond (eqb r 0) last r)
+      next r L P =
+          elim (ℕ-discrete r 0) [
+            | yes z ↦ rw (eq-eqb r 0 z) (passed L (rw z at P))
+            | no n ↦ rw (ne-eqb r 0 n) (ended (let N : r ≡ 0 → ⊥ = n in omega arith) P)
+          ]
 
 module _ (old new : List ℕ) where
-  pub entered-none : {index : List ℕ} → length index ≡ 130 → Entered old new index 0 0 0
-  entered-none l =
+  -- both tables' ends are stored, then carried: nothing that is done at one table's entries reaches the other's
+  pub indexed : Indexable old → Indexable new → {e₀ e₁ e₂ e₃ e₄ : List ℕ} → Ends old (size old) 0 e₀ e₁ → Ends new (size new) 65 e₁ e₂
+      → Carried e₂ 0 65 e₃ → Carried e₃ 65 65 e₄ → Indexed old new e₄
+  indexed O N {e₀} {e₁} {e₂} {e₃} {e₄} A B C D =
       record {
-        long = l;
-        few = omega arith;
-        old-next = lower-first old;
-        new-next = lower-first new;
-        olds = λ q u. absurd (omega arith);
-        news = λ q u. absurd (omega arith);
+        olds = λ p u. (let h : getD e₄ p 0 ≡ lastOf e₂ 0 (suc p) = D .below p (omega arith) ∙ (rw zero-add at (C .first p (omega arith))) in
+            rw h (lowers old (O .ascending) 0 e₂ (λ q v. rw (B .below (0 + q) (omega arith)) (A .ends q v)) p u));
+        news = λ p u. rw (D .first p (omega arith)) (lowers new (N .ascending) 65 e₃ (λ q v. rw (C .above (65 + q) (omega arith)) (B .ends q v)) p u);
       }
-
-  pub entered-more : {index : List ℕ} {i j p i2 j2 : ℕ} → Entered old new index i j p → p < 65 → Lower old (p + 1) i2 → Lower new (p + 1) j2
-      → Entered old new (set (set index p i) (65 + p) j) i2 j2 (p + 1)
-  entered-more {index} {i} {j} {p} {i2} {j2} E l a b =
-      record {
-        long = simp length-set (E .long);
-        few = omega arith;
-        old-next = a;
-        new-next = b;
-        olds = λ q u. rw (getD-set-other (set index p i) (65 + p) q j 0 (λ e. omega arith)) (elim (ℕ-discrete q p) [
-          | yes e ↦ rw (e, getD-set-same index p i 0 (omega (arith, E .long))) (E .old-next)
-          | no n ↦ rw (getD-set-other index p q i 0 n) (E .olds q (let m : q ≡ p → ⊥ = n in omega arith))
-        ]);
-        news = λ q u. elim (ℕ-discrete q p) [
-          | yes e ↦ rw (e, getD-set-same (set index p i) (65 + p) j 0 (rw length-set (omega (arith, E .long)))) (E .new-next)
-          | no n ↦ rw (getD-set-other (set index p i) (65 + p) (65 + q) j 0 (let m : q ≡ p → ⊥ = n in λ e. omega arith), getD-set-other index p (65 + q) i 0 (λ e. omega arith)) (E .news q (let m : q ≡ p → ⊥ = n in omega arith))
-        ];
-      }
-
-  pub indexed : {index : List ℕ} {i j p : ℕ} → Entered old new index i j p → 65 ≤ p → Indexed old new index
-  indexed E l = record { olds = λ q u. E .olds q (omega arith); news = λ q u. E .news q (omega arith) }
 
   -- ---- and what is looked up in it
   module _ {index : List ℕ} {p : ℕ} (I : Indexed old new index) (l : p < 64) where

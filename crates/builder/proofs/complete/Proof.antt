@@ -1,12 +1,13 @@
 -- `builder::complete` meets its contract. Assumes nothing.
-use Rattle.builder.proofs.Answering.{indexable, both-left, both-summed}
+use Rattle.chart.proofs.Faultless.{indexable}
+use Rattle.builder.proofs.Answering.{both-left, both-summed}
 use native.Mathlib.Omega.{arith}
 use borrow.Author.Needs.{needs}
 use Rattle.builder.proofs.complete.Statement.{statement}
 use Rattle.builder.proofs.complete.Tie as tie
 
 index-requires : tie.Need-index-requires
-index-requires c κs = indexable _ _ (c .before .before .before .before .before .before .pre .0) (c .before .before .before .before .before .before .pre .1 .0)
+index-requires c κs = (indexable _ (c .before .before .before .before .before .before .pre .0), indexable _ (c .before .before .before .before .before .before .pre .1 .0))
 
 slice-aggregate-explore : tie.Need-slice-aggregate-explore
 slice-aggregate-explore c = search needs

@@ -1,11 +1,12 @@
 // Rows where they stand in a table, and the part of a table that leaves a place.
 ghost use mathlib.Core.Path.{_≡_};
-ghost use Prim.Native.Nat.{_+_, _-_, _*_, _<_, _≤_};
+ghost use mathlib.Core.Bool.{cond};
+ghost use Prim.Native.Nat.{ℕ, _+_, _-_, _*_, _<_, _≤_};
 ghost use lib.Dec.{eqb};
 ghost use lib.ListN.{length, getD, take, drop};
 ghost use Rattle.chart.specs.Operations.{same};
 ghost use Rattle.chart.specs.Charts.{size, from, to, operation, leaving};
-ghost use Rattle.chart.specs.Lookup.{Ascending, Lower, Indexed, tableOf, numberOf};
+ghost use Rattle.chart.specs.Lookup.{Ascending, Lower, Indexable, Ends, Carried, Indexed, tableOf, numberOf};
 use crate::operations::Operation;
 use crate::places::NewPlace;
 use crate::places::OldPlace;
@@ -128,24 +129,54 @@ pub fn rows_in(rows: &[u32], place: u32) -> &[u32]
     part(rows, first, past(rows, place, first))
 }
 
+// Stores after each place the number of the row after its last one, for the places that have rows: a later row of a place wins.
+fn ends(entries: &mut [u8; 130], at: usize, rows: &[u32])
+    requires { ⌜ Indexable (now rows) × (at ≤ 65) ⌝ }
+    requires { ⌜ (length (now entries) ≡ 130) × ((p : ℕ) → p ≤ 64 → getD (now entries) (at + p) 0 ≡ 0) ⌝ }
+    ensures { λ _. ⌜ Ends (now (rows .entry)) (size (now (rows .entry))) at (now (entries .entry)) (now (entries .exit)) ⌝ }
+{
+    let n = rows.len() / 6;
+    let mut i = 0;
+    while i < n {
+        let e = at + from_at(rows, i) as usize + 1;
+        i += 1;
+        entries[e] = i as u8;
+    }
+}
+
+// An entry, or the last one before it that is not 0.
+fn later(last: u8, entry: u8) -> u8
+    ensures { λ r. ⌜ r ≡ cond (eqb entry 0) last entry ⌝ }
+{
+    if entry == 0 { last } else { entry }
+}
+
+// A place without rows ends where the one before it ends.
+fn carry(entries: &mut [u8; 130], at: usize)
+    requires { ⌜ (length (now entries) ≡ 130) × (at ≤ 65) ⌝ }
+    ensures { λ _. ⌜ Carried (now (entries .entry)) at 65 (now (entries .exit)) ⌝ }
+{
+    let mut last: u8 = 0;
+    let mut p = 0;
+    while p < 65 {
+        let e = at + p;
+        last = later(last, entries[e]);
+        entries[e] = last;
+        p += 1;
+    }
+}
+
 // The index of two tables, made once, so that no lookup after it has to search.
 pub fn index(old: &[u32], new: &[u32]) -> [u8; 130]
-    requires { ⌜ Ascending (now old) × (size (now old) ≤ 128) ⌝ }
-    requires { ⌜ Ascending (now new) × (size (now new) ≤ 128) ⌝ }
+    requires { ⌜ Indexable (now old) ⌝ }
+    requires { ⌜ Indexable (now new) ⌝ }
     ensures { λ r. ⌜ Indexed (now (old .entry)) (now (new .entry)) r ⌝ }
 {
     let mut entries = [0u8; 130];
-    let mut i = 0;
-    let mut j = 0;
-    let mut place: u32 = 0;
-    while place < 65 {
-        let at = place as usize;
-        entries[at] = i as u8;
-        entries[65 + at] = j as u8;
-        i = past(old, place, i);
-        j = past(new, place, j);
-        place += 1;
-    }
+    ends(&mut entries, 0, old);
+    ends(&mut entries, 65, new);
+    carry(&mut entries, 0);
+    carry(&mut entries, 65);
     entries
 }
 

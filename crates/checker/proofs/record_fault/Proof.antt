@@ -1,6 +1,6 @@
 -- `checker::record_fault` meets its contract: the shape, then the rules. Assumes nothing.
 use borrow.Author.Tests.{not-true, not-false}
-use Rattle.chart.proofs.Faultless.{ascends, no-refusal}
+use Rattle.chart.proofs.Faultless.{indexable}
 use Rattle.checker.proofs.Answers.{shape-refused, rules-judged, judged}
 use Rattle.checker.specs.Rules.{shaped}
 use Rattle.checker.specs.Records.{recordOf}
@@ -16,7 +16,7 @@ returns : tie.Need-returns
 returns c = shape-refused _ _ (recordOf _ _ _ _) (c .before .shaped .ensures) (not-true _ (c .if1 .taken))
 
 index-requires : tie.Need-index-requires
-index-requires c κs = ((ascends _ (no-refusal _ (c .before .before .before .before .before .before .before .pre .0)), c .before .before .before .before .before .before .before .pre .0 .few-rows), (ascends _ (no-refusal _ (c .before .before .before .before .before .before .before .pre .1 .0)), c .before .before .before .before .before .before .before .pre .1 .0 .few-rows))
+index-requires c κs = (indexable _ (c .before .before .before .before .before .before .before .pre .0), indexable _ (c .before .before .before .before .before .before .before .pre .1 .0))
 
 rule-fault-requires : tie.Need-rule-fault-requires
 rule-fault-requires c κs = (judged _ _ (recordOf _ _ _ _) (c .before .before .before .shaped .ensures) (not-false _ (c .before .before .if1 .left)) (c .before .before .before .before .before .before .before .before .before .pre .0) (c .before .before .before .before .before .before .before .before .before .pre .1 .0) (c .before .before .before .before .before .before .before .before .before .pre .1 .1 .0) (c .before .before .before .before .before .before .before .before .before .pre .1 .1 .1) (c .before .before .before .before .before .before .before .before .before .pre .1 .1 .2), c .before .index .ensures)

@@ -1,73 +1,26 @@
--- `chart::inner::rows::index` meets its contract. The invariant: the entries of the places passed are there. Assumes nothing.
-use Prim.Native.Nat.{_-_}
-use Rattle.chart.proofs.Rows.{Entered, entered-none, entered-more, indexed}
-use borrow.Author.Needs.{needs}
+-- `chart::inner::rows::index` meets its contract: both tables' ends are stored, and carried to the places without rows. Assumes nothing.
+use mathlib.Core.Path.{refl, _∙_}
+use Prim.Native.Nat.{_+_}
+use lib.ListN.{getD-replicate}
+use Rattle.chart.proofs.Rows.{indexed}
 use native.Mathlib.Omega.{arith}
-use mathlib.Core.Path.{refl}
 use Rattle.chart.proofs.inner.rows.index.Statement.{statement}
 use Rattle.chart.proofs.inner.rows.index.Tie as tie
 
-abbrev Inv-loop : tie.InvT-loop
-Inv-loop old new entries₀ i₀ j₀ place₀ entries i j place = Entered old new entries i j place
+ends-requires : tie.Need-ends-requires
+ends-requires c κs = ((c .before .before .before .pre .0, omega arith), (refl, λ p u. getD-replicate 130 (0 + p) 0 0 (omega arith)))
 
-abbrev μ-loop : tie.MeasureT-loop
-μ-loop old new entries₀ i₀ j₀ place₀ entries i j place = 65 - place
+ends-requires-2 : tie.Need-ends-requires-2
+ends-requires-2 c κs = ((c .before .before .before .before .before .pre .1, omega arith), (c .before .ends .ensures .long, λ p u. c .before .ends .ensures .above (65 + p) (omega arith) ∙ getD-replicate 130 (65 + p) 0 0 (omega arith)))
 
-loop-holds : tie.Need-loop-holds Inv-loop μ-loop
-loop-holds c = entered-none _ _ refl
+carry-requires : tie.Need-carry-requires
+carry-requires c κs = (c .before .ends2 .ensures .long, omega arith)
 
-cast-at : tie.Need-cast-at Inv-loop μ-loop
-cast-at c = search needs
+carry-requires-2 : tie.Need-carry-requires-2
+carry-requires-2 c κs = (c .before .carry .ensures .long, omega arith)
 
-cast-entries : tie.Need-cast-entries Inv-loop μ-loop
-cast-entries c = search needs
-
-array-write-entries : tie.Need-array-write-entries Inv-loop μ-loop
-array-write-entries c = search needs
-
-cast-entries-2 : tie.Need-cast-entries-2 Inv-loop μ-loop
-cast-entries-2 c = search needs
-
-add-entries : tie.Need-add-entries Inv-loop μ-loop
-add-entries c = search needs
-
-array-write-entries-2 : tie.Need-array-write-entries-2 Inv-loop μ-loop
-array-write-entries-2 c = search needs
-
-past-requires : tie.Need-past-requires Inv-loop μ-loop
-past-requires c κs = (c .before .before .before .before .pre .0 .0, c .before .loop .inv .old-next)
-
-past-requires-2 : tie.Need-past-requires-2 Inv-loop μ-loop
-past-requires-2 c κs = (c .before .before .before .before .before .pre .1 .0, c .before .before .loop .inv .new-next)
-
-add-place : tie.Need-add-place Inv-loop μ-loop
-add-place c = search needs
-
-loop-less : tie.Need-loop-less Inv-loop μ-loop
-loop-less c = omega arith
-
-loop-again : tie.Need-loop-again Inv-loop μ-loop
-loop-again c = entered-more _ _ (c .before .before .before .loop .inv) (c .before .before .loop-test .taken) (c .before .past .ensures) (c .past2 .ensures)
-
-returns : tie.Need-returns Inv-loop μ-loop
-returns c = indexed _ _ (c .before .loop .inv) (c .loop-test .left)
+returns : tie.Need-returns
+returns c = indexed _ _ (c .before .before .before .before .before .before .before .before .before .before .pre .0) (c .before .before .before .before .before .before .before .before .before .before .pre .1) (c .before .before .before .before .before .before .ends .ensures) (c .before .before .before .before .ends2 .ensures) (c .before .before .carry .ensures) (c .carry2 .ensures)
 
 pub index-spec : {M : Type 1} → statement M
-index-spec =
-    tie.close
-    (tie.spec
-    Inv-loop
-    μ-loop
-    loop-holds
-    cast-at
-    cast-entries
-    array-write-entries
-    cast-entries-2
-    add-entries
-    array-write-entries-2
-    past-requires
-    past-requires-2
-    add-place
-    loop-less
-    loop-again
-    returns)
+index-spec = tie.close (tie.spec ends-requires ends-requires-2 carry-requires carry-requires-2 returns)
