@@ -1,12 +1,12 @@
 -- Which kind each code is, and what follows of an operation's operands. Assumes nothing.
 use mathlib.Core.Path.{_≡_, refl, sym, _∙_}
-use mathlib.Core.Bool.{Bool, true, false, cond, _&&_}
+use mathlib.Core.Bool.{Bool, true, false, cond, _&&_, and-assoc}
 use mathlib.Core.List.{[], _∷_}
-use Prim.Native.Nat.{ℕ, _+_, _-_, _%_, _^_, _≤_, _<_}
-use native.Mathlib.Decide.{ℕ-discrete}
+use Prim.Native.Nat.{ℕ, zero, suc, _+_, _-_, _%_, _^_, _≤_, _<_}
+use native.Mathlib.Decide.{ℕ-discrete, decLt}
 use native.Mathlib.Omega.{arith}
 use borrow.Author.Tests.{leb-true, eqb-true}
-use lib.Dec.{eqb, leb}
+use lib.Dec.{eqb, leb, ltb, leb·suc-zero, leb·suc-suc, eqb·suc-zero}
 use lib.ListN.{List·getD-eq-default}
 use Rattle.base.specs.Tests.{within}
 use Rattle.base.proofs.Tests.{within-yes, within-low, within-high, and-true, T-true}
@@ -16,6 +16,16 @@ use Rattle.chart.specs.declared.operations.Kind.the-variants.{Assignment
 use Rattle.chart.specs.declared.operations.Operand.{Operand}
 use Rattle.chart.specs.declared.operations.Operand.the-variants.{Variable, Constant, Unused}
 use Rattle.chart.specs.Operations.{kind, byKind, isKnown, operandB, assignedC, operandC, fits, operandsFit}
+
+-- a number that is not between two others
+outside : (m n x : ℕ) → (m ≤ x → x ≤ n → ⊥) → within m n x ≡ false
+outside m n x h = elim (decLt x m) [
+  | yes l ↦ within-low m n x l
+  | no k ↦ elim (decLt n x) [
+    | yes u ↦ within-high m n x u
+    | no j ↦ absurd (h (omega arith) (omega arith))
+  ]
+]
 
 module _ (x : ℕ) where
   pub assigns : x ≤ 5 → Assignment ≡ kind x
@@ -30,17 +40,10 @@ module _ (x : ℕ) where
   unfolding kind
   variables l u = rw (within-high 0 5 x (omega arith), within-high 16 21 x (omega arith), within-yes 32 37 x l u)
 
-  pub unknown-low : 5 < x → x < 16 → Unknown ≡ kind x
+  -- a code in none of the three runs
+  pub unknown : (x ≤ 5 → ⊥) → (16 ≤ x → x ≤ 21 → ⊥) → (32 ≤ x → x ≤ 37 → ⊥) → Unknown ≡ kind x
   unfolding kind
-  unknown-low l u = rw (within-high 0 5 x l, within-low 16 21 x u, within-low 32 37 x (omega arith))
-
-  pub unknown-middle : 21 < x → x < 32 → Unknown ≡ kind x
-  unfolding kind
-  unknown-middle l u = rw (within-high 0 5 x (omega arith), within-high 16 21 x l, within-low 32 37 x u)
-
-  pub unknown-high : 37 < x → Unknown ≡ kind x
-  unfolding kind
-  unknown-high l = rw (within-high 0 5 x (omega arith), within-high 16 21 x (omega arith), within-high 32 37 x l)
+  unknown f g h = rw (outside 0 5 x (λ _. f), outside 16 21 x g, outside 32 37 x h)
 
   -- the codes of assignments are 0 to 5
   pub assigning : byKind (kind x) true false false false ≡ true → x ≤ 5
@@ -63,20 +66,55 @@ no-more-codes code l =
       | no n ↦ sym (List·getD-eq-default (Constant ∷ Unused ∷ Constant ∷ Variable ∷ Variable ∷ Unused ∷ []) Unused {n = code} (omega arith))
     ]
 
--- ---- a known code with operands that fit, kind by kind
-module _ (o : Operation) (k : Kind) (i : k ≡ kind (o .code)) where
-  pub right-unknown : k ≡ Unknown → false ≡ isKnown o && operandsFit o
-  right-unknown e = rw (sym i ∙ e)
+-- ---- a code that no arm of a match names
+-- what a match knows after an arm for each of the n numbers from m on, if it knew N before
+abbrev NoneOf : Type 0 → ℕ → ℕ → ℕ → Type 0
+NoneOf N m zero x = N
+NoneOf N m (suc n) x = NoneOf N m n x × (x ≡ m + n → ⊥)
 
-  module _ (r : Bool) (h : r ≡ operandsFit o) where
-    pub right-assigns : k ≡ Assignment → r ≡ isKnown o && operandsFit o
-    right-assigns e = rw (sym i ∙ e) h
+module _ (N : Type 0) (m x : ℕ) where
+  arms-before : (n : ℕ) → NoneOf N m n x → N
+  arms-before zero r = r
+  arms-before (suc n) r = arms-before n (r .0)
 
-    pub right-constants : k ≡ ConstantComparison → r ≡ isKnown o && operandsFit o
-    right-constants e = rw (sym i ∙ e) h
+  none-from : (n : ℕ) → NoneOf N m n x → m ≤ x → x < m + n → ⊥
+  none-from zero r l u = omega arith
+  none-from (suc n) r l u = elim (ℕ-discrete x (m + n)) [
+    | yes e ↦ r .1 e
+    | no k ↦ none-from n (r .0) l (omega arith)
+  ]
 
-    pub right-variables : k ≡ VariableComparison → r ≡ isKnown o && operandsFit o
-    right-variables e = rw (sym i ∙ e) h
+module _ (x : ℕ) where
+  abbrev Low : Type 0
+  Low = NoneOf Unit 0 6 x
+
+  abbrev Middle : Type 0
+  Middle = NoneOf Low 16 6 x
+
+  pub no-code : NoneOf Middle 32 6 x → Unknown ≡ kind x
+  no-code r =
+      let q = arms-before Middle 32 x 6 r in
+      let p = arms-before Low 16 x 6 q in
+      unknown x (λ u. none-from Unit 0 x 6 p (omega arith) (omega arith)) (λ l u. none-from Low 16 x 6 q l (omega arith))
+      (λ l u. none-from Middle 32 x 6 r l (omega arith))
+
+-- ---- the tables of what can stand in the places of b and c
+pub at-most-zero : (x : ℕ) → leb x 0 ≡ eqb x 0
+at-most-zero zero = refl
+at-most-zero (suc x) = leb·suc-zero x ∙ sym (eqb·suc-zero x)
+
+pub below-one : (x : ℕ) → ltb x 1 ≡ eqb x 0
+below-one x = leb·suc-suc x 0 ∙ at-most-zero x
+
+-- the code judged with b, and c last
+pub right-by-tables : (o : Operation) → (leb (o .a) 63 && (isKnown o && fits (operandB o) (o .b))) && fits (operandC o) (o .c) ≡ isKnown o && operandsFit o
+unfolding operandsFit
+right-by-tables o = go (isKnown o) (leb (o .a) 63) (fits (operandB o) (o .b)) (fits (operandC o) (o .c))
+  where
+    go : (k a b c : Bool) → (a && (k && b)) && c ≡ k && (a && (b && c))
+    go true a b c = and-assoc a b c
+    go false true b c = refl
+    go false false b c = refl
 
 -- ---- operands that fit
 module _ (o : Operation) (h : operandsFit o ≡ true) where

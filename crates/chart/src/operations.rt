@@ -1,6 +1,8 @@
 // Operations: their kinds and operands, and the answers of the calls that evaluate one.
 ghost use mathlib.Core.Path.{_≡_};
 ghost use mathlib.Core.Bool.{_&&_};
+ghost use Prim.Native.Nat.{ℕ, _^_, _<_};
+ghost use lib.Dec.{leb, ltb};
 ghost use Rattle.chart.specs.Operations.{kind, isKnown, isAssignment, isAssumption, withConstant, operandB, assignedC, operandC, fits, operandsFit};
 
 // The operation of a row: its code "op" and the operands.
@@ -38,7 +40,7 @@ pub enum Met {
     Refused(u32),
 }
 
-// Codes are told apart here and nowhere else.
+// Kinds of codes are told apart here and nowhere else; the tables of limit_b and most_c go by the codes themselves.
 pub fn kind_of(code: u32) -> Kind
     ensures { λ r. ⌜ r ≡ kind code ⌝ }
 {
@@ -162,14 +164,64 @@ pub fn operands_fit(o: Operation) -> bool
     false
 }
 
-// Whether the code is known and every operand is as it wants it. Each kind by itself, so that the kind is found out once.
+// The least number that cannot stand in the place of b; 0 for a code that is not known. By a table of codes and not by their kinds,
+// so that judging a row takes no jump.
+fn limit_b(code: u32) -> u32
+    ensures { λ r. ⌜ ((o : Operation) → o .code ≡ code → (b : ℕ) → ltb b r ≡ isKnown o && fits (operandB o) b) ⌝ }
+{
+    match code {
+        0 => 1,
+        1 => 64,
+        2 => 64,
+        3 => 64,
+        4 => 64,
+        5 => 64,
+        16 => 1,
+        17 => 1,
+        18 => 1,
+        19 => 1,
+        20 => 1,
+        21 => 1,
+        32 => 64,
+        33 => 64,
+        34 => 64,
+        35 => 64,
+        36 => 64,
+        37 => 64,
+        _ => 0,
+    }
+}
+
+// The highest number that can stand in the place of c, by a table likewise.
+fn most_c(code: u32) -> u32
+    ensures { λ r. ⌜ ((o : Operation) → o .code ≡ code → (c : ℕ) → c < 2 ^ 32 → leb c r ≡ fits (operandC o) c) ⌝ }
+{
+    match code {
+        0 => 4294967295,
+        1 => 0,
+        2 => 4294967295,
+        3 => 63,
+        4 => 63,
+        5 => 0,
+        16 => 4294967295,
+        17 => 4294967295,
+        18 => 4294967295,
+        19 => 4294967295,
+        20 => 4294967295,
+        21 => 4294967295,
+        32 => 0,
+        33 => 0,
+        34 => 0,
+        35 => 0,
+        36 => 0,
+        37 => 0,
+        _ => 0,
+    }
+}
+
+// Whether the code is known and every operand is as it wants it.
 pub fn is_right(o: Operation) -> bool
     ensures { λ r. ⌜ r ≡ isKnown o && operandsFit o ⌝ }
 {
-    match kind_of(o.code) {
-        Kind::Assignment => operands_fit(o),
-        Kind::ConstantComparison => operands_fit(o),
-        Kind::VariableComparison => operands_fit(o),
-        Kind::Unknown => false,
-    }
+    (o.a <= 63) & (o.b < limit_b(o.code)) & (o.c <= most_c(o.code))
 }

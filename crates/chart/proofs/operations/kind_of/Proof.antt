@@ -1,6 +1,6 @@
 -- `chart::operations::kind_of` meets its contract: a law for each run of codes. Assumes nothing.
 use native.Mathlib.Omega.{arith}
-use Rattle.chart.proofs.Codes.{assigns, constants, variables, unknown-low, unknown-middle, unknown-high}
+use Rattle.chart.proofs.Codes.{assigns, constants, variables, unknown}
 use Rattle.chart.proofs.operations.kind_of.Statement.{statement}
 use Rattle.chart.proofs.operations.kind_of.Tie as tie
 
@@ -14,13 +14,13 @@ returns-3 : tie.Need-returns-3
 returns-3 c = variables _ (omega arith) (omega arith)
 
 returns-4 : tie.Need-returns-4
-returns-4 c = unknown-low _ (omega arith) (omega arith)
+returns-4 c = unknown _ (λ u. omega arith) (λ l u. omega arith) (λ l u. omega arith)
 
 returns-5 : tie.Need-returns-5
-returns-5 c = unknown-middle _ (omega arith) (omega arith)
+returns-5 c = unknown _ (λ u. omega arith) (λ l u. omega arith) (λ l u. omega arith)
 
 returns-6 : tie.Need-returns-6
-returns-6 c = unknown-high _ (omega arith)
+returns-6 c = unknown _ (λ u. omega arith) (λ l u. omega arith) (λ l u. omega arith)
 
 pub kind-of-spec : {M : Type 1} → statement M
 kind-of-spec = tie.close (tie.spec returns returns-2 returns-3 returns-4 returns-5 returns-6)
