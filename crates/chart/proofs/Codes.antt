@@ -106,12 +106,11 @@ at-most-zero (suc x) = leb·suc-zero x ∙ sym (eqb·suc-zero x)
 pub below-one : (x : ℕ) → ltb x 1 ≡ eqb x 0
 below-one x = leb·suc-suc x 0 ∙ at-most-zero x
 
--- the code judged with b, and c last
-pub right-by-tables : (o : Operation) → (leb (o .a) 63 && (isKnown o && fits (operandB o) (o .b))) && fits (operandC o) (o .c) ≡ isKnown o && operandsFit o
+pub right-by-tables : (o : Operation) → (leb (o .a) 63 && (isKnown o && fits (operandB o) (o .b))) && (isKnown o && fits (operandC o) (o .c)) ≡ isKnown o && operandsFit o
 unfolding operandsFit
 right-by-tables o = go (isKnown o) (leb (o .a) 63) (fits (operandB o) (o .b)) (fits (operandC o) (o .c))
   where
-    go : (k a b c : Bool) → (a && (k && b)) && c ≡ k && (a && (b && c))
+    go : (k a b c : Bool) → (a && (k && b)) && (k && c) ≡ k && (a && (b && c))
     go true a b c = and-assoc a b c
     go false true b c = refl
     go false false b c = refl

@@ -2,7 +2,7 @@
 ghost use mathlib.Core.Path.{_≡_};
 ghost use mathlib.Core.Bool.{_&&_};
 ghost use Prim.Native.Nat.{ℕ, _^_, _<_};
-ghost use lib.Dec.{leb, ltb};
+ghost use lib.Dec.{ltb};
 ghost use Rattle.chart.specs.Operations.{kind, isKnown, isAssignment, isAssumption, withConstant, operandB, assignedC, operandC, fits, operandsFit};
 
 // The operation of a row: its code "op" and the operands.
@@ -40,7 +40,7 @@ pub enum Met {
     Refused(u32),
 }
 
-// Kinds of codes are told apart here and nowhere else; the tables of limit_b and most_c go by the codes themselves.
+// Kinds of codes are told apart here and nowhere else; the tables of limit_b and limit_c go by the codes themselves.
 pub fn kind_of(code: u32) -> Kind
     ensures { λ r. ⌜ r ≡ kind code ⌝ }
 {
@@ -192,29 +192,29 @@ fn limit_b(code: u32) -> u32
     }
 }
 
-// The highest number that can stand in the place of c, by a table likewise.
-fn most_c(code: u32) -> u32
-    ensures { λ r. ⌜ ((o : Operation) → o .code ≡ code → (c : ℕ) → c < 2 ^ 32 → leb c r ≡ fits (operandC o) c) ⌝ }
+// Likewise for c, of which a constant may be any u32. No code that is known has the 0 of the others, so that the table has them all.
+fn limit_c(code: u32) -> u64
+    ensures { λ r. ⌜ ((o : Operation) → o .code ≡ code → (c : ℕ) → c < 2 ^ 32 → ltb c r ≡ isKnown o && fits (operandC o) c) ⌝ }
 {
     match code {
-        0 => 4294967295,
-        1 => 0,
-        2 => 4294967295,
-        3 => 63,
-        4 => 63,
-        5 => 0,
-        16 => 4294967295,
-        17 => 4294967295,
-        18 => 4294967295,
-        19 => 4294967295,
-        20 => 4294967295,
-        21 => 4294967295,
-        32 => 0,
-        33 => 0,
-        34 => 0,
-        35 => 0,
-        36 => 0,
-        37 => 0,
+        0 => 4294967296,
+        1 => 1,
+        2 => 4294967296,
+        3 => 64,
+        4 => 64,
+        5 => 1,
+        16 => 4294967296,
+        17 => 4294967296,
+        18 => 4294967296,
+        19 => 4294967296,
+        20 => 4294967296,
+        21 => 4294967296,
+        32 => 1,
+        33 => 1,
+        34 => 1,
+        35 => 1,
+        36 => 1,
+        37 => 1,
         _ => 0,
     }
 }
@@ -223,5 +223,5 @@ fn most_c(code: u32) -> u32
 pub fn is_right(o: Operation) -> bool
     ensures { λ r. ⌜ r ≡ isKnown o && operandsFit o ⌝ }
 {
-    (o.a <= 63) & (o.b < limit_b(o.code)) & (o.c <= most_c(o.code))
+    (o.a <= 63) & (o.b < limit_b(o.code)) & ((o.c as u64) < limit_c(o.code))
 }
