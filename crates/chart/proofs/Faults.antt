@@ -2,22 +2,22 @@
 use mathlib.Core.Path.{_≡_, refl, sym, ap, ap₂, _∙_}
 use mathlib.Core.Bool.{Bool, true, false, _&&_, _||_, not}
 use mathlib.Core.List.{List}
-use mathlib.Core.Option.{Option, none, some}
-use Prim.Native.Nat.{ℕ, zero, suc, _+_, _-_, _≤_, _<_}
+use mathlib.Core.Option.{none, some}
+use Prim.Native.Nat.{ℕ, zero, suc, _-_, _≤_, _<_}
 use native.Mathlib.Decide.{ℕ-discrete}
 use native.Mathlib.Omega.{arith}
 use mathlib.Core.Logic.{dite}
-use borrow.Author.Tests.{eq-eqb, ne-eqb, lt-ltb, le-ltb, le-leb, lt-leb, leb-true, eqb-false, not-true, not-false}
+use borrow.Author.Tests.{eq-eqb, ne-eqb, le-ltb, le-leb, lt-leb, leb-true, eqb-false, not-true, not-false}
 use lib.Dec.{eqb, leb, ltb}
 use lib.ListN.{length}
-use Rattle.base.specs.Answers.{Answer, given, refused}
-use Rattle.base.specs.Options.{when, orElse, missing}
+use Rattle.base.specs.Answers.{given, refused}
+use Rattle.base.specs.Options.{missing}
 use Rattle.base.specs.Tests.{someBelow}
-use Rattle.base.proofs.Tests.{T-true, or-true, and-true, None-since, none-here, none-left}
+use Rattle.base.proofs.Tests.{T-true, and-true, None-since, none-here, none-left}
 use Rattle.chart.specs.declared.operations.Operation.{Operation}
 use Rattle.chart.specs.Operations.{isKnown, isAssumption, operandsFit}
 use Rattle.chart.specs.Charts.{Chart, size, from, to, operation}
-use Rattle.chart.specs.Faults.{Fault, due, countFault, fromBefore, rowFault, clash, conflictFault, operationFault, unless}
+use Rattle.chart.specs.Faults.{Fault, due, fromBefore, rowFault, clash, conflictFault, operationFault, unless}
 use Rattle.chart.specs.Assumptions.{Opposed}
 use Rattle.chart.specs.Trials.{exclusive}
 use Rattle.chart.specs.Lookup.{Ascending}

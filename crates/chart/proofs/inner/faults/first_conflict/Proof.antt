@@ -1,6 +1,6 @@
 -- `chart::inner::faults::first_conflict` meets its contract. The invariant: no row passed is in conflict. Assumes nothing.
 use Rattle.chart.proofs.Faults.{conflict-here, no-conflict}
-use mathlib.Core.Path.{_≡_, refl, sym, ap, _∙_}
+use mathlib.Core.Path.{_≡_, sym, ap, _∙_}
 use mathlib.Core.Option.{none}
 use Prim.Native.Nat.{_≤_, _-_}
 use Rattle.base.specs.Options.{missing, firstOf}
