@@ -11,7 +11,7 @@ use Rattle.base.proofs.Tests.{T-and, T-both, T-or, T-or-l, T-or-r, T-true, is-t
 use Rattle.chart.specs.declared.operations.Operation.{Operation}
 use Rattle.chart.specs.declared.assumptions.Implication.the-variants.{Implied, NotImplied}
 use Rattle.chart.specs.Operations.{withConstant, order, key, relation, related, right, holds}
-use Rattle.chart.specs.Trials.{alike, partner, compares, fixed, disjoint, independent, canBeBelow, canBeAbove, together, never, implication}
+use Rattle.chart.specs.Trials.{alike, partner, compares, fixed, disjoint, independent, canBeBelow, canBeAbove, together, never, exclusive, implication}
 use Rattle.chart.proofs.Order.{Same, related-same, same-self}
 use Rattle.chart.proofs.Trials.{holds-pair}
 use Rattle.chart.proofs.Exact.{Small, alike-self, alike-is, covered-by, found-by}
@@ -187,6 +187,11 @@ module _ (f g : Operation) (hf : f .c < 2 ^ 32) (hg : g .c < 2 ^ 32) (p q : Bool
       back t =
           let (v, Z, a, b) = found-by f g hf hg p q t in
           T-both (together f p f p) (together g q g q) (covered-by f f hf hf v Z a a) (covered-by g g hg hg v Z b b)
+
+-- exactly one of two that have nothing to do with each other
+pub apart-one : (f g : Operation) → f .c < 2 ^ 32 → g .c < 2 ^ 32 → independent f g ≡ true
+    → not (together f true f true && together g true g true) && not (together f false f false && together g false g false) ≡ exclusive f g
+apart-one f g hf hg i = rw (apart-is f g hf hg true true i, apart-is f g hf hg false false i)
 
 -- what f implies that has nothing to do with it: only what always holds
 module _ (f g : Operation) (hf : f .c < 2 ^ 32) (hg : g .c < 2 ^ 32) (i : independent f g ≡ true) (n : never f ≡ false) where

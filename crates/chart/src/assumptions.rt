@@ -300,16 +300,6 @@ fn possible(f: Operation, p: bool) -> bool
         | above(f) & alike(p, when_above(r))
 }
 
-// Whether some values meet f if p says so, else not, and g likewise.
-fn together(f: Operation, p: bool, g: Operation, q: bool) -> bool
-    ensures { λ r. ⌜ r ≡ together f p g q ⌝ }
-{
-    if independent(f, g) {
-        return possible(f, p) & possible(g, q);
-    }
-    sought(f, p, g, q)
-}
-
 // The test of two assumptions: the first never holds, else it implies the second or does not. What it says holds of all 64 values, both ways.
 pub fn implies(f: Operation, g: Operation) -> Implication
     ensures is { λ r. ⌜ r ≡ implication f g ⌝ }
@@ -368,5 +358,9 @@ pub fn exactly_one(f: Operation, g: Operation) -> bool
     if opposed(f, g) {
         return true;
     }
-    !together(f, true, g, true) && !together(f, false, g, false)
+    if independent(f, g) {
+        return !(possible(f, true) & possible(g, true))
+            & !(possible(f, false) & possible(g, false));
+    }
+    !sought(f, true, g, true) && !sought(f, false, g, false)
 }
