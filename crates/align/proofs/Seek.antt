@@ -1,6 +1,6 @@
 -- The loop that looks for the first row of a place that is as sought. Assumes nothing.
 use mathlib.Core.Path.{_≡_, refl, sym, ap, subst, _∙_}
-use mathlib.Core.Bool.{Bool, true, false}
+use mathlib.Core.Bool.{Bool, true, false, cond, _&&_}
 use mathlib.Core.List.{List}
 use mathlib.Core.Option.{none, some}
 use Prim.Native.Nat.{ℕ, zero, suc, _+_, _≤_, _<_}
@@ -8,12 +8,15 @@ use mathlib.Core.Logic.{dite}
 use native.Mathlib.Decide.{decLt}
 use native.Mathlib.Omega.{arith}
 use Rattle.base.specs.Options.{when, missing, firstOf}
+use Rattle.base.proofs.Tests.{and-false}
 use Rattle.base.proofs.Options.{first-at, none-at, none-all, none-everywhere}
 use Rattle.chart.specs.declared.operations.Operation.{Operation}
 use Rattle.chart.specs.Charts.{Chart, size, operation, leaving}
 use Rattle.chart.specs.Faultless.{FaultlessChart}
-use Rattle.chart.specs.Operations.{isAssignment, operandsFit}
-use Rattle.align.specs.Steps.{find}
+use Rattle.chart.specs.Operations.{isAssignment, isAssumption, operandsFit}
+use Rattle.chart.specs.Trials.{never, implies, implication}
+use Rattle.chart.specs.declared.assumptions.Implication.the-variants.{Implied, NotImplied}
+use Rattle.align.specs.Steps.{find, isImplied}
 use Rattle.align.proofs.Onto.{found}
 use Rattle.align.proofs.Agree.{not-assignment}
 use Rattle.align.proofs.Parts.{before-mono, row-of, row-same}
@@ -49,10 +52,29 @@ module _ (rows : List ℕ) (p : Operation → Bool) where
       each zero l = ap (λ (b : Bool). when b 0) (sym e ∙ t)
       each (suc i) l = ap (λ (b : Bool). when b (suc i)) (later (suc i) (omega arith) l)
 
+  -- no operation is
+  pub none-sought : ((o : Operation) → p o ≡ false) → none ≡ find rows p
+  unfolding find
+  none-sought h = sym (none-everywhere (λ k. when (p (operation rows k)) k) (size rows) (λ i l. ap (λ (b : Bool). when b i) (h (operation rows i))))
+
   -- what is found is a row, and as sought
   pub found-inside : (k : ℕ) → some k ≡ find rows p → k < size rows
   found-inside k e = found rows p {P = λ o. p o ≡ true} (λ o t. t) .of k (sym e) .inside
 
+-- ---- what an assumption implies
+-- nothing, where no values meet it
+pub never-implies : (rows : List ℕ) (o : Operation) → never o ≡ true → none ≡ find rows (λ o2. isAssumption o2 && isImplied (implication o o2))
+never-implies rows o n = none-sought rows (λ o2. isAssumption o2 && isImplied (implication o o2)) (λ o2. rw n (and-false (isAssumption o2)))
+
+-- else what all values that meet it meet
+pub met-implies : (o o2 : Operation) → never o ≡ false → implies o o2 ≡ isImplied (implication o o2)
+met-implies o o2 n = rw n (go (implies o o2))
+  where
+    go : (b : Bool) → b ≡ isImplied (cond b Implied NotImplied)
+    go true = refl
+    go false = refl
+
+-- ---- the rows of a place of a faultless chart
 -- the operands of a row of a place of a faultless chart fit
 pub part-fits : (C : Chart) (p k : ℕ) → FaultlessChart C → k < size (leaving (C .table) p) → operandsFit (operation (leaving (C .table) p) k) ≡ true
 part-fits C p k F l =

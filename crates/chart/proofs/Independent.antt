@@ -9,9 +9,8 @@ use lib.Dec.{T, T-not, not-T, eqb, ltb, ltb→lt, lt→ltb, eqb→eq}
 use borrow.Author.Tests.{eq-eqb, ne-eqb, eqb-true, not-true, not-false}
 use Rattle.base.proofs.Tests.{T-and, T-both, T-or, T-or-l, T-or-r, T-true, is-true}
 use Rattle.chart.specs.declared.operations.Operation.{Operation}
-use Rattle.chart.specs.declared.assumptions.Implication.the-variants.{Implied, NotImplied}
 use Rattle.chart.specs.Operations.{withConstant, order, key, relation, related, right, holds}
-use Rattle.chart.specs.Trials.{alike, partner, compares, fixed, disjoint, independent, canBeBelow, canBeAbove, together, never, exclusive, implication}
+use Rattle.chart.specs.Trials.{alike, partner, compares, fixed, disjoint, independent, canBeBelow, canBeAbove, together, never, implies, exclusive}
 use Rattle.chart.proofs.Order.{Same, related-same, same-self}
 use Rattle.chart.proofs.Trials.{holds-pair}
 use Rattle.chart.proofs.Exact.{Small, alike-self, alike-is, covered-by, found-by}
@@ -193,16 +192,9 @@ pub apart-one : (f g : Operation) → f .c < 2 ^ 32 → g .c < 2 ^ 32 → indepe
     → not (together f true f true && together g true g true) && not (together f false f false && together g false g false) ≡ exclusive f g
 apart-one f g hf hg i = rw (apart-is f g hf hg true true i, apart-is f g hf hg false false i)
 
--- what f implies that has nothing to do with it: only what always holds
-module _ (f g : Operation) (hf : f .c < 2 ^ 32) (hg : g .c < 2 ^ 32) (i : independent f g ≡ true) (n : never f ≡ false) where
-  left : together f true g false ≡ together g false g false
-  left = sym (apart-is f g hf hg true false i) ∙ rw (not-false (together f true f true) n)
-
-  pub free-not : together g false g false ≡ true → NotImplied ≡ implication f g
-  free-not e = rw (n, left, e)
-
-  pub free-yes : together g false g false ≡ false → Implied ≡ implication f g
-  free-yes e = rw (n, left, e)
+-- what f, which some values meet, implies that has nothing to do with it: only what always holds
+pub apart-implies : (f g : Operation) → f .c < 2 ^ 32 → g .c < 2 ^ 32 → independent f g ≡ true → never f ≡ false → not (together g false g false) ≡ implies f g
+apart-implies f g hf hg i n = rw (← apart-is f g hf hg true false i, not-false (together f true f true) n)
 
 -- two comparisons with constants that are not independent compare one variable
 pub one-shared : (f g : Operation) → independent f g ≡ false → withConstant f ≡ true → withConstant g ≡ true → f .a ≡ g .a

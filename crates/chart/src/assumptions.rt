@@ -5,7 +5,7 @@ ghost use mathlib.Core.Logic.{_↔_};
 ghost use Rattle.base.specs.Lists.{any};
 ghost use Rattle.chart.specs.Operations.{isAssumption, withConstant, right, holds};
 ghost use Rattle.chart.specs.Assumptions.{Operands, Means, OppositeCodes, Opposed, ExactlyOne};
-ghost use Rattle.chart.specs.Trials.{alike, partner, compares, inside, own, paired, fixed, disjoint, independent, canBeBelow, canBeAbove, seats, trial, points, repeated, shown, shownBy, meetsBoth, together, exclusive, implication};
+ghost use Rattle.chart.specs.Trials.{alike, partner, compares, inside, own, paired, fixed, disjoint, independent, canBeBelow, canBeAbove, seats, trial, points, repeated, shown, shownBy, meetsBoth, together, never, implies, exclusive, implication};
 use crate::inner::meaning::related;
 use crate::inner::meaning::when_above;
 use crate::inner::meaning::when_below;
@@ -300,25 +300,35 @@ fn possible(f: Operation, p: bool) -> bool
         | above(f) & alike(p, when_above(r))
 }
 
+// Whether no values meet f.
+pub fn never(f: Operation) -> bool
+    ensures { λ r. ⌜ r ≡ never f ⌝ }
+{
+    !possible(f, true)
+}
+
+// Whether all values that meet f meet g, for an f that some values meet: whoever asks of many g finds that out once.
+pub fn follows(f: Operation, g: Operation) -> bool
+    ensures { λ r. ⌜ (never f ≡ false → r ≡ implies f g) ⌝ }
+{
+    if independent(f, g) {
+        return !possible(g, false);
+    }
+    !sought(f, true, g, false)
+}
+
 // The test of two assumptions: the first never holds, else it implies the second or does not. What it says holds of all 64 values, both ways.
 pub fn implies(f: Operation, g: Operation) -> Implication
     ensures is { λ r. ⌜ r ≡ implication f g ⌝ }
     ensures means { λ r. ⌜ (Operands f → Operands g → Means r f g) ⌝ }
 {
-    if !possible(f, true) {
+    if never(f) {
         return Implication::Never;
     }
-    if independent(f, g) {
-        return if possible(g, false) {
-            Implication::NotImplied
-        } else {
-            Implication::Implied
-        };
+    if follows(f, g) {
+        return Implication::Implied;
     }
-    if sought(f, true, g, false) {
-        return Implication::NotImplied;
-    }
-    Implication::Implied
+    Implication::NotImplied
 }
 
 // The code that compares in the opposite way; 6, which is no code, where there is none.

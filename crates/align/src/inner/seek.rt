@@ -4,11 +4,10 @@ ghost use mathlib.Core.Bool.{false, _&&_};
 ghost use Prim.Native.Nat.{ℕ, _<_};
 ghost use Rattle.chart.specs.Charts.{size, operation};
 ghost use Rattle.chart.specs.Operations.{same, isAssignment, isAssumption};
-ghost use Rattle.chart.specs.Trials.{implication};
+ghost use Rattle.chart.specs.Trials.{never, implication};
 ghost use Rattle.align.specs.Steps.{toldFound, find, isImplied, matching};
 use crate::spots::Found;
 use chart::assumptions;
-use chart::assumptions::Implication;
 use chart::inner::rows::operation_at;
 use chart::inner::rows::same_operation;
 use chart::operations;
@@ -45,22 +44,22 @@ pub fn assignment(rows: &[u32]) -> Found
 
 // Whether o2 is an assumption that o implies, o being one that some values meet.
 fn implies(o: Operation, o2: Operation) -> bool
+    requires { ⌜ never o ≡ false ⌝ }
     ensures { λ r. ⌜ r ≡ isAssumption o2 && isImplied (implication o o2) ⌝ }
 {
     if !operations::is_assumption(o2) {
         return false;
     }
-    match assumptions::implies(o, o2) {
-        Implication::Never => false,
-        Implication::Implied => true,
-        Implication::NotImplied => false,
-    }
+    assumptions::follows(o, o2)
 }
 
-// The assumption that o implies.
+// The assumption that o implies. Whether some values meet o is asked once, for all rows.
 fn implied(rows: &[u32], o: Operation) -> Found
     ensures { λ r. ⌜ toldFound r ≡ find (now (rows .entry)) (λ o2. isAssumption o2 && isImplied (implication o o2)) ⌝ }
 {
+    if assumptions::never(o) {
+        return Found::Nothing;
+    }
     let mut k = 0;
     while k * 6 + 5 < rows.len() {
         if implies(o, operation_at(rows, k)) {

@@ -1,5 +1,6 @@
--- `align::inner::seek::implied` meets its contract. The invariant: no row passed is implied. Assumes nothing.
-use Rattle.align.proofs.Seek.{None-before, none-at-first, found-here, not-here, nowhere}
+-- `align::inner::seek::implied` meets its contract: nothing where no values meet o, else by a loop. The invariant: no row passed is implied. Assumes nothing.
+use mathlib.Core.Path.{sym, _∙_}
+use Rattle.align.proofs.Seek.{None-before, none-at-first, found-here, not-here, nowhere, never-implies}
 use Rattle.chart.specs.Charts.{size}
 use Prim.Native.Nat.{_-_}
 use mathlib.Core.Bool.{_&&_}
@@ -17,6 +18,12 @@ Inv-loop rows o k₀ k = None-before rows (λ o2. isAssumption o2 && isImplied (
 abbrev μ-loop : tie.MeasureT-loop
 μ-loop rows o k₀ k = size rows - k
 
+never-requires : tie.Need-never-requires Inv-loop μ-loop
+never-requires c κs = search needs
+
+returns : tie.Need-returns Inv-loop μ-loop
+returns c = never-implies _ _ (sym (c .before .never .ensures) ∙ c .if1 .taken)
+
 loop-holds : tie.Need-loop-holds Inv-loop μ-loop
 loop-holds c = none-at-first _ _
 
@@ -30,10 +37,10 @@ operation-at-requires : tie.Need-operation-at-requires Inv-loop μ-loop
 operation-at-requires c κs = search needs
 
 implies-requires : tie.Need-implies-requires Inv-loop μ-loop
-implies-requires c κs = search needs
+implies-requires c κs = sym (c .before .before .before .before .never .ensures) ∙ c .before .before .before .if1 .left
 
-returns : tie.Need-returns Inv-loop μ-loop
-returns c = found-here _ _ (c .before .before .before .before .loop .inv) (search needs) (rw (c .before .before .operation-at .ensures) at (c .before .implies .ensures)) (c .if1 .taken)
+returns-2 : tie.Need-returns-2 Inv-loop μ-loop
+returns-2 c = found-here _ _ (c .before .before .before .before .loop .inv) (search needs) (rw (c .before .before .operation-at .ensures) at (c .before .implies .ensures)) (c .if2 .taken)
 
 add-k : tie.Need-add-k Inv-loop μ-loop
 add-k c = search needs
@@ -42,10 +49,10 @@ loop-less : tie.Need-loop-less Inv-loop μ-loop
 loop-less c = omega arith
 
 loop-again : tie.Need-loop-again Inv-loop μ-loop
-loop-again c = not-here _ _ (c .before .before .before .before .loop .inv) (search needs) (rw (c .before .before .operation-at .ensures) at (c .before .implies .ensures)) (c .if1 .left)
+loop-again c = not-here _ _ (c .before .before .before .before .loop .inv) (search needs) (rw (c .before .before .operation-at .ensures) at (c .before .implies .ensures)) (c .if2 .left)
 
-returns-2 : tie.Need-returns-2 Inv-loop μ-loop
-returns-2 c = nowhere _ _ (c .before .loop .inv) (omega arith)
+returns-3 : tie.Need-returns-3 Inv-loop μ-loop
+returns-3 c = nowhere _ _ (c .before .loop .inv) (omega arith)
 
 pub implied-spec : {M : Type 1} → statement M
 implied-spec =
@@ -53,13 +60,15 @@ implied-spec =
     (tie.spec
     Inv-loop
     μ-loop
+    never-requires
+    returns
     loop-holds
     mul-loop
     add-loop
     operation-at-requires
     implies-requires
-    returns
+    returns-2
     add-k
     loop-less
     loop-again
-    returns-2)
+    returns-3)
