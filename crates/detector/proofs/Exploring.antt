@@ -1,13 +1,12 @@
 -- The loop of a build's turns, in the form in which the code meets it. Assumes nothing.
-use mathlib.Core.Path.{_≡_, refl, sym, ap, subst, _∙_}
-use mathlib.Core.Bool.{true}
+use mathlib.Core.Path.{_≡_, refl, sym, ap, _∙_}
 use mathlib.Core.List.{List}
 use mathlib.Core.Option.{some}
-use Prim.Native.Nat.{ℕ, _^_, _≤_, _<_}
+use Prim.Native.Nat.{ℕ, _^_, _<_}
 use native.Mathlib.Omega.{arith}
 use lib.ListN.{length, set, replicate}
 use Rattle.base.proofs.Repeat.{Going, less-by, again-by, done-by}
-use Rattle.base.proofs.Walks.{same-at}
+use Rattle.base.proofs.Walks.{same-at, zeros-at}
 use Rattle.chart.specs.declared.charts.Head.{Head}
 use Rattle.chart.specs.Charts.{Chart, charted}
 use Rattle.chart.specs.Faultless.{FaultlessChart}
@@ -16,18 +15,15 @@ use Rattle.align.specs.declared.spots.Found.the-variants as founds
 use Rattle.align.specs.Steps.{toldFound}
 use Rattle.checker.specs.Rules.{startPair}
 use Rattle.checker.specs.Records.{index}
-use Rattle.words.specs.Words.{added, removed}
-use Rattle.words.proofs.Words.{length-added, added-here}
-use Rattle.graph.specs.Graphs.{Graph, graph, Sized, Covers, firstPair, marked}
-use Rattle.detector.specs.Turns.{lowest, next, begun, taken, explored, Lists, lowAfter, listedAfter}
-use Rattle.graph.proofs.Graphs.{waitAt, Shaped}
+use Rattle.words.specs.Words.{Member, added, listed}
+use Rattle.words.proofs.Words.{length-added, added-here, length-listed, listed-here}
+use Rattle.graph.specs.Graphs.{Graph, graph, Sized, Covers, Lists, Tracks, firstPair}
+use Rattle.detector.specs.Turns.{lowest, next, begun, taken, explored}
+use Rattle.graph.proofs.Graphs.{Shaped}
 use Rattle.graph.proofs.Parts.{graph-eq}
-use Rattle.detector.proofs.Turns.{next-lowest}
+use Rattle.detector.proofs.Turns.{next-waits}
 use Rattle.detector.proofs.Measure.{weight, turns, begun-shaped, begun-weight}
-use Rattle.detector.proofs.Invariant.{Inv, Every, begun-inv, turn-inv}
 use Rattle.detector.proofs.Ones.{one-only}
-use Rattle.detector.proofs.Looking.{low-most}
-use Rattle.detector.proofs.After.{quiet-after, lists-after, covers-after}
 
 -- four buffers that were filled, and two that were then written, are a graph that has begun
 pub begun-is : (old new : Head) {m t s w m₁ m₂ t₁ s₁ w₁ w₂ : List ℕ} {first : ℕ} → Sized (graph m t s w) → first ≡ startPair old new
@@ -42,38 +38,40 @@ begun-is old new z f a b c d e g o n =
     (d ∙ ap (λ (k : ℕ). replicate k 0) (z .sets))
     (g ∙ (λ i. set (e i) (f i) 1) ∙ ap (λ (k : ℕ). set (replicate k 0) (startPair old new) 1) (z .waiting))
 
--- the loop stands at g, no pair below `from` waits, and the two sets have whom they should
-pub record Building (old new : Chart) (g : Graph) (waits seen : List ℕ) (from : ℕ) : Type 0 where
+-- the loop stands at g, and the two sets have whom they should
+pub record Building (old new : Chart) (g : Graph) (waits seen : List ℕ) : Type 0 where
   pub old-faultless : FaultlessChart old
   pub new-faultless : FaultlessChart new
   pub going : Going next (taken old new) weight Shaped (explored old new) g
-  pub inv : Inv old new Every g
-  pub near : from ≤ 4096
-  pub quiet : (i : ℕ) → i < from → waitAt g i ≡ 0
-  pub lists : Lists waits (g .waiting)
-  pub covers : Covers seen g
+  pub tracks : Tracks waits seen g
 
 -- sets that have the first pair are enough at the beginning
-module _ (old new : Chart) (l : List ℕ) (long : length l ≡ 64) where
-  begun-lists : Lists (added l (firstPair old new)) (begun old new .waiting)
+module _ (old new : Chart) (l s : List ℕ) (a : length l ≡ 65) (b : length s ≡ 64) where
+  begun-lists : Lists (listed l (firstPair old new)) (begun old new .waiting)
   unfolding begun
   begun-lists =
       record {
-        long = length-added l (firstPair old new) ∙ long;
-        each = λ i b p. rw (one-only 4096 (firstPair old new) 1 i p) (added-here l (firstPair old new) long (omega arith));
+        long = length-listed l (firstPair old new) ∙ a;
+        each = λ i c p. rw (one-only 4096 (firstPair old new) 1 i p) (listed-here l (firstPair old new) a (omega arith));
       }
 
-  begun-covers : Covers (added l (firstPair old new)) (begun old new)
+  first-seen : Member (added s (firstPair old new)) (firstPair old new)
+  first-seen = added-here s (firstPair old new) (omega arith) (omega arith)
+
+  begun-covers : Covers (added s (firstPair old new)) (begun old new)
   unfolding begun
   begun-covers =
       record {
-        long = length-added l (firstPair old new) ∙ long;
-        marks = λ i b p. rw (one-only 4160 (firstPair old new) 1 i p) (added-here l (firstPair old new) long (omega arith));
-        targets = λ i r b c u. absurd (u (same-at 8192 65535 (index i r) (omega arith)));
+        long = length-added s (firstPair old new) ∙ b;
+        marks = λ i c p. rw (one-only 4160 (firstPair old new) 1 i p) first-seen;
+        targets = λ i r c d u. absurd (u (same-at 8192 65535 (index i r) (omega arith)));
+        sets = λ i c p. absurd (omega (arith, zeros-at 4096 i));
+        waiting = λ i c p. rw (one-only 4096 (firstPair old new) 1 i p) first-seen;
       }
 
-pub build-begun : (old new : Chart) {g : Graph} (l s : List ℕ) {l′ s′ : List ℕ} {p q : ℕ} → FaultlessChart old → FaultlessChart new → g ≡ begun old new
-    → length l ≡ 64 → p ≡ firstPair old new → l′ ≡ added l p → length s ≡ 64 → q ≡ firstPair old new → s′ ≡ added s q → Building old new g l′ s′ 0
+pub build-begun : (old new : Chart) {g : Graph} (l s : List ℕ) {l′ s′ : List ℕ} {p q : ℕ} → FaultlessChart old → FaultlessChart new
+    → g ≡ begun old new → length l ≡ 65 → p ≡ firstPair old new → l′ ≡ listed l p
+    → length s ≡ 64 → q ≡ firstPair old new → s′ ≡ added s q → Building old new g l′ s′
 unfolding explored
 build-begun old new l s F G e a b c x y z =
     rw (e, c, b, z, y)
@@ -81,19 +79,18 @@ build-begun old new l s F G e a b c x y z =
       old-faultless = F;
       new-faultless = G;
       going = record { good = begun-shaped old new F G; turns = 2 ^ 80; enough = begun-weight old new F G; same = refl };
-      inv = begun-inv old new F G;
-      near = omega arith;
-      quiet = λ i l. absurd (omega arith);
-      lists = begun-lists old new l a;
-      covers = begun-covers old new s x;
+      tracks = record { lists = begun-lists old new l s a x; covers = begun-covers old new l s a x };
     })
 
-module _ (old new : Chart) {g : Graph} {waits seen : List ℕ} {from : ℕ} (B : Building old new g waits seen from) where
+module _ (old new : Chart) {g : Graph} {waits seen : List ℕ} (B : Building old new g waits seen) where
   pub build-sized : Sized g
   build-sized = B .going .good .sized
 
-  pub build-looks : ((from ≤ 4096) × ((i : ℕ) → i < from → waitAt g i ≡ 0)) × ((length (g .waiting) ≡ 4096) × Lists waits (g .waiting))
-  build-looks = ((B .near, B .quiet), (B .going .good .sized .waiting, B .lists))
+  pub build-looks : (length (g .waiting) ≡ 4096) × Lists waits (g .waiting)
+  build-looks = (B .going .good .sized .waiting, B .tracks .lists)
+
+  pub build-tracks : {waits₁ : List ℕ} → Lists waits₁ (g .waiting) → Tracks waits₁ seen g
+  build-tracks L = record { lists = L; covers = B .tracks .covers }
 
   module _ {f : Found} {waits₁ : List ℕ} (e : (toldFound f ≡ lowest (g .waiting)) × Lists waits₁ (g .waiting)) where
     found : {n : ℕ} → f ≡ founds.At n → next g ≡ some n
@@ -101,35 +98,28 @@ module _ (old new : Chart) {g : Graph} {waits seen : List ℕ} {from : ℕ} (B :
     found a = sym (e .0) ∙ ap toldFound a
 
     pub build-below : {n : ℕ} → f ≡ founds.At n → n < 4096
-    build-below {n} a = omega (arith, next-lowest g n (found a) .below, B .going .good .sized .waiting)
+    build-below {n} a = omega (arith, next-waits g n (found a) .below, B .going .good .sized .waiting)
 
     pub build-less : {n : ℕ} {h : Graph} → f ≡ founds.At n → h ≡ taken old new g n → weight h < weight g
     build-less a q = less-by next (taken old new) weight Shaped (turns old new (B .old-faultless) (B .new-faultless)) (B .going .good) (found a) q
 
-    pub build-turn : {n r : ℕ} {h : Graph} {waits′ seen′ : List ℕ} → f ≡ founds.At n → h ≡ taken old new g n
-        → (r ≡ lowAfter (h .marks) (h .targets) (h .waiting) n)
-        × (waits′ ≡ listedAfter (h .marks) (h .targets) (marked (h .waiting)) n (removed waits₁ n))
-        × (seen′ ≡ listedAfter (h .marks) (h .targets) (λ _. true) n seen)
-        → Building old new h waits′ seen′ r
-    build-turn {n} {r} {h} a q (x, y, z) =
-        let l = build-below a in
+    pub build-turn : {n : ℕ} {h : Graph} {waits′ seen′ : List ℕ} → f ≡ founds.At n → Tracks waits′ seen′ h × (h ≡ taken old new g n)
+        → Building old new h waits′ seen′
+    build-turn a (T, q) =
         let F = B .old-faultless in
         let G = B .new-faultless in
-        let I : Inv old new Every h = rw q (turn-inv old new F G g n (B .inv) (found a)) in
         record {
           old-faultless = F;
           new-faultless = G;
           going = again-by next (taken old new) weight Shaped (turns old new F G) (B .going) (found a) q;
-          inv = I;
-          near = omega (arith, x, low-most (h .marks) (h .targets) n (h .waiting));
-          quiet = λ i b. quiet-after old new F G g n l (B .inv) (found a) h q i (subst (λ (j : ℕ). i < j) x b);
-          lists = lists-after old new F G g n l (B .inv) (found a) h q (e .1) y;
-          covers = covers-after old new F G g n l (B .inv) (found a) h q (B .covers) z I;
+          tracks = T;
         }
 
     pub build-done : f ≡ founds.Nothing → Covers seen g × (g ≡ explored old new)
     unfolding next
-    build-done a = (B .covers, done-by next (taken old new) weight Shaped (turns old new (B .old-faultless) (B .new-faultless)) (B .going) (sym (e .0) ∙ ap toldFound a))
+    build-done a =
+        let t = turns old new (B .old-faultless) (B .new-faultless) in
+        (B .tracks .covers, done-by next (taken old new) weight Shaped t (B .going) (sym (e .0) ∙ ap toldFound a))
 
 -- lengths that stay
 module _ {m t s w m′ t′ s′ w′ : List ℕ} (z : Sized (graph m t s w)) (z′ : Sized (graph m′ t′ s′ w′)) where

@@ -5,7 +5,7 @@ use mathlib.Core.Bool.{Bool, true, false}
 use mathlib.Core.Logic.{_⊎_, inl, inr, ⊎-elim}
 use mathlib.Core.List.{List}
 use mathlib.Core.Option.{some}
-use Prim.Native.Nat.{ℕ, suc, _-_, _/_, _%_, _^_, _≤_, _<_}
+use Prim.Native.Nat.{ℕ, suc, _/_, _%_, _^_, _≤_, _<_}
 use native.Mathlib.Omega.{arith}
 use native.Mathlib.Decide.{ℕ-discrete}
 use lib.ListN.{getD, set}
@@ -25,7 +25,7 @@ use Rattle.detector.specs.Turns.{rowsOf, leadsTo, next, setNow, begun, s
 use Rattle.detector.proofs.Ones.{one-there, one-other, one-only}
 use Rattle.detector.proofs.Steps.{Fits}
 use Rattle.graph.proofs.Graphs.{markAt, setAt, waitAt, targetAt, Shaped, keep-node, keep-nodes, keep-kept, keep-mark, keep-set, keep-wait, keep-target, keep-mark-other, keep-set-other, keep-wait-other, keep-target-other, keep-shaped, aimed, by-aim, aimed-shaped, join-mark, join-set, join-due, join-not-due, join-mark-other, join-set-other, join-wait-other, join-there, join-target, join-shaped, join-small, held, not-due-why, unwait-shaped}
-use Rattle.detector.proofs.Turns.{by-row, set-now, set-now-small, leads-below, step-of-fits, next-lowest}
+use Rattle.detector.proofs.Turns.{by-row, set-now, set-now-small, leads-below, step-of-fits, next-waits}
 use Rattle.detector.proofs.Measure.{begun-shaped}
 
 -- ---- a set that has gained another holds what it held, and the other
@@ -453,7 +453,7 @@ module _ (old new : Chart) (F : FaultlessChart old) (G : FaultlessChart new) whe
   pub turn-inv : (g : Graph) (n : ℕ) → Inv old new Every g → next g ≡ some n → Inv old new Every (taken old new g n)
   unfolding taken secondDone unwait
   turn-inv g n I e =
-      let L = next-lowest g n e in
+      let L = next-waits g n e in
       let l : n < 4096 = omega (arith, L .below, I .shaped .sized .waiting) in
       let R = I .real n l (I .waiters n l (L .waits)) in
       let v = setAt g n in

@@ -7,5 +7,4 @@ pub mod Invariant
 pub mod Processing
 pub mod Rows
 pub mod Looking
-pub mod After
 pub mod Exploring

@@ -20,7 +20,7 @@ use Rattle.graph.specs.Graphs.{Graph, Sized, marked, keep, aim, due, join, unwa
 use Rattle.detector.specs.Turns.{rowsOf, leadsTo, next, setNow, begun, rowDone, secondDone, taken, explored}
 use Rattle.detector.proofs.Steps.{Fits}
 use Rattle.graph.proofs.Graphs.{markAt, setAt, waitAt, Shaped, marked-yes, marked-no, marked-same, keep-node, keep-nodes, keep-wait, keep-mark-other, keep-set-other, keep-wait-other, keep-shaped, aimed, by-aim, aimed-shaped, join-mark, join-set, join-due, join-not-due, join-mark-other, join-set-other, join-wait-other, join-shaped, join-more, join-small, grown, due-why, unwait-shaped}
-use Rattle.detector.proofs.Turns.{by-row, set-now-small, leads-below, step-of-fits, next-lowest, none-waits}
+use Rattle.detector.proofs.Turns.{by-row, set-now-small, leads-below, step-of-fits, next-waits, none-waits}
 
 -- what a pair has left: nothing more where its new place is kept; else twice the number of sets above its own, and its flag
 rest : Bool → Bool → ℕ → ℕ
@@ -162,11 +162,11 @@ module _ (old new : Chart) (F : FaultlessChart old) (G : FaultlessChart new) whe
   turns =
       record {
         keeps = λ g n S e. turn-lighter g n (below g n S e) S .shaped;
-        less = λ g n S e. omega (arith, weight-unwait g n (S .sized) (below g n S e) (next-lowest g n e .waits), turn-lighter g n (below g n S e) S .less);
+        less = λ g n S e. omega (arith, weight-unwait g n (S .sized) (below g n S e) (next-waits g n e .waits), turn-lighter g n (below g n S e) S .less);
       }
     where
       below : (g : Graph) (n : ℕ) → Shaped g → next g ≡ some n → n < 4096
-      below g n S e = omega (arith, next-lowest g n e .below, S .sized .waiting)
+      below g n S e = omega (arith, next-waits g n e .below, S .sized .waiting)
 
   pub begun-shaped : Shaped (begun old new)
   unfolding begun

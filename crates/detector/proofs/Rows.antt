@@ -18,9 +18,11 @@ use Rattle.align.specs.declared.spots.Spot.{Spot}
 use Rattle.align.specs.declared.spots.Aligned.{Aligned}
 use Rattle.align.specs.Steps.{told, step}
 use Rattle.align.proofs.Parts.{row-of, row-same}
-use Rattle.graph.specs.Graphs.{Graph, graph, Sized, marked, unwait}
+use Rattle.words.specs.Words.{removed}
+use Rattle.graph.specs.Graphs.{Graph, graph, Sized, Tracks, marked, unwait}
 use Rattle.detector.specs.Turns.{rowsOf, leadsTo, setNow, stepOf, processed, rowDone, secondDone, taken}
 use Rattle.graph.proofs.Graphs.{marked-yes, marked-no}
+use Rattle.graph.proofs.Tracking.{unwait-tracks}
 use Rattle.detector.proofs.Steps.{row-to}
 use Rattle.detector.proofs.Turns.{step-of-fits}
 
@@ -73,17 +75,25 @@ module _ (m s : List ℕ) (n v : ℕ) where
 
 -- ---- a turn: the pair waits no more, and its two rows are done, each under the set that it has then
 module _ (old new : Chart) (g : Graph) (n : ℕ) where
-  -- where the loop stands before row r, with the set v and the graph h; it began with g
-  pub record Turning (r v : ℕ) (h : Graph) : Type 0 where
+  -- where the loop stands before row r, with the set v, the graph h and who waits and was seen; it began with g
+  pub record Turning (r v : ℕ) (h : Graph) (waits seen : List ℕ) : Type 0 where
     pub most : r ≤ 2
     pub sized : Sized h
+    pub tracks : Tracks waits seen h
     pub none-done : r ≡ 0 → (h ≡ g) × (v ≡ getD (g .sets) n 0)
     pub one-done : r ≡ 1 → (h ≡ rowDone old new g n (getD (g .sets) n 0) 0) × (v ≡ getD (g .sets) n 0)
     pub both-done : r ≡ 2 → h ≡ secondDone old new (rowDone old new g n (getD (g .sets) n 0) 0) n (getD (g .sets) n 0)
 
-  pub turn-begins : Sized g → Turning 0 (getD (g .sets) n 0) g
-  turn-begins S =
-      record { most = omega arith; sized = S; none-done = λ e. (refl, refl); one-done = λ e. absurd (omega arith); both-done = λ e. absurd (omega arith) }
+  pub turn-begins : {waits seen : List ℕ} → Sized g → Tracks waits seen g → Turning 0 (getD (g .sets) n 0) g waits seen
+  turn-begins S K =
+      record {
+        most = omega arith;
+        sized = S;
+        tracks = K;
+        none-done = λ e. (refl, refl);
+        one-done = λ e. absurd (omega arith);
+        both-done = λ e. absurd (omega arith);
+      }
 
   -- before the first row the pair's set is its own, whether it is in the graph or not
   own-first : {v u : ℕ} {h : Graph} → h ≡ g → v ≡ getD (g .sets) n 0 → u ≡ setNow (h .marks) (h .sets) n v → u ≡ getD (g .sets) n 0
@@ -99,33 +109,43 @@ module _ (old new : Chart) (g : Graph) (n : ℕ) where
   unfolding secondDone
   second-is {h = h} e a b c = c ∙ (λ i. rowDone old new h n (b i) 1) ∙ (λ i. rowDone old new (e i) n (setNow (e i .marks) (e i .sets) n (a i)) 1)
 
-  pub turn-row : (r : ℕ) {v u : ℕ} {h h′ : Graph} → Turning r v h → r < 2 → u ≡ setNow (h .marks) (h .sets) n v → h′ ≡ rowDone old new h n u r → Sized h′ → Turning (r + 1) u h′
-  turn-row zero T l b c S =
+  pub turn-row : (r : ℕ) {v u : ℕ} {h h′ : Graph} {waits seen waits′ seen′ : List ℕ} → Turning r v h waits seen → r < 2
+      → u ≡ setNow (h .marks) (h .sets) n v → Tracks waits′ seen′ h′ × (h′ ≡ rowDone old new h n u r) → Sized h′ → Turning (r + 1) u h′ waits′ seen′
+  turn-row zero T l b (K, c) S =
       let z = T .none-done refl in
       let w = own-first (z .0) (z .1) b in
       record {
         most = omega arith;
         sized = S;
+        tracks = K;
         none-done = λ e. absurd (omega arith);
         one-done = λ e. (c ∙ (λ i. rowDone old new (z .0 i) n (w i) 0), w);
         both-done = λ e. absurd (omega arith);
       }
-  turn-row (suc zero) T l b c S =
+  turn-row (suc zero) T l b (K, c) S =
       let z = T .one-done refl in
       record {
         most = omega arith;
         sized = S;
+        tracks = K;
         none-done = λ e. absurd (omega arith);
         one-done = λ e. absurd (omega arith);
         both-done = λ e. second-is (z .0) (z .1) b c;
       }
   turn-row (suc (suc r)) T l b c S = absurd (omega arith)
 
-pub turn-done : (old new : Chart) (m t s w : List ℕ) (n : ℕ) {w₁ : List ℕ} {r v : ℕ} {h : Graph} → w₁ ≡ set w n 0
-    → Turning old new (graph m t s w₁) n r v h → 2 ≤ r → h ≡ taken old new (graph m t s w) n
+pub turn-done : (old new : Chart) (m t s w : List ℕ) (n : ℕ) {w₁ waits seen : List ℕ} {r v : ℕ} {h : Graph} → w₁ ≡ set w n 0
+    → Turning old new (graph m t s w₁) n r v h waits seen → 2 ≤ r → Tracks waits seen h × (h ≡ taken old new (graph m t s w) n)
 unfolding taken unwait
-turn-done old new m t s w n a T l =
-    T .both-done (omega (arith, T .most)) ∙ (λ i. secondDone old new (rowDone old new (graph m t s (a i)) n (getD s n 0) 0) n (getD s n 0))
+turn-done old new m t s w n a T l = (
+  T .tracks,
+  T .both-done (omega (arith, T .most)) ∙ (λ i. secondDone old new (rowDone old new (graph m t s (a i)) n (getD s n 0) 0) n (getD s n 0)),
+)
 
 pub unwait-sized : {m t s w w₁ : List ℕ} (n : ℕ) → Sized (graph m t s w) → w₁ ≡ set w n 0 → Sized (graph m t s w₁)
 unwait-sized n S a = record { marks = S .marks; targets = S .targets; sets = S .sets; waiting = rw (a, length-set) (S .waiting) }
+
+pub unwait-kept-up : {m t s w w₁ waits waits₁ seen : List ℕ} (n : ℕ) → n < 4096 → Sized (graph m t s w)
+    → Tracks waits seen (graph m t s w) → w₁ ≡ set w n 0 → waits₁ ≡ removed waits n → Tracks waits₁ seen (graph m t s w₁)
+unfolding unwait
+unwait-kept-up n b S K a e = rw a (unwait-tracks (graph _ _ _ _) n S b K e)

@@ -90,22 +90,16 @@ module _ (old new : Chart) (F : FaultlessChart old) (G : FaultlessChart new) (n 
       step-fits old F b w new (record { place = oldOf n; set = v }) (operation (rowsOf new n) r) (leadsTo new n r) (row-a new G (newOf n .0) r there)
       (record { place = l; set = k }) .of h e
 
--- ---- the lowest waiting pair
-pub record Lowest (g : Graph) (n : ℕ) : Type 0 where
+-- ---- the pair that a turn takes
+pub record Waiter (g : Graph) (n : ℕ) : Type 0 where
   pub below : n < length (g .waiting)
   pub waits : 0 < waitAt g n
-  pub none-lower : (k : ℕ) → k < n → waitAt g k ≡ 0
 
--- a turn takes the lowest waiting pair
-pub next-lowest : (g : Graph) (n : ℕ) → next g ≡ some n → Lowest g n
+pub next-waits : (g : Graph) (n : ℕ) → next g ≡ some n → Waiter g n
 unfolding next lowest
-next-lowest g n e =
+next-waits g n e =
     let f = first-is (λ i x. not (eqb x 0)) (g .waiting) n e in
-    record {
-      below = f .below;
-      waits = (let z = eqb-false (waitAt g n) 0 (not-true _ (f .passes)) in omega arith);
-      none-lower = λ k l. eqb-true (waitAt g k) 0 (not-false _ (f .lowest k l));
-    }
+    record { below = f .below; waits = (let z = eqb-false (waitAt g n) 0 (not-true _ (f .passes)) in omega arith) }
 
 -- where there is no such pair, none waits
 pub none-waits : (g : Graph) → next g ≡ none → (k : ℕ) → k < length (g .waiting) → waitAt g k ≡ 0

@@ -1,11 +1,11 @@
 -- Algorithm 2 ("The builder"): begin, take the lowest waiting pair and its rows, until none waits.
 use mathlib.Core.Path.{_≡_}
-use mathlib.Core.Bool.{Bool, true, false, _&&_, not}
+use mathlib.Core.Bool.{true, false, not}
 use mathlib.Core.List.{List}
 use mathlib.Core.Option.{Option, none, some}
-use Prim.Native.Nat.{ℕ, _-_, _^_, _<_, min}
+use Prim.Native.Nat.{ℕ, _+_, _*_, _/_, _^_, _≤_, _<_}
 use lib.Dec.{eqb, ltb}
-use lib.ListN.{length, getD, set, replicate}
+use lib.ListN.{getD, set, replicate}
 use Rattle.base.specs.Walks.{firstFrom}
 use Rattle.base.specs.Repeat.{repeated}
 use Rattle.chart.specs.declared.places.NewPlace.{NewPlace}
@@ -13,8 +13,6 @@ use Rattle.chart.specs.Places.{pairNumber, keptNumber, oldOf, newOf}
 use Rattle.chart.specs.Charts.{Chart, size, to, operation, leaving}
 use Rattle.align.specs.declared.spots.Spot.{Spot}
 use Rattle.align.specs.Steps.{step}
-use Rattle.checker.specs.Records.{index}
-use Rattle.words.specs.Words.{Member, added}
 use Rattle.graph.specs.Graphs.{Graph, graph, firstPair, marked, keep, aim, join, unwait}
 
 -- the new rows that leave the new place of pair n (line 4), and where the r-th of them leads
@@ -27,6 +25,11 @@ leadsTo new n r = record { 0 = to (rowsOf new n) r }
 -- "Take the lowest waiting pair" (line 3): any byte other than 0 waits
 unfoldable pub lowest : List ℕ → Option ℕ
 lowest w = firstFrom (λ i x. not (eqb x 0)) 0 w
+
+-- what is found is the lowest waiting pair with old place p
+abbrev pub LowestOf : List ℕ → ℕ → Option ℕ → Type 0
+LowestOf w p (some n) = (n / 64 ≡ p) × (0 < getD w n 0) × ((i : ℕ) → 64 * p ≤ i → i < n → getD w i 0 ≡ 0)
+LowestOf w p none = (i : ℕ) → 64 * p ≤ i → i < 64 * p + 64 → getD w i 0 ≡ 0
 
 unfoldable pub next : Graph → Option ℕ
 next g = lowest (g .waiting)
@@ -75,38 +78,3 @@ module _ (old new : Chart) where
   -- line 2: as long as a pair waits. No build takes as many as 2 ^ 80 turns: nothing waits where these end, which is proved.
   unfoldable pub explored : Graph
   explored = repeated next taken (2 ^ 80) begun
-
--- ---- where to look: no rule speaks of it
--- each pair that waits is a member of the set l. A set with more members does too
-pub record Lists (l w : List ℕ) : Type 0 where
-  pub long : length l ≡ 64
-  pub each : (i : ℕ) → i < 4096 → 0 < getD w i 0 → Member l i
-
--- the lower of n and t, where t waits; else n
-unfoldable pub lowOf : List ℕ → ℕ → ℕ → ℕ
-lowOf w n t = elim (marked w t) [ true ↦ min n t | false ↦ n ]
-
--- the set l with t, if that is a pair and passes
-unfoldable pub listed : (ℕ → Bool) → List ℕ → ℕ → List ℕ
-listed p l t = elim (ltb t 4096 && p t) [ true ↦ added l t | false ↦ l ]
-
--- the set of all pairs
-unfoldable pub allPairs : List ℕ
-allPairs = replicate 64 (2 ^ 64 - 1)
-
--- where to look on after the turn of pair n: no pair below this number waits, which is proved. Where n's place is kept, at 0; else at the
--- lowest of n and those targets of its rows that wait
-unfoldable pub lowAfter : List ℕ → List ℕ → List ℕ → ℕ → ℕ
-lowAfter m t w n =
-    elim (marked m (keptNumber (newOf n))) [
-      | true ↦ 0
-      | false ↦ lowOf w (lowOf w n (getD t (index n 0) 0)) (getD t (index n 1) 0)
-    ]
-
--- a set after the turn of pair n: where n's place is kept, all pairs; else with those targets of its rows that pass
-unfoldable pub listedAfter : List ℕ → List ℕ → (ℕ → Bool) → ℕ → List ℕ → List ℕ
-listedAfter m t p n l =
-    elim (marked m (keptNumber (newOf n))) [
-      | true ↦ allPairs
-      | false ↦ listed p (listed p l (getD t (index n 0) 0)) (getD t (index n 1) 0)
-    ]

@@ -2,3 +2,5 @@
 pub mod Graphs
 pub mod Stores
 pub mod Parts
+pub mod Keeping
+pub mod Tracking

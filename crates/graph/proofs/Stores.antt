@@ -1,18 +1,14 @@
--- Stores one after another that make the lists of the definitions: all elements, each element anew, or the pairs of a new place. Assumes nothing.
-use mathlib.Core.Path.{_≡_, refl, sym, ap, _∙_}
+-- Stores one after another that make the lists of the definitions: all elements, or each element anew. Assumes nothing.
+use mathlib.Core.Path.{_≡_, refl, ap, _∙_}
 use mathlib.Core.List.{List, _++_, append-nil}
-use Prim.Native.Nat.{ℕ, zero, suc, _+_, _*_, _-_, _/_, _%_, _≤_, _<_}
-use native.Mathlib.Numerals.{add-one}
+use Prim.Native.Nat.{ℕ, _+_, _≤_, _<_}
 use native.Mathlib.Omega.{arith}
-use native.Mathlib.Decide.{ℕ-discrete, decLt}
+use native.Mathlib.Decide.{ℕ-discrete}
 use borrow.Author.Fill.{fill-more}
 use lib.ListN.{length, getD, set, drop, replicate, length-set}
 use lib.Seq.{getD-set-same, getD-set-other, drop-length}
 use Rattle.base.specs.Walks.{pass}
 use Rattle.base.proofs.Walks.{pass-is}
-use Rattle.chart.specs.declared.places.NewPlace.{NewPlace}
-use Rattle.graph.specs.Graphs.{gone, cleared, untargeted}
-use Rattle.graph.proofs.Graphs.{gone-here, gone-other, gone-past}
 
 -- a list d₀ whose first i elements have become v
 pub record Filling (d₀ : List ℕ) (v : ℕ) (d : List ℕ) (i : ℕ) : Type 0 where
@@ -32,107 +28,6 @@ pub filled : {d₀ : List ℕ} {v : ℕ} {d : List ℕ} {i : ℕ} → Filling d�
 filled {d₀} {v} {d} {i} f l =
     let e : i ≡ length d₀ = omega arith in
     f .is ∙ rw e (rw drop-length (append-nil (replicate (length d₀) v)))
-
--- the pairs of new place q with the first p old places
-unfoldable pub strided : ℕ → NewPlace → List ℕ → List ℕ
-strided zero q l = l
-strided (suc p) q l = set (strided p q l) (64 * p + q .0) 0
-
-pub length-strided : (p : ℕ) (q : NewPlace) (l : List ℕ) → length (strided p q l) ≡ length l
-unfolding strided
-length-strided zero q l = refl
-length-strided (suc p) q l = length-set (strided p q l) (64 * p + q .0) 0 ∙ length-strided p q l
-
-pub strided-none : (q : NewPlace) (l : List ℕ) → l ≡ strided 0 q l
-unfolding strided
-strided-none q l = refl
-
-pub strided-more : (p n : ℕ) (q : NewPlace) (l : List ℕ) {d : List ℕ} → d ≡ strided p q l → n ≡ 64 * p + q .0 → set d n 0 ≡ strided (p + 1) q l
-unfolding strided
-strided-more p n q l e z = rw (add-one p, z) (ap (λ (x : List ℕ). set x (64 * p + q .0) 0) e)
-
-strided-hit : (p : ℕ) (q : NewPlace) (l : List ℕ) (i : ℕ) → i < 64 * p → i % 64 ≡ q .0 → 64 * p ≤ length l → getD (strided p q l) i 0 ≡ 0
-unfolding strided
-strided-hit zero q l i a b c = absurd (omega arith)
-strided-hit (suc p) q l i a b c = go (λ m. strided-hit p q l i m b (omega arith)) (ℕ-discrete i (64 * p + q .0))
-  where
-    go : (i < 64 * p → getD (strided p q l) i 0 ≡ 0) → Dec (i ≡ 64 * p + q .0) → getD (set (strided p q l) (64 * p + q .0) 0) i 0 ≡ 0
-    go ih (yes e) = rw e (getD-set-same (strided p q l) (64 * p + q .0) 0 0 (simp length-strided (omega arith)))
-    go ih (no e) = getD-set-other (strided p q l) (64 * p + q .0) i 0 0 e ∙ ih (omega arith)
-
-strided-other : (p : ℕ) (q : NewPlace) (l : List ℕ) (i : ℕ) → ((k : ℕ) → k < p → i ≡ 64 * k + q .0 → ⊥) → getD (strided p q l) i 0 ≡ getD l i 0
-unfolding strided
-strided-other zero q l i a = refl
-strided-other (suc p) q l i a =
-    getD-set-other (strided p q l) (64 * p + q .0) i 0 0 (a p (omega arith)) ∙ strided-other p q l i (λ k m. a k (omega arith))
-
-pub strided-all : (q : NewPlace) (l : List ℕ) → q .0 < 64 → 4096 ≤ length l → strided 64 q l ≡ cleared q l
-unfolding cleared
-strided-all q l b h = pass-is (gone q 0) l (strided 64 q l) (length-strided 64 q l) (λ j k. go j (ℕ-discrete (j % 64) (q .0)) (decLt j 4096))
-  where
-    go : (j : ℕ) → Dec (j % 64 ≡ q .0) → Dec (j < 4096) → getD (strided 64 q l) j 0 ≡ gone q 0 j (getD l j 0)
-    go j (yes e) (yes a) = strided-hit 64 q l j (omega arith) e (omega arith) ∙ sym (gone-here q 0 j (getD l j 0) a e)
-    go j (yes e) (no a) = strided-other 64 q l j (λ k m z. omega arith) ∙ sym (gone-past q 0 j (getD l j 0) (omega arith))
-    go j (no e) a = strided-other 64 q l j (λ k m z. e (omega arith)) ∙ sym (gone-other q 0 j (getD l j 0) e)
-
--- the same, two to a pair
-unfoldable pub paired : ℕ → NewPlace → List ℕ → List ℕ
-paired zero q l = l
-paired (suc p) q l = set (set (paired p q l) (2 * (64 * p + q .0)) 65535) (2 * (64 * p + q .0) + 1) 65535
-
-pub paired-none : (q : NewPlace) (l : List ℕ) → l ≡ paired 0 q l
-unfolding paired
-paired-none q l = refl
-
-pub length-paired : (p : ℕ) (q : NewPlace) (l : List ℕ) → length (paired p q l) ≡ length l
-unfolding paired
-length-paired zero q l = refl
-length-paired (suc p) q l = simp length-set (length-paired p q l)
-
-pub paired-more : (p n : ℕ) (q : NewPlace) (l : List ℕ) {d : List ℕ} → d ≡ paired p q l → n ≡ 64 * p + q .0
-    → set (set d (2 * n) 65535) (2 * n + 1) 65535 ≡ paired (p + 1) q l
-unfolding paired
-paired-more p n q l e z = rw (add-one p, z) (ap (λ (x : List ℕ). set (set x (2 * (64 * p + q .0)) 65535) (2 * (64 * p + q .0) + 1) 65535) e)
-
-paired-hit : (p : ℕ) (q : NewPlace) (l : List ℕ) (i : ℕ) → i / 2 < 64 * p → i / 2 % 64 ≡ q .0 → 128 * p ≤ length l → getD (paired p q l) i 0 ≡ 65535
-unfolding paired
-paired-hit zero q l i a b c = absurd (omega arith)
-paired-hit (suc p) q l i a b c =
-    go (λ m. paired-hit p q l i m b (omega arith)) (ℕ-discrete i (2 * (64 * p + q .0) + 1)) (ℕ-discrete i (2 * (64 * p + q .0)))
-  where
-    at : ℕ
-    at = 2 * (64 * p + q .0)
-
-    d : List ℕ
-    d = paired p q l
-
-    long : length d ≡ length l
-    long = length-paired p q l
-
-    go : (i / 2 < 64 * p → getD d i 0 ≡ 65535) → Dec (i ≡ at + 1) → Dec (i ≡ at) → getD (set (set d at 65535) (at + 1) 65535) i 0 ≡ 65535
-    go ih (yes e) f = rw e (getD-set-same (set d at 65535) (at + 1) 65535 0 (simp length-set (omega (arith, long))))
-    go ih (no e) (yes f) =
-        getD-set-other (set d at 65535) (at + 1) i 65535 0 e ∙ rw f (getD-set-same d at 65535 0 (omega (arith, long)))
-    go ih (no e) (no f) =
-        getD-set-other (set d at 65535) (at + 1) i 65535 0 e ∙ (getD-set-other d at i 65535 0 f ∙ ih (omega arith))
-
-paired-other : (p : ℕ) (q : NewPlace) (l : List ℕ) (i : ℕ) → ((k : ℕ) → k < p → i / 2 ≡ 64 * k + q .0 → ⊥) → getD (paired p q l) i 0 ≡ getD l i 0
-unfolding paired
-paired-other zero q l i a = refl
-paired-other (suc p) q l i a =
-    getD-set-other (set (paired p q l) (2 * (64 * p + q .0)) 65535) (2 * (64 * p + q .0) + 1) i 65535 0 (λ e. a p (omega arith) (omega arith))
-    ∙ (getD-set-other (paired p q l) (2 * (64 * p + q .0)) i 65535 0 (λ e. a p (omega arith) (omega arith))
-    ∙ paired-other p q l i (λ k m. a k (omega arith)))
-
-pub paired-all : (q : NewPlace) (l : List ℕ) → q .0 < 64 → 8192 ≤ length l → paired 64 q l ≡ untargeted q l
-unfolding untargeted
-paired-all q l b h =
-    pass-is (λ i x. gone q 65535 (i / 2) x) l (paired 64 q l) (length-paired 64 q l) (λ j k. go j (ℕ-discrete (j / 2 % 64) (q .0)) (decLt (j / 2) 4096))
-  where
-    go : (j : ℕ) → Dec (j / 2 % 64 ≡ q .0) → Dec (j / 2 < 4096) → getD (paired 64 q l) j 0 ≡ gone q 65535 (j / 2) (getD l j 0)
-    go j (yes e) (yes a) = paired-hit 64 q l j (omega arith) e (omega arith) ∙ sym (gone-here q 65535 (j / 2) (getD l j 0) a e)
-    go j (yes e) (no a) = paired-other 64 q l j (λ k m z. omega arith) ∙ sym (gone-past q 65535 (j / 2) (getD l j 0) (omega arith))
-    go j (no e) a = paired-other 64 q l j (λ k m z. e (omega arith)) ∙ sym (gone-other q 65535 (j / 2) (getD l j 0) e)
 
 -- a list each of whose elements is made anew, one store a turn: of the first i that is done
 pub record Passing (f : ℕ → ℕ → ℕ) (d₀ d : List ℕ) (i : ℕ) : Type 0 where

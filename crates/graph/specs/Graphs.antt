@@ -13,7 +13,7 @@ use Rattle.chart.specs.Charts.{Chart}
 use Rattle.align.specs.Sets.{joined, holdsAll}
 use Rattle.checker.specs.Records.{index}
 use Rattle.checker.specs.Rules.{headOf, startPair, startKept}
-use Rattle.words.specs.Words.{Member}
+use Rattle.words.specs.Words.{Member, Listed, listed}
 
 -- "Lent: marks (4,160 bytes), targets (8,192 u16 [..]), sets (4,096 u64 [..]), waiting (4,096 bytes)"
 pub record Graph : Type 0 where
@@ -84,8 +84,26 @@ unfoldable pub unwait : Graph → ℕ → Graph
 unwait g n = graph (g .marks) (g .targets) (g .sets) (set (g .waiting) n 0)
 
 -- ---- where to look: no rule speaks of it
--- each pair with a mark other than 0 is a member of the set, and each pair with a target other than 65535. A set with more members does too
+-- each pair that has something in a buffer is a member of the set: a mark, a set or a flag other than 0, a target other than 65535. A set
+-- with more members does too: that of all pairs serves any buffers
 pub record Covers (seen : List ℕ) (g : Graph) : Type 0 where
   pub long : length seen ≡ 64
   pub marks : (i : ℕ) → i < 4096 → 0 < getD (g .marks) i 0 → Member seen i
   pub targets : (i r : ℕ) → i < 4096 → r < 2 → (getD (g .targets) (index i r) 0 ≡ 65535 → ⊥) → Member seen i
+  pub sets : (i : ℕ) → i < 4096 → 0 < getD (g .sets) i 0 → Member seen i
+  pub waiting : (i : ℕ) → i < 4096 → 0 < getD (g .waiting) i 0 → Member seen i
+
+-- each pair that waits is in the list. A list with more pairs does too
+pub record Lists (l w : List ℕ) : Type 0 where
+  pub long : length l ≡ 65
+  pub each : (i : ℕ) → i < 4096 → 0 < getD w i 0 → Listed l i
+
+-- both: what a turn keeps up
+pub record Tracks (l seen : List ℕ) (g : Graph) : Type 0 where
+  pub lists : Lists l (g .waiting)
+  pub covers : Covers seen g
+
+-- the list after pair n was told whether it is to wait
+unfoldable pub listedIf : Bool → List ℕ → ℕ → List ℕ
+listedIf true l n = listed l n
+listedIf false l n = l

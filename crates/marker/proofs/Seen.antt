@@ -32,8 +32,8 @@ module _ {w x : List ℕ} (H : Holds w x) where
       rw (g, f, e)
       (record {
         long = length-added w n ∙ H .long;
-        has = λ k c p. dite (ℕ-discrete k n) (λ q. rw q (added-here w n (H .long) b))
-            (λ q. added-old w n (H .long) b k (P .has k c (omega (arith, getD-set-other (plainMarks x) n k 1 0 q))));
+        has = λ k c p. dite (ℕ-discrete k n) (λ q. rw q (added-here w n (omega (arith, H .long)) b))
+            (λ q. added-old w n (omega (arith, H .long)) b k (P .has k c (omega (arith, getD-set-other (plainMarks x) n k 1 0 q))));
       })
 
   pub holds-opened : (t : List ℕ) {y : List ℕ} → length x ≡ 4160 → y ≡ allOpened t x → Holds w y
@@ -58,7 +58,7 @@ module _ {w x : List ℕ} (H : HoldsBeyond w x) where
         (record {
           long = length-removed w i ∙ H .long;
           has = λ k c p. dite (ℕ-discrete k i) (λ q. absurd (omega (arith, rw q at p, getD-set-same x i 1 0 (omega arith))))
-              (λ q. removed-other w i (H .long) b k c q (H .has k c (sym (getD-set-other x i k 1 0 q) ∙ p)));
+              (λ q. removed-other w i (omega (arith, H .long)) b k c q (H .has k c (sym (getD-set-other x i k 1 0 q) ∙ p)));
         })
 
 -- ---- a copy, word by word: the first i are those of w

@@ -20,7 +20,7 @@ use Rattle.graph.specs.Graphs.{Graph, marked, unwait}
 use Rattle.detector.specs.Turns.{rowsOf, next, setNow, begun, rowDone, secondDone, taken, explored}
 use Rattle.detector.proofs.Ones.{one-there, one-other}
 use Rattle.graph.proofs.Graphs.{markAt, setAt, Shaped, marked-yes, marked-no, unwait-shaped}
-use Rattle.detector.proofs.Turns.{set-now, set-had, set-now-small, next-lowest}
+use Rattle.detector.proofs.Turns.{set-now, set-had, set-now-small, next-waits}
 use Rattle.detector.proofs.Measure.{row-lighter}
 use Rattle.detector.proofs.Invariant.{Inv, Every, turn-inv, begun-inv}
 use Rattle.paper.specs.Nodes.{_∈_, _∉_, onlyPair, pairOf, Numbered}
@@ -139,7 +139,7 @@ module _ (old new : Chart) (F : FaultlessChart old) (G : FaultlessChart new) whe
 
   turn-ran : Words (old .table) → Words (new .table) → (g : Graph) (n : ℕ) → Ran g → next g ≡ some n → Ran (taken old new g n)
   turn-ran wo wn g n A e =
-      let L = next-lowest g n e in
+      let L = next-waits g n e in
       let I = A .inv in
       let l : n < 4096 = omega (arith, L .below, I .shaped .sized .waiting) in
       let p = I .waiters n l (L .waits) in

@@ -1,11 +1,10 @@
 -- The lowest and the highest bits of a word. Assumes nothing.
-use mathlib.Core.Path.{_≡_, refl, sym, ap, _∙_}
-use mathlib.Core.Logic.{_⊎_, inl, inr, dite}
+use mathlib.Core.Path.{_≡_, refl, ap, _∙_}
+use mathlib.Core.Logic.{_⊎_, inl, inr}
 use Prim.Native.Nat.{ℕ, zero, suc, _+_, _*_, _-_, _/_, _%_, _^_, _≤_, _<_}
-use native.Mathlib.Nat.{pow-suc, div-eq-of-lt, lt-of-lt-of-le, lt-of-le-of-lt, div-le-self, eq-zero-or-pos}
-use native.Mathlib.Decide.{decLt}
+use native.Mathlib.Nat.{pow-suc, div-eq-of-lt, lt-of-lt-of-le, eq-zero-or-pos}
 use native.Mathlib.Omega.{arith}
-use lib.Pow.{shr-shr, pow-mono, high}
+use lib.Pow.{pow-mono, high}
 use lib.Count.{trailingZeros, leadingZeros, under, leading-top, leading-of-zero}
 use Rattle.align.specs.Sets.{bit}
 use Rattle.align.proofs.Sets.{bit-zero, bit-suc, bit-none}
@@ -41,37 +40,6 @@ pub lowest-is : (x : ℕ) → 0 < x → x < 2 ^ 64 → LowestFrom x 0 (trailingZ
 lowest-is x p l =
     let L = lowest 64 x p l in
     (record { least = omega arith; most = omega (arith, L .most); none = λ i m n. L .none i n; here = λ m. L .here }, L .most)
-
-module _ (x k : ℕ) where
-  bit-shifted : (i : ℕ) → bit (x / 2 ^ k) i ≡ bit x (k + i)
-  bit-shifted i = ap (λ (n : ℕ). n % 2) (shr-shr x k i)
-
-  from-shifted : (i : ℕ) → k ≤ i → bit x i ≡ bit (x / 2 ^ k) (i - k)
-  from-shifted i m = let e : i ≡ k + (i - k) = omega arith in ap (bit x) e ∙ sym (bit-shifted (i - k))
-
-  pub lowest-none : k < 64 → x / 2 ^ k ≡ 0 → LowestFrom x k 64
-  lowest-none l e =
-      record {
-        least = omega arith;
-        most = omega arith;
-        none = λ i m n. from-shifted i m ∙ ap (λ (y : ℕ). bit y (i - k)) e ∙ bit-none (i - k);
-        here = λ n. absurd (omega arith);
-      }
-
-  pub lowest-some : x < 2 ^ 64 → (x / 2 ^ k ≡ 0 → ⊥) → LowestFrom x k (k + trailingZeros 64 (x / 2 ^ k))
-  lowest-some l f =
-      let L = lowest 64 (x / 2 ^ k) (omega arith) (lt-of-le-of-lt (div-le-self x (2 ^ k)) l) in
-      let t = trailingZeros 64 (x / 2 ^ k) in
-      let e : bit x (k + t) ≡ 1 = sym (bit-shifted t) ∙ L .here in
-      record {
-        least = omega arith;
-        most = omega (arith, inside t e);
-        none = λ i m n. from-shifted i m ∙ L .none (i - k) (omega arith);
-        here = λ n. e;
-      }
-    where
-      inside : (t : ℕ) → bit x (k + t) ≡ 1 → k + t < 64
-      inside t e = dite (decLt (k + t) 64) (λ m. m) (λ m. absurd (omega (arith, e, bit-past x 64 (k + t) l (omega arith))))
 
 -- ---- the highest
 module _ (x : ℕ) (l : x < 2 ^ 64) where

@@ -1,16 +1,18 @@
--- Members of sets of pairs: added, removed, and looked for. Assumes nothing.
-use mathlib.Core.Path.{_≡_, ap, _∙_}
-use mathlib.Core.Logic.{dite}
+-- Members of sets of pairs: added, removed, and listed. Assumes nothing.
+use mathlib.Core.Path.{_≡_, refl, ap, _∙_}
+use mathlib.Core.Bool.{Bool, true, false}
+use mathlib.Core.Logic.{_↔_, dite}
 use mathlib.Core.List.{List}
-use Prim.Native.Nat.{ℕ, _+_, _*_, _-_, _/_, _%_, _^_, _≤_, _<_}
-use native.Mathlib.Decide.{ℕ-discrete, decLt}
+use Prim.Native.Nat.{ℕ, _/_, _%_, _^_, _≤_, _<_}
+use native.Mathlib.Decide.{ℕ-discrete}
 use native.Mathlib.Omega.{arith}
-use lib.ListN.{length, getD, set, replicate, length-set}
-use lib.Seq.{getD-set-same, getD-set-other}
-use Rattle.base.proofs.Walks.{same-at}
-use Rattle.align.specs.Sets.{bit, with, without}
-use Rattle.align.proofs.Sets.{bit-none, bit-not, with-here, with-old, without-kept}
-use Rattle.words.specs.Words.{Member, added, removed, LowestFrom, FirstWord, First}
+use borrow.Author.Tests.{eqb-true}
+use lib.Pow.{pow-lt}
+use lib.ListN.{length, getD, set, length-set}
+use lib.Seq.{set-getD, getD-set-same, getD-set-other}
+use Rattle.align.specs.Sets.{bit, alone, joined, with, without, meets, holdsAll}
+use Rattle.align.proofs.Sets.{alone-here, alone-only, with-here, with-old, without-kept, meet-some, meet-none, holds-all}
+use Rattle.words.specs.Words.{Member, added, removed, Listed, listed}
 
 -- ---- added and removed
 module _ (w : List ℕ) (n : ℕ) where
@@ -30,7 +32,23 @@ module _ (w : List ℕ) (n : ℕ) where
   unfolding removed
   length-removed = length-set w (n / 64) _
 
-  module _ (l : length w ≡ 64) (b : n < 4096) where
+  else-added : (p : ℕ) → (p ≡ n / 64 → ⊥) → getD (added w n) p 0 ≡ getD w p 0
+  unfolding added
+  else-added p f = getD-set-other w (n / 64) p _ 0 f
+
+  else-removed : (p : ℕ) → (p ≡ n / 64 → ⊥) → getD (removed w n) p 0 ≡ getD w p 0
+  unfolding removed
+  else-removed p f = getD-set-other w (n / 64) p _ 0 f
+
+  -- who is a member already is not added
+  pub added-had : getD w (n / 64) 0 < 2 ^ 64 → Member w n → added w n ≡ w
+  unfolding added with joined alone holdsAll
+  added-had l m =
+      let s = getD w (n / 64) 0 in
+      let h = holds-all s (2 ^ (n % 64)) l (pow-lt {j = 64} (omega arith)) (λ i k p. rw (alone-only i (n % 64) p) m) in
+      ap (set w (n / 64)) (eqb-true _ s h) ∙ set-getD w (n / 64) 0
+
+  module _ (l : 64 ≤ length w) (b : n < 4096) where
     here-added : getD (added w n) (n / 64) 0 ≡ with (getD w (n / 64) 0) (n % 64)
     unfolding added
     here-added = getD-set-same w (n / 64) _ 0 (omega arith)
@@ -38,14 +56,6 @@ module _ (w : List ℕ) (n : ℕ) where
     here-removed : getD (removed w n) (n / 64) 0 ≡ without (getD w (n / 64) 0) (n % 64)
     unfolding removed
     here-removed = getD-set-same w (n / 64) _ 0 (omega arith)
-
-    else-added : (p : ℕ) → (p ≡ n / 64 → ⊥) → getD (added w n) p 0 ≡ getD w p 0
-    unfolding added
-    else-added p f = getD-set-other w (n / 64) p _ 0 f
-
-    else-removed : (p : ℕ) → (p ≡ n / 64 → ⊥) → getD (removed w n) p 0 ≡ getD w p 0
-    unfolding removed
-    else-removed p f = getD-set-other w (n / 64) p _ 0 f
 
     -- the pair is a member now
     pub added-here : Member (added w n) n
@@ -65,84 +75,52 @@ module _ (w : List ℕ) (n : ℕ) where
         (λ e. rw (e, here-removed) (without-kept (i % 64) (getD w (n / 64) 0) (n % 64) (omega arith) (omega arith) (λ h. f (omega arith)) (rw e at m)))
         (λ g. rw (else-removed (i / 64) g) m)
 
--- ---- a word without bits has no members
-none-of : (w : List ℕ) (i : ℕ) → getD w (i / 64) 0 ≡ 0 → Member w i → ⊥
-none-of w i e m = let z : bit (getD w (i / 64) 0) (i % 64) ≡ 0 = ap (λ (x : ℕ). bit x (i % 64)) e ∙ bit-none (i % 64) in omega (arith, m, z)
+-- ---- lists: 65 words
+module _ (w : List ℕ) (n : ℕ) where
+  pub list-is : {w′ : List ℕ} {x : ℕ} → w′ ≡ added w n → x ≡ with (getD w′ 64 0) (n / 64) → set w′ 64 x ≡ listed w n
+  unfolding listed
+  list-is {w′} e f = ap (set w′ 64) f ∙ ap (λ (y : List ℕ). set y 64 (with (getD y 64 0) (n / 64))) e
 
--- members of one word, by its bits
-module _ (w : List ℕ) (p : ℕ) where
-  pub member-at : (b : ℕ) → b < 64 → bit (getD w p 0) b ≡ 1 → Member w (64 * p + b)
-  member-at b l m =
-      let y : (64 * p + b) / 64 ≡ p = omega arith in
-      let z : (64 * p + b) % 64 ≡ b = omega arith in
-      rw (y, z) m
+  pub length-listed : length (listed w n) ≡ length w
+  unfolding listed
+  length-listed = length-set (added w n) 64 _ ∙ length-added w n
 
-  pub not-at : (i : ℕ) → i / 64 ≡ p → bit (getD w p 0) (i % 64) ≡ 0 → Member w i → ⊥
-  not-at i e z m = let y : bit (getD w (i / 64) 0) (i % 64) ≡ 0 = ap (λ (q : ℕ). bit (getD w q 0) (i % 64)) e ∙ z in omega (arith, m, y)
+  module _ (l : length w ≡ 65) (b : n < 4096) where
+    -- the last word is that of the list with one bit more
+    last-listed : getD (listed w n) 64 0 ≡ with (getD w 64 0) (n / 64)
+    unfolding listed
+    last-listed = getD-set-same (added w n) 64 _ 0 (omega (arith, length-added w n)) ∙ ap (λ (x : ℕ). with x (n / 64)) (else-added w n 64 (λ e. omega arith))
 
--- ---- the first word with a bit: so far there is none
-pub record NoneSo (w : List ℕ) (p i : ℕ) : Type 0 where
-  pub least : p ≤ i
-  pub most : i ≤ 64
-  pub none : (k : ℕ) → p ≤ k → k < i → getD w k 0 ≡ 0
+    -- the others have the same members as without it
+    member-listed : (i : ℕ) → i < 4096 → Member (added w n) i → Member (listed w n) i
+    unfolding listed
+    member-listed i c m = rw (getD-set-other (added w n) 64 (i / 64) (with (getD (added w n) 64 0) (n / 64)) 0 (λ e. omega arith)) m
 
-module _ (w : List ℕ) (p : ℕ) where
-  pub none-begun : p ≤ 64 → NoneSo w p p
-  none-begun l = record { least = omega arith; most = l; none = λ k a b. absurd (omega arith) }
+    -- the pair is in the list now
+    pub listed-here : Listed (listed w n) n
+    listed-here = (member-listed n b (added-here w n (omega arith) b), rw last-listed (with-here (n / 64) (getD w 64 0) (n / 64)))
 
-  module _ {i : ℕ} (N : NoneSo w p i) where
-    pub none-again : i < 64 → getD w i 0 ≡ 0 → NoneSo w p (i + 1)
-    none-again l e =
-        record {
-          least = omega (arith, N .least);
-          most = omega arith;
-          none = λ k a b. dite (ℕ-discrete k i) (λ z. rw z e) (λ z. N .none k a (omega arith));
-        }
+    -- and whoever was
+    pub listed-old : (i : ℕ) → i < 4096 → Listed w i → Listed (listed w n) i
+    listed-old i c m =
+        (member-listed i c (added-old w n (omega arith) b i (m .0)), rw last-listed (with-old (i / 64) (getD w 64 0) (n / 64) (m .1)))
 
-    pub first-word-found : i < 64 → (getD w i 0 ≡ 0 → ⊥) → FirstWord w p i
-    first-word-found l f = record { least = N .least; most = N .most; none = N .none; here = λ m. omega arith }
+    -- whoever else was in a list still is when the pair has left its word: the last word stays
+    pub unlisted-other : (i : ℕ) → i < 4096 → (i ≡ n → ⊥) → Listed w i → Listed (removed w n) i
+    unlisted-other i c f m = (removed-other w n (omega arith) b i c f (m .0), rw (else-removed w n 64 (λ e. omega arith)) (m .1))
 
-    pub first-word-none : 64 ≤ i → FirstWord w p i
-    first-word-none f = record { least = N .least; most = N .most; none = N .none; here = λ m. absurd (omega arith) }
+-- ---- whether a pair is a member, as a test
+pub has-is : (w : List ℕ) (n : ℕ) {x : ℕ} {b : Bool} → getD w (n / 64) 0 < 2 ^ 64 → x ≡ alone (n % 64) → b ≡ meets (getD w (n / 64) 0) x
+    → (b ≡ true) ↔ Member w n
+has-is w n l a e = rw (e, a) (there, go (meets (getD w (n / 64) 0) (alone (n % 64))) refl)
+  where
+    there : meets (getD w (n / 64) 0) (alone (n % 64)) ≡ true → Member w n
+    there t = let s = meet-some (getD w (n / 64) 0) (alone (n % 64)) l t in rw (alone-only (s .0) (n % 64) (s .3)) at (s .2)
 
-pub word-some : {w : List ℕ} {p r : ℕ} → FirstWord w p r → (r ≡ 64 → ⊥) → 0 < getD w r 0
-word-some F f = F .here (omega (arith, F .most))
+    go : (b : Bool) → meets (getD w (n / 64) 0) (alone (n % 64)) ≡ b → Member w n → b ≡ true
+    go true f m = refl
+    go false f m = absurd (meet-none (getD w (n / 64) 0) (alone (n % 64)) (n % 64) f m (alone-here (n % 64)))
 
--- ---- the first pair
-module _ (w : List ℕ) (n : ℕ) (l : n ≤ 4096) where
-  pub first-end : n ≡ 4096 → First w n n
-  first-end e = record { least = omega arith; most = omega arith; none = λ i a b m. absurd (omega arith); here = λ m. absurd (omega arith) }
-
-  module _ {x : ℕ} (b : (n ≡ 4096 → ⊥)) (L : LowestFrom (getD w (n / 64) 0) (n % 64) x) where
-    pub first-here : x < 64 → First w n (64 * (n / 64) + x)
-    first-here c =
-        record {
-          least = omega (arith, L .least);
-          most = omega arith;
-          none = λ i a d. not-at w (n / 64) i (omega arith) (L .none (i % 64) (omega arith) (omega arith));
-          here = λ m. member-at w (n / 64) x c (L .here c);
-        }
-
-    module _ {q : ℕ} (c : 64 ≤ x) (F : FirstWord w (n / 64 + 1) q) where
-      -- pairs before word q are no members
-      passed : (i : ℕ) → n ≤ i → i < 64 * q → Member w i → ⊥
-      passed i a d m =
-          dite (ℕ-discrete (i / 64) (n / 64)) (λ e. not-at w (n / 64) i e (L .none (i % 64) (omega arith) (omega arith)) m)
-          (λ e. none-of w i (F .none (i / 64) (omega arith) (omega arith)) m)
-
-      pub first-none : q ≡ 64 → First w n 4096
-      first-none e = record { least = l; most = omega arith; none = λ i a d. passed i a (omega arith); here = λ m. absurd (omega arith) }
-
-      pub first-there : {y : ℕ} → (q ≡ 64 → ⊥) → LowestFrom (getD w q 0) 0 y → y < 64 → First w n (64 * q + y)
-      first-there {y} f M s =
-          record {
-            least = omega (arith, F .least);
-            most = omega (arith, F .most);
-            none = λ i a d m. dite (decLt i (64 * q)) (λ h. passed i a h m) (λ h. not-at w q i (omega arith) (M .none (i % 64) (omega arith) (omega arith)) m);
-            here = λ m. member-at w q y s (M .here s);
-          }
-
--- ---- each pair is a member of words that have all their bits
-pub all-members : (i : ℕ) → i < 4096 → Member (replicate 64 (2 ^ 64 - 1)) i
-all-members i l =
-    rw (same-at 64 (2 ^ 64 - 1) (i / 64) (omega arith)) (bit-not 64 (i % 64) 0 (omega arith) (omega arith) ∙ ap (λ (x : ℕ). 1 - x) (bit-none (i % 64)))
+-- ---- a bit that its word lacks is no member
+pub not-at : (w : List ℕ) (p i : ℕ) → i / 64 ≡ p → bit (getD w p 0) (i % 64) ≡ 0 → Member w i → ⊥
+not-at w p i e z m = let y : bit (getD w (i / 64) 0) (i % 64) ≡ 0 = ap (λ (q : ℕ). bit (getD w q 0) (i % 64)) e ∙ z in omega (arith, m, y)

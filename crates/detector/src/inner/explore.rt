@@ -50,8 +50,8 @@ fn begin(
     buffers::put8(waiting, first, 1);
 }
 
-// Takes the lowest waiting pair up, as long as one waits. So that nobody looks at every pair, `waits` has whoever waits, and `seen` whoever
-// comes into the graph; what `seen` had before it keeps.
+// Takes the lowest waiting pair up, as long as one waits. So that nobody looks at every pair, `waits` lists whoever waits, and
+// `seen` has whoever comes into the graph; what `seen` had before it keeps.
 pub fn explore<'a>(
     old: Head,
     old_rows: &'a [u32],
@@ -73,12 +73,11 @@ pub fn explore<'a>(
         ≡ explored (charted old (now («old_rows» .entry))) (charted new (now («new_rows» .entry))) ⌝ }
 {
     begin(old, new, marks, targets, sets, waiting);
-    let mut waits = [0u64; 64];
-    members::add(&mut waits, first_pair(old, new));
+    let mut waits = [0u64; 65];
+    members::list(&mut waits, first_pair(old, new));
     members::add(seen, first_pair(old, new));
-    let mut from = 0;
     loop {
-        match turns::lowest(&mut waits, &*waiting, from) {
+        match turns::lowest(&mut waits, &*waiting) {
             Found::At(n) => {
                 turns::turn(
                     old,
@@ -90,9 +89,10 @@ pub fn explore<'a>(
                     targets,
                     sets,
                     waiting,
+                    &mut waits,
+                    seen,
                     n,
                 );
-                from = turns::low_after(&*marks, &*targets, &*waiting, &mut waits, seen, n);
             }
             Found::Nothing => {
                 return;

@@ -1,17 +1,17 @@
 // Algorithm 2: the rows of a waiting pair, and the turns of a build.
 ghost use mathlib.Core.Path.{_≡_};
-ghost use mathlib.Core.Bool.{true};
 ghost use mathlib.Core.Option.{some};
-ghost use Prim.Native.Nat.{ℕ, _<_, _≤_, min};
+ghost use Prim.Native.Nat.{ℕ, _<_};
 ghost use lib.ListN.{length, getD};
 ghost use Rattle.chart.specs.Charts.{charted};
 ghost use Rattle.chart.specs.Faultless.{FaultlessChart};
 ghost use Rattle.chart.specs.Lookup.{Indexed};
 ghost use Rattle.align.specs.declared.spots.Spot.{Spot};
 ghost use Rattle.align.specs.Steps.{told, toldFound};
-ghost use Rattle.words.specs.Words.{First, removed};
-ghost use Rattle.graph.specs.Graphs.{graph, Sized, marked};
-ghost use Rattle.detector.specs.Turns.{lowest, Lists, lowOf, lowAfter, listed, listedAfter, setNow, arrived, processed, rowDone, taken};
+ghost use Rattle.words.specs.Words.{LowestFrom};
+ghost use Rattle.graph.specs.Graphs.{graph, Sized, Lists, Tracks};
+ghost use Rattle.detector.specs.Turns.{lowest, LowestOf, setNow, arrived, processed, rowDone, taken};
+use align::inner::sets::without;
 use align::inner::step::step;
 use align::spots::Aligned;
 use align::spots::Found;
@@ -29,94 +29,51 @@ use graph::inner::buffers;
 use graph::inner::graphs;
 use words::inner::members;
 
-// The first pair from i on that may wait, or 4,096.
-fn next_listed(waits: &[u64], i: usize) -> usize
-    requires { ⌜ (length (now waits) ≡ 64) × (i ≤ 4096) ⌝ }
-    ensures { λ r. ⌜ First (now (waits .entry)) i r ⌝ }
+// The next pair of an old place to look at: the lowest bit of what is left of its word.
+fn next_pair(word: u64) -> usize
+    requires { ⌜ 0 < word ⌝ }
+    ensures { λ r. ⌜ LowestFrom word 0 r × (r < 64) ⌝ }
 {
-    members::first(waits, i)
+    members::lowest(word)
 }
 
-// The lowest pair that waits, where none waits below `from`. Members of `waits` that wait no more are met once, and removed.
-pub fn lowest(waits: &mut [u64], waiting: &[u8], from: usize) -> Found
-    requires { ⌜ (from ≤ 4096) × ((i : ℕ) → i < from → getD (now waiting) i 0 ≡ 0) ⌝ }
+// The lowest pair of old place p that waits. Bits of its word that wait no more are met once, and dropped.
+fn lowest_of(waits: &mut [u64], waiting: &[u8], p: usize) -> Found
+    requires { ⌜ (length (now waiting) ≡ 4096) × (p < 64) × Lists (now waits) (now waiting) ⌝ }
+    ensures { λ r. ⌜ LowestOf (now (waiting .entry)) p (toldFound r) × Lists (now (waits .exit)) (now (waiting .entry)) ⌝ }
+    ensures { λ _. ⌜ getD (now (waits .exit)) 64 0 ≡ getD (now (waits .entry)) 64 0 ⌝ }
+{
+    let mut word = waits[p];
+    while word != 0 {
+        let q = next_pair(word);
+        if waiting[64 * p + q] != 0 {
+            waits[p] = word;
+            return Found::At(64 * p + q);
+        }
+        word = without(word, q as u32);
+    }
+    waits[p] = 0;
+    Found::Nothing
+}
+
+// The lowest pair that waits. Only the old places that the list's last word names may have one; those that have none are met
+// once, and dropped.
+pub fn lowest(waits: &mut [u64], waiting: &[u8]) -> Found
     requires { ⌜ (length (now waiting) ≡ 4096) × Lists (now waits) (now waiting) ⌝ }
     ensures { λ r. ⌜ (toldFound r ≡ lowest (now (waiting .entry))) × Lists (now (waits .exit)) (now (waiting .entry)) ⌝ }
 {
-    let mut i = from;
-    loop {
-        let at = next_listed(&*waits, i);
-        if 4096 <= at {
-            return Found::Nothing;
+    while waits[64] != 0 {
+        let p = members::lowest(waits[64]);
+        match lowest_of(waits, waiting, p) {
+            Found::At(n) => {
+                return Found::At(n);
+            }
+            Found::Nothing => {
+                waits[64] = without(waits[64], p as u32);
+            }
         }
-        if waiting[at] != 0 {
-            return Found::At(at);
-        }
-        members::remove(waits, at);
-        i = at + 1;
     }
-}
-
-fn wide(x: u16) -> usize
-    ensures { λ r. ⌜ r ≡ x ⌝ }
-{
-    x as usize
-}
-
-fn lower(a: usize, b: usize) -> usize
-    ensures { λ r. ⌜ r ≡ min a b ⌝ }
-{
-    if a < b {
-        return a;
-    }
-    b
-}
-
-// Takes the target t of the pair in hand into the sets: among `seen` if it is a pair, and among `waits` if it waits. Gives the lower of n
-// and t where t waits; else n.
-fn low_of(waiting: &[u8], waits: &mut [u64], seen: &mut [u64], n: usize, t: u16) -> usize
-    requires { ⌜ (length (now waiting) ≡ 4096) × (length (now waits) ≡ 64) × (length (now seen) ≡ 64) ⌝ }
-    ensures { λ r. ⌜ (r ≡ lowOf (now (waiting .entry)) n t)
-        × (now (waits .exit) ≡ listed (marked (now (waiting .entry))) (now (waits .entry)) t)
-        × (now (seen .exit) ≡ listed (λ _. true) (now (seen .entry)) t) ⌝ }
-{
-    let at = wide(t);
-    if 4096 <= at {
-        return n;
-    }
-    members::add(seen, at);
-    if waiting[at] == 0 {
-        return n;
-    }
-    members::add(waits, at);
-    lower(n, at)
-}
-
-// Where to look on after the turn of pair n: no pair below waits. Whoever has come to wait, or into the graph, is a target of its rows. A
-// pair that left in its own turn has stored none: then anybody may have, which is rare.
-pub fn low_after(
-    marks: &[u8],
-    targets: &[u16],
-    waiting: &[u8],
-    waits: &mut [u64],
-    seen: &mut [u64],
-    n: usize,
-) -> usize
-    requires { ⌜ (n < 4096) × (length (now marks) ≡ 4160) × (length (now targets) ≡ 8192) × (length (now waiting) ≡ 4096) ⌝ }
-    requires { ⌜ (length (now waits) ≡ 64) × (length (now seen) ≡ 64) ⌝ }
-    ensures { λ r. ⌜ (r ≡ lowAfter (now (marks .entry)) (now (targets .entry)) (now (waiting .entry)) n)
-        × (now (waits .exit) ≡ listedAfter (now (marks .entry)) (now (targets .entry)) (marked (now (waiting .entry))) n (removed (now (waits .entry)) n))
-        × (now (seen .exit) ≡ listedAfter (now (marks .entry)) (now (targets .entry)) (λ _. true) n (now (seen .entry))) ⌝ }
-{
-    if graphs::is_marked(marks, kept(new_of(n))) {
-        buffers::fill64(waits, 18446744073709551615);
-        buffers::fill64(seen, 18446744073709551615);
-        return 0;
-    }
-    members::remove(waits, n);
-    let at = 2 * n;
-    let low = low_of(waiting, waits, seen, n, targets[at]);
-    low_of(waiting, waits, seen, low, targets[at + 1])
+    Found::Nothing
 }
 
 // Row r of pair n leads to new place q by a step that came to h.
@@ -126,6 +83,8 @@ fn arrive(
     targets: &mut [u16],
     sets: &mut [u64],
     waiting: &mut [u8],
+    waits: &mut [u64],
+    seen: &mut [u64],
     n: usize,
     r: usize,
     q: NewPlace,
@@ -133,6 +92,8 @@ fn arrive(
 )
     requires { ⌜ (n < 4096) × (r < 2) × (q .0 < 64) × (h .place .0 < 64) ⌝ }
     requires { ⌜ Sized (graph (now marks) (now targets) (now sets) (now waiting)) ⌝ }
+    requires { ⌜ Tracks (now waits) (now seen) (graph (now marks) (now targets) (now sets) (now waiting)) ⌝ }
+    ensures { λ _. ⌜ Tracks (now (waits .exit)) (now (seen .exit)) (graph (now (marks .exit)) (now (targets .exit)) (now (sets .exit)) (now (waiting .exit))) ⌝ }
     ensures { λ _. ⌜ graph (now (marks .exit)) (now (targets .exit)) (now (sets .exit)) (now (waiting .exit))
         ≡ arrived (old .alarm) (graph (now (marks .entry)) (now (targets .entry)) (now (sets .entry)) (now (waiting .entry))) n r q h ⌝ }
 {
@@ -142,7 +103,7 @@ fn arrive(
         return;
     }
     let at = pair(h.place, q);
-    graphs::join(old, marks, sets, waiting, at, h.set);
+    graphs::join(old, marks, sets, waiting, waits, seen, at, h.set);
     graphs::aim(&*marks, targets, n, r, at);
 }
 
@@ -153,6 +114,8 @@ fn process(
     targets: &mut [u16],
     sets: &mut [u64],
     waiting: &mut [u8],
+    waits: &mut [u64],
+    seen: &mut [u64],
     n: usize,
     r: usize,
     q: NewPlace,
@@ -161,15 +124,17 @@ fn process(
     requires { ⌜ (n < 4096) × (r < 2) × (q .0 < 64) ⌝ }
     requires { ⌜ ((h : Spot) → told came ≡ some h → h .place .0 < 64) ⌝ }
     requires { ⌜ Sized (graph (now marks) (now targets) (now sets) (now waiting)) ⌝ }
+    requires { ⌜ Tracks (now waits) (now seen) (graph (now marks) (now targets) (now sets) (now waiting)) ⌝ }
+    ensures { λ _. ⌜ Tracks (now (waits .exit)) (now (seen .exit)) (graph (now (marks .exit)) (now (targets .exit)) (now (sets .exit)) (now (waiting .exit))) ⌝ }
     ensures { λ _. ⌜ graph (now (marks .exit)) (now (targets .exit)) (now (sets .exit)) (now (waiting .exit))
         ≡ processed (old .alarm) (graph (now (marks .entry)) (now (targets .entry)) (now (sets .entry)) (now (waiting .entry))) n r q (told came) ⌝ }
 {
     match came {
         Aligned::To(h) => {
-            arrive(old, marks, targets, sets, waiting, n, r, q, h);
+            arrive(old, marks, targets, sets, waiting, waits, seen, n, r, q, h);
         }
         Aligned::Failed => {
-            graphs::keep(marks, targets, sets, waiting, q);
+            graphs::keep(marks, targets, sets, waiting, &*seen, q);
             graphs::aim(&*marks, targets, n, r, kept(q));
         }
     }
@@ -186,6 +151,8 @@ fn row<'a>(
     targets: &mut [u16],
     sets: &mut [u64],
     waiting: &mut [u8],
+    waits: &mut [u64],
+    seen: &mut [u64],
     n: usize,
     v: u64,
     r: usize,
@@ -195,6 +162,8 @@ fn row<'a>(
     requires { ⌜ Indexed (now «old_rows») (now «new_rows») (now index) ⌝ }
     requires { ⌜ (n < 4096) × (r < 2) ⌝ }
     requires { ⌜ Sized (graph (now marks) (now targets) (now sets) (now waiting)) ⌝ }
+    requires { ⌜ Tracks (now waits) (now seen) (graph (now marks) (now targets) (now sets) (now waiting)) ⌝ }
+    ensures { λ _. ⌜ Tracks (now (waits .exit)) (now (seen .exit)) (graph (now (marks .exit)) (now (targets .exit)) (now (sets .exit)) (now (waiting .exit))) ⌝ }
     ensures { λ _. ⌜ graph (now (marks .exit)) (now (targets .exit)) (now (sets .exit)) (now (waiting .exit))
         ≡ rowDone (charted old (now («old_rows» .entry))) (charted new (now («new_rows» .entry))) (graph (now (marks .entry)) (now (targets .entry)) (now (sets .entry)) (now (waiting .entry))) n v r ⌝ }
 {
@@ -207,6 +176,8 @@ fn row<'a>(
             targets,
             sets,
             waiting,
+            waits,
+            seen,
             n,
             r,
             new_to(part, r),
@@ -237,6 +208,8 @@ pub fn turn<'a>(
     targets: &mut [u16],
     sets: &mut [u64],
     waiting: &mut [u8],
+    waits: &mut [u64],
+    seen: &mut [u64],
     n: usize,
 )
     requires { ⌜ FaultlessChart (charted old (now «old_rows»)) ⌝ }
@@ -244,11 +217,14 @@ pub fn turn<'a>(
     requires { ⌜ Indexed (now «old_rows») (now «new_rows») (now index) ⌝ }
     requires { ⌜ n < 4096 ⌝ }
     requires { ⌜ Sized (graph (now marks) (now targets) (now sets) (now waiting)) ⌝ }
+    requires { ⌜ Tracks (now waits) (now seen) (graph (now marks) (now targets) (now sets) (now waiting)) ⌝ }
+    ensures { λ _. ⌜ Tracks (now (waits .exit)) (now (seen .exit)) (graph (now (marks .exit)) (now (targets .exit)) (now (sets .exit)) (now (waiting .exit))) ⌝ }
     ensures { λ _. ⌜ graph (now (marks .exit)) (now (targets .exit)) (now (sets .exit)) (now (waiting .exit))
         ≡ taken (charted old (now («old_rows» .entry))) (charted new (now («new_rows» .entry))) (graph (now (marks .entry)) (now (targets .entry)) (now (sets .entry)) (now (waiting .entry))) n ⌝ }
 {
     let mut v = sets[n];
     buffers::put8(waiting, n, 0);
+    members::remove(waits, n);
     let mut r = 0;
     while r < 2 {
         v = set_now(&*marks, &*sets, n, v);
@@ -262,6 +238,8 @@ pub fn turn<'a>(
             targets,
             sets,
             waiting,
+            waits,
+            seen,
             n,
             v,
             r,

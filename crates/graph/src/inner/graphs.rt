@@ -1,18 +1,22 @@
 // What a turn does to the four lent buffers.
 ghost use mathlib.Core.Path.{_≡_};
 ghost use mathlib.Core.List.{List};
-ghost use Prim.Native.Nat.{ℕ, _<_, _≤_};
+ghost use Prim.Native.Nat.{ℕ, _<_};
 ghost use lib.ListN.{length, set, getD};
 ghost use Rattle.align.specs.Sets.{joined};
-ghost use Rattle.checker.specs.Rules.{startPair};
-ghost use Rattle.graph.specs.Graphs.{graph, Sized, marked, keep, aim, due, join};
+ghost use Rattle.checker.specs.Records.{index};
+ghost use Rattle.words.specs.Words.{Member, added};
+ghost use Rattle.graph.specs.Graphs.{graph, Sized, Covers, marked, keep, aim, due, join, listedIf};
 use crate::inner::buffers;
 use align::inner::sets::holds_all;
 use align::inner::sets::joined;
 use chart::charts::Head;
 use chart::inner::pairs::kept;
 use chart::inner::pairs::old_of;
+use chart::inner::pairs::pair;
 use chart::places::NewPlace;
+use chart::places::OldPlace;
+use words::inner::members;
 
 // Whether a node is in the graph, or kept.
 pub fn is_marked(marks: &[u8], n: usize) -> bool
@@ -22,24 +26,44 @@ pub fn is_marked(marks: &[u8], n: usize) -> bool
     marks[n] != 0
 }
 
-// New place q becomes kept, and all pairs with it leave.
+// Pair n leaves all buffers.
+fn leave(marks: &mut [u8], targets: &mut [u16], sets: &mut [u64], waiting: &mut [u8], n: usize)
+    requires { ⌜ n < 4096 ⌝ }
+    requires { ⌜ Sized (graph (now marks) (now targets) (now sets) (now waiting)) ⌝ }
+    ensures { λ _. ⌜ (now (marks .exit) ≡ set (now (marks .entry)) n 0)
+        × (now (targets .exit) ≡ set (set (now (targets .entry)) (index n 0) 65535) (index n 1) 65535)
+        × (now (sets .exit) ≡ set (now (sets .entry)) n 0) × (now (waiting .exit) ≡ set (now (waiting .entry)) n 0) ⌝ }
+{
+    marks[n] = 0;
+    let at = 2 * n;
+    targets[at] = 65535;
+    targets[at + 1] = 65535;
+    sets[n] = 0;
+    waiting[n] = 0;
+}
+
+// New place q becomes kept, and all pairs with it leave. Those not seen have nothing to leave.
 pub fn keep(
     marks: &mut [u8],
     targets: &mut [u16],
     sets: &mut [u64],
     waiting: &mut [u8],
+    seen: &[u64],
     q: NewPlace,
 )
     requires { ⌜ q .0 < 64 ⌝ }
     requires { ⌜ Sized (graph (now marks) (now targets) (now sets) (now waiting)) ⌝ }
+    requires { ⌜ Covers (now seen) (graph (now marks) (now targets) (now sets) (now waiting)) ⌝ }
     ensures { λ _. ⌜ graph (now (marks .exit)) (now (targets .exit)) (now (sets .exit)) (now (waiting .exit))
         ≡ keep (graph (now (marks .entry)) (now (targets .entry)) (now (sets .entry)) (now (waiting .entry))) q ⌝ }
 {
-    buffers::clear8(marks, q);
+    for p in 0u32..64 {
+        let n = pair(OldPlace(p), q);
+        if members::has(seen, n) {
+            leave(marks, targets, sets, waiting, n);
+        }
+    }
     buffers::put8(marks, kept(q), 1);
-    buffers::untarget(targets, q);
-    buffers::clear64(sets, q);
-    buffers::clear8(waiting, q);
 }
 
 // The target of row r of pair n, unless the pair has left.
@@ -54,20 +78,6 @@ pub fn aim(marks: &[u8], targets: &mut [u16], n: usize, r: usize, to: usize)
     }
 }
 
-// Whether pair n is to wait when it gains the set v.
-fn is_due(old: Head, marks: &[u8], sets: &[u64], n: usize, v: u64) -> bool
-    requires { ⌜ (n < 4096) × (length (now marks) ≡ 4160) × (length (now sets) ≡ 4096) ⌝ }
-    ensures { λ r. ⌜ r ≡ due (old .alarm) (now (marks .entry)) (now (sets .entry)) n v ⌝ }
-{
-    if old_of(n).is(old.alarm) {
-        return false;
-    }
-    if marks[n] == 0 {
-        return true;
-    }
-    !holds_all(sets[n], v)
-}
-
 // The set of pair n gains v.
 fn gain(sets: &mut [u64], n: usize, v: u64)
     requires { ⌜ n < length (now sets) ⌝ }
@@ -76,16 +86,35 @@ fn gain(sets: &mut [u64], n: usize, v: u64)
     sets[n] = joined(sets[n], v);
 }
 
-// Pair n joins the graph with the set v.
-pub fn join(old: Head, marks: &mut [u8], sets: &mut [u64], waiting: &mut [u8], n: usize, v: u64)
+// Pair n joins the graph with the set v: it is seen, and in the list if it is to wait. Many pairs are there already with all of v: of
+// these only the mark is written.
+pub fn join(
+    old: Head,
+    marks: &mut [u8],
+    sets: &mut [u64],
+    waiting: &mut [u8],
+    waits: &mut [u64],
+    seen: &mut [u64],
+    n: usize,
+    v: u64,
+)
     requires { ⌜ (n < 4096) × (length (now marks) ≡ 4160) × (length (now sets) ≡ 4096) × (length (now waiting) ≡ 4096) ⌝ }
+    requires { ⌜ (length (now waits) ≡ 65) × (length (now seen) ≡ 64) ⌝ }
+    requires { ⌜ (0 < getD (now marks) n 0 → Member (now seen) n) ⌝ }
+    ensures { λ _. ⌜ (now (waits .exit) ≡ listedIf (due (old .alarm) (now (marks .entry)) (now (sets .entry)) n v) (now (waits .entry)) n)
+        × (now (seen .exit) ≡ added (now (seen .entry)) n) ⌝ }
     ensures { λ _. ⌜ ((t : List ℕ) → graph (now (marks .exit)) t (now (sets .exit)) (now (waiting .exit))
         ≡ join (old .alarm) (graph (now (marks .entry)) t (now (sets .entry)) (now (waiting .entry))) n v) ⌝ }
 {
-    let due = is_due(old, &*marks, &*sets, n, v);
+    let there = is_marked(&*marks, n);
     buffers::put8(marks, n, 1);
+    if there & holds_all(sets[n], v) {
+        return;
+    }
+    members::add(seen, n);
     gain(sets, n, v);
-    if due {
+    if !old_of(n).is(old.alarm) {
         buffers::put8(waiting, n, 1);
+        members::list(waits, n);
     }
 }

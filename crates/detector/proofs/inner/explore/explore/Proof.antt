@@ -3,42 +3,43 @@ use mathlib.Core.Path.{refl, sym, _∙_}
 use Rattle.chart.specs.Charts.{charted}
 use Rattle.graph.specs.Graphs.{graph}
 use Rattle.detector.proofs.Measure.{weight}
-use Rattle.detector.proofs.Exploring.{Building, build-begun, build-sized, build-looks, build-below, build-less, build-turn, build-done, same-marks, same-targets, same-sets, same-waiting}
+use Rattle.detector.proofs.Exploring.{Building, build-begun, build-sized, build-looks, build-tracks, build-below, build-less, build-turn, build-done, same-marks, same-targets, same-sets, same-waiting}
+use native.Mathlib.Omega.{arith}
 use borrow.Author.Needs.{needs}
 use Rattle.detector.proofs.inner.explore.explore.Statement.{statement}
 use Rattle.detector.proofs.inner.explore.explore.Tie as tie
 
 abbrev Inv-loop : tie.InvT-loop
-Inv-loop old old-rows new new-rows index marks₀ targets₀ sets₀ waiting₀ seen₀ waits₀ from₀ marks targets sets waiting seen waits from =
-    Building (charted old old-rows) (charted new new-rows) (graph marks targets sets waiting) waits seen from
+Inv-loop old old-rows new new-rows index marks₀ targets₀ sets₀ waiting₀ seen₀ waits₀ marks targets sets waiting seen waits =
+    Building (charted old old-rows) (charted new new-rows) (graph marks targets sets waiting) waits seen
 
 abbrev μ-loop : tie.MeasureT-loop
-μ-loop old old-rows new new-rows index marks₀ targets₀ sets₀ waiting₀ seen₀ waits₀ from₀ marks targets sets waiting seen waits from =
+μ-loop old old-rows new new-rows index marks₀ targets₀ sets₀ waiting₀ seen₀ waits₀ marks targets sets waiting seen waits =
     weight (graph marks targets sets waiting)
 
 begin-requires : tie.Need-begin-requires Inv-loop μ-loop
 begin-requires c κs = search needs
 
-slice-aggregate-add : tie.Need-slice-aggregate-add Inv-loop μ-loop
-slice-aggregate-add c = search needs
+slice-aggregate-list : tie.Need-slice-aggregate-list Inv-loop μ-loop
+slice-aggregate-list c = search needs
 
 first-pair-requires : tie.Need-first-pair-requires Inv-loop μ-loop
 first-pair-requires c κs = search needs
 
-add-requires : tie.Need-add-requires Inv-loop μ-loop
-add-requires c κs = search needs
+list-requires : tie.Need-list-requires Inv-loop μ-loop
+list-requires c κs = search needs
 
 first-pair-requires-2 : tie.Need-first-pair-requires-2 Inv-loop μ-loop
 first-pair-requires-2 c κs = search needs
 
-add-requires-2 : tie.Need-add-requires-2 Inv-loop μ-loop
-add-requires-2 c κs = (c .before .before .before .before .before .before .before .before .before .before .before .before .before .before .before .before .before .before .before .before .before .before .before .before .before .before .pre .1 .1 .1 .1, search needs)
+add-requires : tie.Need-add-requires Inv-loop μ-loop
+add-requires c κs = (omega (arith, c .before .before .before .before .before .before .before .before .before .before .before .before .before .before .before .before .before .before .before .before .before .before .before .before .before .before .pre .1 .1 .1 .1), search needs)
 
 loop-holds : tie.Need-loop-holds Inv-loop μ-loop
-loop-holds c = build-begun _ _ _ _ (c .before .before .before .before .before .before .before .before .before .before .before .before .before .before .before .before .before .before .before .before .before .before .before .before .before .before .before .before .before .pre .0) (c .before .before .before .before .before .before .before .before .before .before .before .before .before .before .before .before .before .before .before .before .before .before .before .before .before .before .before .before .before .pre .1 .0) (c .before .before .before .before .before .before .before .before .before .before .before .before .before .before .before .before .before .begin .ensures _ _) refl (c .before .before .before .before .before .before .before .first-pair .ensures) (c .before .before .before .before .before .before .add .ensures) (c .before .before .before .before .before .before .before .before .before .before .before .before .before .before .before .before .before .before .before .before .before .before .before .before .before .before .before .before .before .pre .1 .1 .1 .1) (c .before .before .before .first-pair2 .ensures) (c .before .before .add2 .ensures)
+loop-holds c = build-begun _ _ _ _ (c .before .before .before .before .before .before .before .before .before .before .before .before .before .before .before .before .before .before .before .before .before .before .before .before .before .before .before .before .before .pre .0) (c .before .before .before .before .before .before .before .before .before .before .before .before .before .before .before .before .before .before .before .before .before .before .before .before .before .before .before .before .before .pre .1 .0) (c .before .before .before .before .before .before .before .before .before .before .before .before .before .before .before .before .before .begin .ensures _ _) refl (c .before .before .before .before .before .before .before .first-pair .ensures) (c .before .before .before .before .before .before .list .ensures) (c .before .before .before .before .before .before .before .before .before .before .before .before .before .before .before .before .before .before .before .before .before .before .before .before .before .before .before .before .before .pre .1 .1 .1 .1) (c .before .before .before .first-pair2 .ensures) (c .before .before .add .ensures)
 
 slice-aggregate-lowest : tie.Need-slice-aggregate-lowest Inv-loop μ-loop
-slice-aggregate-lowest c = sym (c .before .loop .inv .lists .long)
+slice-aggregate-lowest c = sym (c .before .loop .inv .tracks .lists .long)
 
 lowest-requires : tie.Need-lowest-requires Inv-loop μ-loop
 lowest-requires c κs = build-looks _ _ (c .before .before .loop .inv)
@@ -46,20 +47,17 @@ lowest-requires c κs = build-looks _ _ (c .before .before .loop .inv)
 enum-known-n : tie.Need-enum-known-n Inv-loop μ-loop
 enum-known-n c = search needs
 
+slice-aggregate-turn : tie.Need-slice-aggregate-turn Inv-loop μ-loop
+slice-aggregate-turn c = sym (c .before .before .before .before .before .before .before .before .before .lowest .ensures .1 .long)
+
 turn-requires : tie.Need-turn-requires Inv-loop μ-loop
-turn-requires c κs = (c .before .before .before .before .before .before .before .before .before .before .before .before .before .before .before .before .before .before .before .before .before .before .before .before .before .before .before .before .before .before .before .before .before .before .before .before .before .before .before .before .before .pre .0, (c .before .before .before .before .before .before .before .before .before .before .before .before .before .before .before .before .before .before .before .before .before .before .before .before .before .before .before .before .before .before .before .before .before .before .before .before .before .before .before .before .before .pre .1 .0, (c .before .before .before .before .before .before .before .before .before .before .before .before .before .before .before .before .before .before .before .before .before .before .before .before .before .before .before .before .before .before .before .before .before .before .before .before .before .before .before .before .before .pre .1 .1 .0, (build-below _ _ (c .before .before .before .before .before .before .before .before .before .before .before .loop .inv) (c .before .before .before .before .before .before .before .before .lowest .ensures) (c .before .before .before .before .before .n .given .1), build-sized _ _ (c .before .before .before .before .before .before .before .before .before .before .before .loop .inv)))))
-
-slice-aggregate-low-after : tie.Need-slice-aggregate-low-after Inv-loop μ-loop
-slice-aggregate-low-after c = sym (c .before .before .before .before .before .before .before .before .before .before .before .before .before .before .before .before .before .before .before .before .before .lowest .ensures .1 .long)
-
-low-after-requires : tie.Need-low-after-requires Inv-loop μ-loop
-low-after-requires c κs = let S = build-sized _ _ (c .before .before .before .before .before .before .before .before .before .before .before .before .before .before .before .before .before .before .before .before .before .before .before .before .before .loop .inv) in ((build-below _ _ (c .before .before .before .before .before .before .before .before .before .before .before .before .before .before .before .before .before .before .before .before .before .before .before .before .before .loop .inv) (c .before .before .before .before .before .before .before .before .before .before .before .before .before .before .before .before .before .before .before .before .before .before .lowest .ensures) (c .before .before .before .before .before .before .before .before .before .before .before .before .before .before .before .before .before .before .before .n .given .1), search (needs, S), search (needs, S), search (needs, S)), (c .before .before .before .before .before .before .before .before .before .before .before .before .before .before .before .before .before .before .before .before .before .before .lowest .ensures .1 .long, c .before .before .before .before .before .before .before .before .before .before .before .before .before .before .before .before .before .before .before .before .before .before .before .before .before .loop .inv .covers .long))
+turn-requires c κs = (c .before .before .before .before .before .before .before .before .before .before .before .before .before .before .before .before .before .before .before .before .before .before .before .before .before .before .before .before .before .before .before .before .before .before .before .before .before .before .before .before .before .before .before .pre .0, (c .before .before .before .before .before .before .before .before .before .before .before .before .before .before .before .before .before .before .before .before .before .before .before .before .before .before .before .before .before .before .before .before .before .before .before .before .before .before .before .before .before .before .before .pre .1 .0, (c .before .before .before .before .before .before .before .before .before .before .before .before .before .before .before .before .before .before .before .before .before .before .before .before .before .before .before .before .before .before .before .before .before .before .before .before .before .before .before .before .before .before .before .pre .1 .1 .0, (build-below _ _ (c .before .before .before .before .before .before .before .before .before .before .before .before .before .loop .inv) (c .before .before .before .before .before .before .before .before .before .before .lowest .ensures) (c .before .before .before .before .before .before .before .n .given .1), (build-sized _ _ (c .before .before .before .before .before .before .before .before .before .before .before .before .before .loop .inv), build-tracks _ _ (c .before .before .before .before .before .before .before .before .before .before .before .before .before .loop .inv) (c .before .before .before .before .before .before .before .before .before .before .lowest .ensures .1))))))
 
 loop-less : tie.Need-loop-less Inv-loop μ-loop
-loop-less c = build-less _ _ (c .before .before .before .before .before .before .before .before .before .before .before .before .before .before .before .before .before .before .before .before .before .before .before .before .before .before .before .before .before .loop .inv) (c .before .before .before .before .before .before .before .before .before .before .before .before .before .before .before .before .before .before .before .before .before .before .before .before .before .before .lowest .ensures) (c .before .before .before .before .before .before .before .before .before .before .before .before .before .before .before .before .before .before .before .before .before .before .before .n .given .1) (c .before .before .before .before .before .before .before .before .before .before .before .before .before .before .before .before .before .turn .ensures)
+loop-less c = build-less _ _ (c .before .before .before .before .before .before .before .before .before .before .before .before .before .before .before .before .before .before .before .before .before .before .before .before .before .loop .inv) (c .before .before .before .before .before .before .before .before .before .before .before .before .before .before .before .before .before .before .before .before .before .before .lowest .ensures) (c .before .before .before .before .before .before .before .before .before .before .before .before .before .before .before .before .before .before .before .n .given .1) (c .before .before .before .before .before .before .before .before .before .before .before .turn .ensures .1)
 
 loop-again : tie.Need-loop-again Inv-loop μ-loop
-loop-again c = build-turn _ _ (c .before .before .before .before .before .before .before .before .before .before .before .before .before .before .before .before .before .before .before .before .before .before .before .before .before .before .before .before .before .loop .inv) (c .before .before .before .before .before .before .before .before .before .before .before .before .before .before .before .before .before .before .before .before .before .before .before .before .before .before .lowest .ensures) (c .before .before .before .before .before .before .before .before .before .before .before .before .before .before .before .before .before .before .before .before .before .before .before .n .given .1) (c .before .before .before .before .before .before .before .before .before .before .before .before .before .before .before .before .before .turn .ensures) (c .before .before .before .low-after .ensures)
+loop-again c = build-turn _ _ (c .before .before .before .before .before .before .before .before .before .before .before .before .before .before .before .before .before .before .before .before .before .before .before .before .before .loop .inv) (c .before .before .before .before .before .before .before .before .before .before .before .before .before .before .before .before .before .before .before .before .before .before .lowest .ensures) (c .before .before .before .before .before .before .before .before .before .before .before .before .before .before .before .before .before .before .before .n .given .1) (c .before .before .before .before .before .before .before .before .before .before .before .turn .ensures)
 
 enum-told : tie.Need-enum-told Inv-loop μ-loop
 enum-told c = search needs
@@ -77,7 +75,7 @@ same-length-4 : tie.Need-same-length-4 Inv-loop μ-loop
 same-length-4 c = same-waiting (c .before .before .before .before .before .before .before .before .before .before .before .before .before .before .before .before .before .before .before .before .before .before .before .before .before .before .before .before .before .before .before .before .before .before .before .before .pre .1 .1 .1 .0) (build-sized _ _ (c .before .before .before .before .before .before .loop .inv))
 
 same-length-5 : tie.Need-same-length-5 Inv-loop μ-loop
-same-length-5 c = c .before .before .before .before .before .before .loop .inv .covers .long ∙ sym (c .before .before .before .before .before .before .before .before .before .before .before .before .before .before .before .before .before .before .before .before .before .before .before .before .before .before .before .before .before .before .before .before .before .before .before .before .pre .1 .1 .1 .1)
+same-length-5 c = c .before .before .before .before .before .before .loop .inv .tracks .covers .long ∙ sym (c .before .before .before .before .before .before .before .before .before .before .before .before .before .before .before .before .before .before .before .before .before .before .before .before .before .before .before .before .before .before .before .before .before .before .before .before .pre .1 .1 .1 .1)
 
 returns : tie.Need-returns Inv-loop μ-loop
 returns c = build-done _ _ (c .before .before .before .before .before .before .loop .inv) (c .before .before .before .lowest .ensures) (c .enum-told .given .1)
@@ -89,18 +87,17 @@ explore-spec =
     Inv-loop
     μ-loop
     begin-requires
-    slice-aggregate-add
+    slice-aggregate-list
     first-pair-requires
-    add-requires
+    list-requires
     first-pair-requires-2
-    add-requires-2
+    add-requires
     loop-holds
     slice-aggregate-lowest
     lowest-requires
     enum-known-n
+    slice-aggregate-turn
     turn-requires
-    slice-aggregate-low-after
-    low-after-requires
     loop-less
     loop-again
     enum-told

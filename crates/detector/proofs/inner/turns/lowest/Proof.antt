@@ -1,49 +1,68 @@
--- `detector::inner::turns::lowest` meets its contract. The invariant: none waits below i, and who waits is a member. Assumes nothing.
-use Prim.Native.Nat.{_-_}
-use Rattle.detector.proofs.Looking.{Looking, look-here, look-end, look-on, same-long}
+-- `detector::inner::turns::lowest` meets its contract. The invariant: whoever waits is in the list, whose last word gets less. Assumes nothing.
+use lib.ListN.{getD}
+use Rattle.graph.specs.Graphs.{Lists}
+use Rattle.detector.proofs.Looking.{same-long, look-end, look-less, look-here, look-on}
 use native.Mathlib.Omega.{arith}
 use borrow.Author.Needs.{needs}
 use Rattle.detector.proofs.inner.turns.lowest.Statement.{statement}
 use Rattle.detector.proofs.inner.turns.lowest.Tie as tie
 
 abbrev Inv-loop : tie.InvT-loop
-Inv-loop waits₀ waiting from i₀ waits i = Looking waiting waits i
+Inv-loop waits₀ waiting waits = Lists waits waiting
 
 abbrev μ-loop : tie.MeasureT-loop
-μ-loop waits₀ waiting from i₀ waits i = 4096 - i
+μ-loop waits₀ waiting waits = getD waits 64 0
 
 loop-holds : tie.Need-loop-holds Inv-loop μ-loop
-loop-holds c = record { near = c .before .before .pre .0 .0; quiet = c .before .before .pre .0 .1; long = c .before .before .pre .1 .0; lists = c .before .before .pre .1 .1 }
+loop-holds c = c .before .before .pre .1
 
-next-listed-requires : tie.Need-next-listed-requires Inv-loop μ-loop
-next-listed-requires c κs = (c .before .loop .inv .lists .long, c .before .loop .inv .near)
+slice-read-if1 : tie.Need-slice-read-if1 Inv-loop μ-loop
+slice-read-if1 c = omega (arith, c .before .loop .inv .long)
+
+slice-read-lowest : tie.Need-slice-read-lowest Inv-loop μ-loop
+slice-read-lowest c = omega (arith, c .before .before .before .loop .inv .long)
+
+lowest-requires : tie.Need-lowest-requires Inv-loop μ-loop
+lowest-requires c κs = search needs
+
+lowest-of-requires : tie.Need-lowest-of-requires Inv-loop μ-loop
+lowest-of-requires c κs = (c .before .before .before .before .before .before .before .before .pre .0, c .before .lowest .ensures .1, c .before .before .before .before .before .loop .inv)
+
+enum-known-n : tie.Need-enum-known-n Inv-loop μ-loop
+enum-known-n c = search needs
 
 same-length : tie.Need-same-length Inv-loop μ-loop
-same-length c = same-long (c .before .before .before .before .before .before .pre .1 .1) (c .before .before .before .loop .inv .lists)
+same-length c = same-long (c .before .before .before .before .before .before .before .before .before .before .before .before .before .before .pre .1) (c .before .before .before .before .before .lowest-of .ensures .0 .1)
 
 returns : tie.Need-returns Inv-loop μ-loop
-returns c = (look-end _ (c .before .before .before .loop .inv) (c .before .next-listed .ensures) (c .if1 .taken), c .before .before .before .loop .inv .lists)
+returns c = (look-here _ (c .before .before .before .before .before .before .before .before .before .before .before .before .before .before .pre .0) (c .before .before .before .before .before .before .before .before .before .before .before .loop .inv) (c .before .before .before .before .before .before .before .lowest .ensures) (c .before .before .before .before .before .lowest-of .ensures .0 .0) (c .before .n .given .1), c .before .before .before .before .before .lowest-of .ensures .0 .1)
 
-shared-slice-read-if2 : tie.Need-shared-slice-read-if2 Inv-loop μ-loop
-shared-slice-read-if2 c = omega (arith, c .before .before .before .before .loop .inv .long)
+enum-told : tie.Need-enum-told Inv-loop μ-loop
+enum-told c = search needs
 
-same-length-2 : tie.Need-same-length-2 Inv-loop μ-loop
-same-length-2 c = same-long (c .before .before .before .before .before .before .before .before .pre .1 .1) (c .before .before .before .before .before .loop .inv .lists)
+slice-read-without : tie.Need-slice-read-without Inv-loop μ-loop
+slice-read-without c = omega (arith, c .before .before .before .before .before .lowest-of .ensures .0 .1 .long)
 
-returns-2 : tie.Need-returns-2 Inv-loop μ-loop
-returns-2 c = (look-here _ (c .before .before .before .before .before .loop .inv) (c .before .before .before .next-listed .ensures) (c .before .before .if1 .left) (c .if2 .taken), c .before .before .before .before .before .loop .inv .lists)
+cast-without : tie.Need-cast-without Inv-loop μ-loop
+cast-without c = search needs
 
-remove-requires : tie.Need-remove-requires Inv-loop μ-loop
-remove-requires c κs = (c .before .before .before .before .before .before .loop .inv .lists .long, (c .before .before .before .if1 .left))
+without-requires : tie.Need-without-requires Inv-loop μ-loop
+without-requires c κs = search needs
 
-add-i : tie.Need-add-i Inv-loop μ-loop
-add-i c = search needs
+slice-write-waits : tie.Need-slice-write-waits Inv-loop μ-loop
+slice-write-waits c = omega (arith, c .before .before .before .before .before .before .lowest-of .ensures .0 .1 .long)
 
 loop-less : tie.Need-loop-less Inv-loop μ-loop
-loop-less c = omega (arith, c .before .before .before .before .before .before .before .next-listed .ensures .least)
+loop-less c = look-less _ (c .before .before .before .before .before .before .before .before .before .before .before .before .before .before .before .pre .0) (c .before .before .before .before .before .before .before .before .before .before .before .before .loop .inv) (c .before .before .before .before .before .before .before .before .lowest .ensures) (c .before .before .before .before .before .before .lowest-of .ensures .0 .1) (c .before .before .before .before .before .before .lowest-of .ensures .1) (c .without .ensures)
 
 loop-again : tie.Need-loop-again Inv-loop μ-loop
-loop-again c = look-on _ (c .before .before .before .before .before .before .before .before .before .loop .inv) (c .before .before .before .before .before .before .before .next-listed .ensures) (c .before .before .before .before .before .before .if1 .left) (c .before .before .before .before .if2 .left) (c .before .before .remove .ensures)
+loop-again c = look-on _ (c .before .before .before .before .before .before .before .before .before .before .before .before .before .before .before .pre .0) (c .before .before .before .before .before .before .before .before .before .before .before .before .loop .inv) (c .before .before .before .before .before .before .before .before .lowest .ensures) (c .before .before .before .before .before .before .lowest-of .ensures .0 .0) (c .before .before .enum-told .given .1) (c .before .before .before .before .before .before .lowest-of .ensures .0 .1) (c .without .ensures)
+
+same-length-2 : tie.Need-same-length-2 Inv-loop μ-loop
+same-length-2 c = same-long (c .before .before .before .before .before .pre .1) (c .before .before .loop .inv)
+
+returns-2 : tie.Need-returns-2 Inv-loop μ-loop
+returns-2 c = (look-end _ (c .before .before .before .before .before .pre .0) (c .before .before .loop .inv) (c .if1 .left), c .before .before .loop .inv)
 
 pub lowest-spec : {M : Type 1} → statement M
 lowest-spec =
@@ -52,13 +71,19 @@ lowest-spec =
     Inv-loop
     μ-loop
     loop-holds
-    next-listed-requires
+    slice-read-if1
+    slice-read-lowest
+    lowest-requires
+    lowest-of-requires
+    enum-known-n
     same-length
     returns
-    shared-slice-read-if2
-    same-length-2
-    returns-2
-    remove-requires
-    add-i
+    enum-told
+    slice-read-without
+    cast-without
+    without-requires
+    slice-write-waits
     loop-less
-    loop-again)
+    loop-again
+    same-length-2
+    returns-2)

@@ -1,52 +1,81 @@
 -- `graph::inner::graphs::keep` meets its contract. Assumes nothing.
-use Rattle.graph.proofs.Parts.{keep-is}
+use mathlib.Core.Logic.{⊎-elim}
+use Prim.Native.Nat.{_-_}
+use Rattle.graph.specs.Graphs.{graph}
+use Rattle.graph.proofs.Keeping.{Going, going-none, going-same, going-seen, going-unseen, keep-is}
 use borrow.Author.Needs.{needs}
 use Rattle.graph.proofs.inner.graphs.keep.Statement.{statement}
 use Rattle.graph.proofs.inner.graphs.keep.Tie as tie
 
-clear8-requires : tie.Need-clear8-requires
-clear8-requires c κs = search needs
+abbrev Inv-loop : tie.InvT-loop
+Inv-loop marks₀ targets₀ sets₀ waiting₀ seen q p₀ marks targets sets waiting p = Going q (graph marks₀ targets₀ sets₀ waiting₀) (graph marks targets sets waiting) p
 
-kept-requires : tie.Need-kept-requires
+abbrev μ-loop : tie.MeasureT-loop
+μ-loop marks₀ targets₀ sets₀ waiting₀ seen q p₀ marks targets sets waiting p = 64 - p
+
+loop-holds : tie.Need-loop-holds Inv-loop μ-loop
+loop-holds c = going-none _ _
+
+pair-requires : tie.Need-pair-requires Inv-loop μ-loop
+pair-requires c κs = search needs
+
+has-requires : tie.Need-has-requires Inv-loop μ-loop
+has-requires c κs = search needs
+
+leave-requires : tie.Need-leave-requires Inv-loop μ-loop
+leave-requires c κs = search needs
+
+add-p : tie.Need-add-p Inv-loop μ-loop
+add-p c = search needs
+
+loop-less : tie.Need-loop-less Inv-loop μ-loop
+loop-less c = search needs
+
+loop-again : tie.Need-loop-again Inv-loop μ-loop
+loop-again c =
+    let I = c .before .before .before .before .loop .inv in
+    let P = c .before .before .before .before .before .before .before .before .before .before .pre in
+    let e = c .before .before .pair .ensures in
+    ⊎-elim (λ w. going-same (going-seen I (P .1 .0) (P .0) (search needs) e (w .5 .ensures)) (w .14) (w .15) (w .16) (w .17))
+    (λ w. going-same (going-unseen I (P .1 .0) (P .0) (search needs) e (P .1 .1) (c .before .has .ensures) (w .0 .left)) (w .1) (w .2) (w .3) (w .4))
+    (c .if1 .came)
+
+kept-requires : tie.Need-kept-requires Inv-loop μ-loop
 kept-requires c κs = search needs
 
-put8-requires : tie.Need-put8-requires
+put8-requires : tie.Need-put8-requires Inv-loop μ-loop
 put8-requires c κs = search needs
 
-untarget-requires : tie.Need-untarget-requires
-untarget-requires c κs = search needs
-
-clear64-requires : tie.Need-clear64-requires
-clear64-requires c κs = search needs
-
-clear8-requires-2 : tie.Need-clear8-requires-2
-clear8-requires-2 c κs = search needs
-
-same-length : tie.Need-same-length
+same-length : tie.Need-same-length Inv-loop μ-loop
 same-length c = search needs
 
-same-length-2 : tie.Need-same-length-2
+same-length-2 : tie.Need-same-length-2 Inv-loop μ-loop
 same-length-2 c = search needs
 
-same-length-3 : tie.Need-same-length-3
+same-length-3 : tie.Need-same-length-3 Inv-loop μ-loop
 same-length-3 c = search needs
 
-same-length-4 : tie.Need-same-length-4
+same-length-4 : tie.Need-same-length-4 Inv-loop μ-loop
 same-length-4 c = search needs
 
-returns : tie.Need-returns
+returns : tie.Need-returns Inv-loop μ-loop
 returns c = search keep-is
 
 pub keep-spec : {M : Type 1} → statement M
 keep-spec =
     tie.close
     (tie.spec
-    clear8-requires
+    Inv-loop
+    μ-loop
+    loop-holds
+    pair-requires
+    has-requires
+    leave-requires
+    add-p
+    loop-less
+    loop-again
     kept-requires
     put8-requires
-    untarget-requires
-    clear64-requires
-    clear8-requires-2
     same-length
     same-length-2
     same-length-3

@@ -1,6 +1,5 @@
 -- `words::inner::members::add` meets its contract. Assumes nothing.
 use Rattle.words.proofs.Words.{add-is}
-use native.Mathlib.Omega.{arith}
 use borrow.Author.Needs.{needs}
 use Rattle.words.proofs.inner.members.add.Statement.{statement}
 use Rattle.words.proofs.inner.members.add.Tie as tie

@@ -1,6 +1,5 @@
 -- `words::inner::members::remove` meets its contract. Assumes nothing.
 use Rattle.words.proofs.Words.{remove-is}
-use native.Mathlib.Omega.{arith}
 use borrow.Author.Needs.{needs}
 use Rattle.words.proofs.inner.members.remove.Statement.{statement}
 use Rattle.words.proofs.inner.members.remove.Tie as tie
