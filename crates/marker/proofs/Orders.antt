@@ -195,14 +195,3 @@ pub record Sweeping (t x y : List ℕ) : Type 0 where
 module _ (t : List ℕ) where
   pub sweeping-start : (x : List ℕ) → length x ≡ 4160 → Sweeping t x x
   sweeping-start x l = record { long = l; same = refl; count = 0; did = none-yet }
-
-  module _ {x y z : List ℕ} {r : ℕ} (W : Sweeping t x y) (S : Swept t y 0 4096 r z) where
-    pub sweeping-again : Sweeping t x z
-    sweeping-again = record { long = W .long; same = S .long ∙ W .same; count = W .count + r; did = opened-then t (W .did) (S .did) }
-
-    pub sweeping-less : (r ≡ 0 → ⊥) → fours t z < fours t y
-    sweeping-less n = omega (arith, opened-fours t (opened-long t (W .did) ∙ W .long) (S .did))
-
-    pub sweeping-done : r ≡ 0 → z ≡ allOpened t x
-    sweeping-done e =
-        any-order t (W .long) (opened-then t (W .did) (S .did)) (swept-rests t (opened-long t (W .did) ∙ W .long) (rw e at S))

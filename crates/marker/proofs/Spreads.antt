@@ -1,4 +1,4 @@
--- Pairs opened between two full passes, in the form in which the code meets them. Assumes nothing.
+-- Pairs opened by passes and by rounds between them, in the form in which the code meets them. Assumes nothing.
 use mathlib.Core.Path.{_≡_, refl, _∙_}
 use mathlib.Core.Logic.{dite}
 use mathlib.Core.List.{List}
@@ -9,10 +9,10 @@ use lib.ListN.{length}
 use Rattle.align.specs.Sets.{joined}
 use Rattle.marker.specs.Marks.{allOpened, none-yet, Tried, Swept}
 use Rattle.marker.specs.Seen.{HoldsBeyond}
-use Rattle.marker.specs.Spreads.{Spread}
+use Rattle.marker.specs.Spreads.{Spread, Passed}
 use Rattle.marker.proofs.Marks.{fours}
 use Rattle.marker.proofs.Seen.{beyond-opened}
-use Rattle.marker.proofs.Orders.{opened-long, opened-then, opened-fours, Sweeping, sweeping-again, sweeping-less, sweeping-done}
+use Rattle.marker.proofs.Orders.{opened-long, opened-then, opened-fours, any-order, swept-rests, Sweeping}
 
 joined-none : _≡_ {A = ℕ} (joined 0 0) 0
 unfolding joined
@@ -61,25 +61,40 @@ module _ (t : List ℕ) where
     pub rounds-done : Spread t x 0 z
     rounds-done = record { count = W .count + S .count; did = opened-then t (W .did) (S .did); long = S .long ∙ W .same; some = λ h. absurd (h refl) }
 
-  -- ---- the loop of passes, with rounds between them
-  pub passes-done : {x y z w : List ℕ} {r s : ℕ} → length x ≡ 4160 → Swept t x 0 4096 r y → Sweeping t y z → Swept t z 0 4096 s w → s ≡ 0 → w ≡ allOpened t x
-  passes-done {r = r} l F W S e =
-      let A : Sweeping t _ _ = record { long = l; same = W .same ∙ F .long; count = r + W .count; did = opened-then t (F .did) (W .did) } in
-      sweeping-done t A S e
+  -- ---- a pass up and one down
+  module _ {x y : List ℕ} {r : ℕ} (S : Swept t x 0 4096 r y) (l : length x ≡ 4160) where
+    spread-swept : Spread t x r y
+    spread-swept = record { count = r; did = S .did; long = S .long; some = λ h. omega arith }
 
-  module _ {x y z w : List ℕ} {r s : ℕ} (W : Sweeping t x y) (S : Swept t y 0 4096 r z) (R : Swept t z 0 4096 s w) where
+    pub passed-one : r ≡ 0 → Passed t x 0 y
+    passed-one e = record { spread = spread-zero spread-swept; rests = λ h. swept-rests t l (rw e at S) }
+
+    pub passed-two : {z : List ℕ} {n : ℕ} → (r ≡ 0 → ⊥) → Swept t y 0 4096 n z → Passed t x n z
+    passed-two {n = n} h R =
+        record {
+          spread = record { count = r + n; did = opened-then t (S .did) (R .did); long = R .long ∙ S .long; some = λ q. omega arith };
+          rests = λ e. swept-rests t (S .long ∙ l) (rw e at R);
+        }
+
+  -- ---- the loop of passes, with rounds between them: o became x by the pass before it
+  pub passes-done : {o x y z : List ℕ} {q r : ℕ} → length o ≡ 4160 → Swept t o 0 4096 q x → Sweeping t x y → Passed t y r z → r ≡ 0 → z ≡ allOpened t o
+  passes-done l F W P e = any-order t l (opened-then t (F .did) (opened-then t (W .did) (P .spread .did))) (P .rests e)
+
+  module _ {x y z w : List ℕ} {r s : ℕ} (W : Sweeping t x y) (P : Passed t y r z) (R : Passed t z s w) where
     pub passes-end : {o : List ℕ} {q : ℕ} → length o ≡ 4160 → Swept t o 0 4096 q x → s ≡ 0 → w ≡ allOpened t o
-    passes-end l F e = passes-done l F (sweeping-again t W S) R e
+    passes-end l F e = passes-done l F (rounds-again W (P .spread)) R e
 
-    module _ {v : List ℕ} {q : ℕ} (P : Spread t w q v) where
+    two : Sweeping t x w
+    two = rounds-again (rounds-again W (P .spread)) (R .spread)
+
+    module _ {v : List ℕ} {q : ℕ} (S : Spread t w q v) where
       pub passes-again : Sweeping t x v
-      passes-again = rounds-again (sweeping-again t (sweeping-again t W S) R) P
-
-      long : length z ≡ 4160
-      long = S .long ∙ W .same ∙ W .long
+      passes-again = rounds-again two S
 
       pub passes-rest : {u : List ℕ} → HoldsBeyond u w → HoldsBeyond u v
-      passes-rest H = beyond-opened H (R .long ∙ long) (P .did)
+      passes-rest H = beyond-opened H (two .same ∙ two .long) (S .did)
 
       pub passes-less : (r ≡ 0 → ⊥) → fours t v < fours t y
-      passes-less h = omega (arith, sweeping-less t W S h, opened-fours t long (R .did), opened-fours t (R .long ∙ long) (P .did))
+      passes-less h =
+          let l : length z ≡ 4160 = P .spread .long ∙ W .same ∙ W .long in
+          omega (arith, rounds-less W (P .spread) h, opened-fours t l (R .spread .did), opened-fours t (two .same ∙ two .long) (S .did))

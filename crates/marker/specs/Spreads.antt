@@ -1,13 +1,14 @@
--- Pairs opened between two full passes (lines 2 to 5 of Algorithm 1).
+-- Pairs opened by passes and by rounds between them (lines 2 to 5 of Algorithm 1).
 use mathlib.Core.Path.{_≡_}
 use mathlib.Core.Bool.{true, false}
 use mathlib.Core.List.{List}
+use mathlib.Core.Option.{none}
 use Prim.Native.Nat.{ℕ, _%_, _<_}
 use lib.Dec.{eqb, ltb}
 use lib.ListN.{length, getD, set}
 use Rattle.align.specs.Sets.{with}
 use Rattle.checker.specs.Records.{index}
-use Rattle.marker.specs.Marks.{Opened}
+use Rattle.marker.specs.Marks.{nextOpening, Opened}
 
 -- pairs were opened, one after another: y is what x has become. There was one at least, if r is not 0
 pub record Spread (t x : List ℕ) (r : ℕ) (y : List ℕ) : Type 0 where
@@ -15,6 +16,11 @@ pub record Spread (t x : List ℕ) (r : ℕ) (y : List ℕ) : Type 0 where
   pub did : Opened t x count y
   pub long : length y ≡ length x
   pub some : (r ≡ 0 → ⊥) → 0 < count
+
+-- so they were by passes. None is left to open, if r is 0
+pub record Passed (t x : List ℕ) (r : ℕ) (y : List ℕ) : Type 0 where
+  pub spread : Spread t x r y
+  pub rests : r ≡ 0 → nextOpening t y ≡ none
 
 -- ---- which of these to try first: for each new place a set of new places. No rule of document 01 speaks of them
 -- that of place q with the new place of node n, if n is a pair

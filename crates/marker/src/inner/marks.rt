@@ -6,6 +6,7 @@ ghost use Rattle.marker.specs.Spans.{remade, each};
 ghost use Rattle.marker.specs.Seen.{Holds, HoldsBeyond};
 ghost use Rattle.marker.specs.Marks.{plainAs, plainMarks, inQ, opening, Tried, Swept, allOpened};
 ghost use Rattle.marker.specs.Marks.{cover, coverFrom, allCovered, finalMarks};
+ghost use Rattle.marker.specs.Spreads.{Passed};
 use crate::inner::spread::spread;
 use align::inner::sets::without;
 use graph::inner::buffers;
@@ -158,18 +159,29 @@ fn sweep_up(marks: &mut [u8], targets: &[u16], rest: &mut [u64]) -> usize
     n
 }
 
-// All pairs from which an open or kept node is a target. That none is left is shown by the last pass. Where passes both ways still open pairs,
-// they stand on chains that go up and down, which rounds over few new places follow with less work than passes.
+// A pass up and, if it opens pairs, one down: 0, if the last of them opened none, which shows that none is left.
+fn sweep_both(marks: &mut [u8], targets: &[u16], rest: &mut [u64]) -> usize
+    requires { ⌜ (length (now marks) ≡ 4160) × (length (now targets) ≡ 8192) × HoldsBeyond (now rest) (now marks) ⌝ }
+    ensures { λ r. ⌜ Passed (now (targets .entry)) (now (marks .entry)) r (now (marks .exit)) × HoldsBeyond (now (rest .exit)) (now (marks .exit)) ⌝ }
+{
+    if sweep_up(marks, targets, rest) == 0 {
+        return 0;
+    }
+    sweep_down(marks, targets, rest)
+}
+
+// All pairs from which an open or kept node is a target. Where two passes each way still open pairs, they stand on chains that go up and down,
+// which rounds over few new places follow with less work than passes. Small charts have no such chains.
 fn open_rest(marks: &mut [u8], targets: &[u16], rest: &mut [u64])
     requires { ⌜ (length (now marks) ≡ 4160) × (length (now targets) ≡ 8192) × HoldsBeyond (now rest) (now marks) ⌝ }
     ensures { λ _. ⌜ now (marks .exit) ≡ allOpened (now (targets .entry)) (now (marks .entry)) ⌝ }
 {
     sweep_down(marks, targets, rest);
     loop {
-        if sweep_up(marks, targets, rest) == 0 {
+        if sweep_both(marks, targets, rest) == 0 {
             return;
         }
-        if sweep_down(marks, targets, rest) == 0 {
+        if sweep_both(marks, targets, rest) == 0 {
             return;
         }
         spread(marks, targets, &*rest);

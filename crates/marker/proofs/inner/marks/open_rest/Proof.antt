@@ -20,8 +20,8 @@ sweep-down-requires c κs = search needs
 loop-holds : tie.Need-loop-holds Inv-loop μ-loop
 loop-holds c = (sweeping-start _ _ (omega arith), search needs)
 
-sweep-up-requires : tie.Need-sweep-up-requires Inv-loop μ-loop
-sweep-up-requires c κs = search needs
+sweep-both-requires : tie.Need-sweep-both-requires Inv-loop μ-loop
+sweep-both-requires c κs = search needs
 
 same-length : tie.Need-same-length Inv-loop μ-loop
 same-length c = search needs
@@ -32,8 +32,8 @@ same-length-2 c = search needs
 returns : tie.Need-returns Inv-loop μ-loop
 returns c = search passes-done
 
-sweep-down-requires-2 : tie.Need-sweep-down-requires-2 Inv-loop μ-loop
-sweep-down-requires-2 c κs = search needs
+sweep-both-requires-2 : tie.Need-sweep-both-requires-2 Inv-loop μ-loop
+sweep-both-requires-2 c κs = search needs
 
 same-length-3 : tie.Need-same-length-3 Inv-loop μ-loop
 same-length-3 c = search needs
@@ -48,10 +48,10 @@ spread-requires : tie.Need-spread-requires Inv-loop μ-loop
 spread-requires c κs = (search needs, search needs, search needs)
 
 loop-less : tie.Need-loop-less Inv-loop μ-loop
-loop-less c = search passes-less
+loop-less c = passes-less _ (c .before .before .before .before .before .before .before .before .before .before .before .before .before .before .before .before .before .before .before .before .before .loop .inv .0) (c .before .before .before .before .before .before .before .before .before .before .before .before .before .before .before .before .before .before .sweep-both .ensures .0) (c .before .before .before .before .before .before .before .before .before .before .sweep-both2 .ensures .0) (c .before .before .spread .ensures) (c .before .before .before .before .before .before .before .before .before .before .before .before .before .if1 .left)
 
 loop-again : tie.Need-loop-again Inv-loop μ-loop
-loop-again c = (search passes-again, search passes-rest)
+loop-again c = (passes-again _ (c .before .before .before .before .before .before .before .before .before .before .before .before .before .before .before .before .before .before .before .before .before .loop .inv .0) (c .before .before .before .before .before .before .before .before .before .before .before .before .before .before .before .before .before .before .sweep-both .ensures .0) (c .before .before .before .before .before .before .before .before .before .before .sweep-both2 .ensures .0) (c .before .before .spread .ensures), passes-rest _ (c .before .before .before .before .before .before .before .before .before .before .before .before .before .before .before .before .before .before .before .before .before .loop .inv .0) (c .before .before .before .before .before .before .before .before .before .before .before .before .before .before .before .before .before .before .sweep-both .ensures .0) (c .before .before .before .before .before .before .before .before .before .before .sweep-both2 .ensures .0) (c .before .before .spread .ensures) (c .before .before .before .before .before .before .before .before .before .before .sweep-both2 .ensures .1))
 
 pub open-rest-spec : {M : Type 1} → statement M
 open-rest-spec =
@@ -61,11 +61,11 @@ open-rest-spec =
     μ-loop
     sweep-down-requires
     loop-holds
-    sweep-up-requires
+    sweep-both-requires
     same-length
     same-length-2
     returns
-    sweep-down-requires-2
+    sweep-both-requires-2
     same-length-3
     same-length-4
     returns-2
