@@ -27,13 +27,13 @@ use Rattle.checker.specs.Rules.{startPair, startKept}
 use Rattle.words.specs.Words.{Member, LowestFrom}
 use Rattle.words.proofs.Rests.{Coming, coming-start, coming-next, coming-more, coming-less, coming-end}
 use Rattle.graph.specs.Graphs.{Graph, graph, Sized, Covers, marked}
-use Rattle.marker.specs.Spans.{among, remade}
+use Rattle.marker.specs.Spans.{remade}
 use Rattle.marker.specs.Marks.{finalMarks}
 use Rattle.marker.specs.Seen.{Holds}
 use Rattle.builder.specs.Builds.{redirected, finalTargets, alone, lone, finished, startOf}
 use Rattle.graph.proofs.Parts.{graph-eq}
 use Rattle.graph.proofs.Stores.{Passing, passing-none, passing-all}
-use Rattle.marker.proofs.Spans.{Remaking, remaking-start, remaking-more, remaking-end, passing-span}
+use Rattle.marker.proofs.Spans.{Remaking, remaking-start, remaking-more, remaking-gap, remaking-end, passing-span}
 
 -- ---- a target
 not-first : (a b : Bool) → a && b ≡ false → b ≡ true → a ≡ false
@@ -71,29 +71,6 @@ pass-map f i (x ∷ l) = ap (λ (y : List ℕ). f x ∷ y) (pass-map f (i + 1) l
 
 mapped : (f : ℕ → ℕ) {d₀ d : List ℕ} {i : ℕ} → Passing (λ j x. f x) d₀ d i → length d ≤ i → d ≡ map f d₀
 mapped f {d₀ = d₀} P l = passing-all (λ j x. f x) P l ∙ pass-map f 0 d₀
-
--- elements of a span that stay as they are need no store
-module _ (a b : ℕ) (f : ℕ → ℕ) where
-  among-in : (i x : ℕ) → a ≤ i → i < b → among a b f i x ≡ f x
-  unfolding among
-  among-in i x p q = rw (le-ltb i a p, among) (rw (lt-ltb i b q, among))
-
-  remaking-gap : {d₀ d : List ℕ} {i j : ℕ} → Remaking a b f d₀ d i → i ≤ j → j ≤ b → ((k : ℕ) → i ≤ k → k < j → f (getD d₀ k 0) ≡ getD d₀ k 0) → Remaking a b f d₀ d j
-  remaking-gap {d₀ = d₀} {i = i} R p q h =
-      record {
-        least = omega (arith, R .least);
-        most = q;
-        short = R .short;
-        done =
-            record {
-              long = R .done .long;
-              most = omega (arith, R .short);
-              before =
-                  λ k l. dite (decLt k i) (λ m. R .done .before k m)
-                  (λ m. R .done .after k (omega arith) ∙ sym (h k (omega arith) l) ∙ sym (among-in k (getD d₀ k 0) (omega (arith, R .least)) (omega arith)));
-              after = λ k l. R .done .after k (omega arith);
-            };
-      }
 
 -- the pairs of old place p whose bits of the word were met are done: those before bit k
 pub record Redirecting (m t₀ : List ℕ) (p word : ℕ) (t : List ℕ) (rest : ℕ) : Type 0 where

@@ -17,11 +17,11 @@ use Rattle.words.specs.Words.{Member, LowestFrom}
 use Rattle.marker.specs.Spans.{remade, each}
 use Rattle.marker.specs.Seen.{Holds}
 use Rattle.marker.specs.Marks.{plainMark, plainAs, plainMarks, inQ, opening, allOpened, transitions, cover, covered, coverFrom, allCovered, finalMarks}
-use Rattle.graph.proofs.Stores.{passing-none, passing-all}
+use Rattle.graph.proofs.Stores.{Passing, passing-none, passing-all}
 use Rattle.marker.proofs.Marks.{cover-same}
-use Rattle.marker.proofs.Spans.{passing-span}
+use Rattle.marker.proofs.Spans.{passing-gap, passing-span}
 use Rattle.marker.proofs.Passes.{Going, going-start, going-more, going-end}
-use Rattle.marker.proofs.Seen.{holds-kept}
+use Rattle.marker.proofs.Seen.{holds-kept, none-seen}
 
 -- ---- plain marks
 module _ (v x : ℕ) where
@@ -46,19 +46,39 @@ module _ (i x : ℕ) where
       dite (ℕ-discrete x 0) (λ e. sym (plain-zero 2 x e) ∙ rw (e, plainMark))
       (λ e. sym (plain-else 2 x e) ∙ rw (ne-eqb x 0 e, plainMark) (rw (le-ltb i 4096 l, plainMark)))
 
-module _ (m : List ℕ) {m₁ : List ℕ} where
-  pub plain-few : length m < 4096 → m₁ ≡ remade 0 (length m) (plainAs 4) m → m₁ ≡ plainMarks m
-  unfolding plainMarks
-  plain-few l e =
-      let P = passing-span plainMark (plainAs 4) (passing-none plainMark m) (omega arith) (omega arith) e (λ k x p q. plain-pair k x (omega arith)) in
-      passing-all plainMark P (omega (arith, P .long))
+  plain-same : x ≡ 0 → plainMark i x ≡ x
+  unfolding plainMark
+  plain-same e = rw (e, plainMark)
 
-  pub plain-all : {m₂ : List ℕ} → 4096 ≤ length m → m₁ ≡ remade 0 4096 (plainAs 4) m → m₂ ≡ remade 4096 (length m) (plainAs 2) m₁ → m₂ ≡ plainMarks m
+-- the pairs of the old places before p are done
+pub record Plain (m₀ m : List ℕ) (p : ℕ) : Type 0 where
+  pub most : p ≤ 64
+  pub long : length m ≡ 4160
+  pub done : Passing plainMark m₀ m (64 * p)
+
+pub plain-start : {m : List ℕ} → length m ≡ 4160 → Plain m m 0
+plain-start {m} l = record { most = omega arith; long = l; done = passing-none plainMark m }
+
+module _ {m₀ m : List ℕ} {p : ℕ} (P : Plain m₀ m p) where
+  on : {m₁ : List ℕ} → p < 64 → Passing plainMark m₀ m₁ (64 * p + 64) → Plain m₀ m₁ (p + 1)
+  on l Q =
+      let z : 64 * (p + 1) ≡ 64 * p + 64 = omega arith in
+      record { most = omega arith; long = Q .long ∙ sym (P .done .long) ∙ P .long; done = rw z Q }
+
+  pub plain-more : {m₁ : List ℕ} → p < 64 → m₁ ≡ remade (64 * p) (64 * p + 64) (plainAs 4) m → Plain m₀ m₁ (p + 1)
+  plain-more l e =
+      on l (passing-span plainMark (plainAs 4) (P .done) (omega arith) (omega (arith, P .long)) e (λ k x a b. plain-pair k x (omega arith)))
+
+  pub plain-past : {m₁ seen : List ℕ} → p < 64 → Holds seen m₀ → getD seen p 0 ≡ 0 → m₁ ≡ m → Plain m₀ m₁ (p + 1)
+  plain-past l H e d =
+      rw d (on l (passing-gap plainMark (P .done) (omega arith) (omega (arith, P .long)) (λ k a b. plain-same k (getD m₀ k 0) (none-seen H p l e k a b))))
+
+  pub plain-end : {m₁ : List ℕ} → 64 ≤ p → m₁ ≡ remade 4096 4160 (plainAs 2) m → m₁ ≡ plainMarks m₀
   unfolding plainMarks
-  plain-all l e f =
-      let P = passing-span plainMark (plainAs 4) (passing-none plainMark m) (omega arith) l e (λ k x p q. plain-pair k x q) in
-      let Q = passing-span plainMark (plainAs 2) P l (omega (arith, P .long)) f (λ k x p q. plain-kept k x p) in
-      passing-all plainMark Q (omega (arith, Q .long))
+  plain-end l e =
+      let z : 64 * p ≡ 4096 = omega (arith, P .most) in
+      let Q = passing-span plainMark (plainAs 2) (rw z at (P .done)) (omega arith) (omega (arith, P .long)) e (λ k x a b. plain-kept k x a) in
+      passing-all plainMark Q (omega (arith, Q .long, P .long, P .done .long))
 
 -- ---- open or kept
 module _ (m : List ℕ) (n : ℕ) where

@@ -1,12 +1,14 @@
 -- Sets of pairs that say where to look, as marks and sets change. Assumes nothing.
-use mathlib.Core.Path.{_≡_, refl, sym, _∙_}
+use mathlib.Core.Path.{_≡_, refl, sym, ap, _∙_}
 use mathlib.Core.List.{List}
 use mathlib.Core.Logic.{⊎-elim, dite}
-use Prim.Native.Nat.{ℕ, _+_, _≤_, _<_}
+use Prim.Native.Nat.{ℕ, _+_, _*_, _/_, _%_, _≤_, _<_}
 use native.Mathlib.Omega.{arith}
 use native.Mathlib.Decide.{ℕ-discrete}
 use lib.ListN.{length, getD, set}
 use lib.Seq.{getD-set-same, getD-set-other, ext-getD}
+use Rattle.align.specs.Sets.{bit}
+use Rattle.align.proofs.Sets.{bit-none}
 use Rattle.words.specs.Words.{added, removed}
 use Rattle.words.proofs.Words.{length-added, length-removed, added-here, added-old, removed-other}
 use Rattle.graph.proofs.Stores.{Passing, passing-more}
@@ -22,18 +24,27 @@ holds-kept {x = x} H z =
     record { long = H .long; has = λ n b p. H .has n b (dite (ℕ-discrete (getD x n 0) 0) (λ e. absurd (omega (arith, z n e))) (λ e. omega arith)) }
 
 module _ {w x : List ℕ} (H : Holds w x) where
+  -- an old place of which no pair was seen
+  pub none-seen : (p : ℕ) → p < 64 → getD w p 0 ≡ 0 → (k : ℕ) → 64 * p ≤ k → k < 64 * p + 64 → getD x k 0 ≡ 0
+  none-seen p l e k a b =
+      let y : k / 64 ≡ p = omega arith in
+      let z : bit (getD w p 0) (k % 64) ≡ 0 = ap (λ (n : ℕ). bit n (k % 64)) e ∙ bit-none (k % 64) in
+      dite (ℕ-discrete (getD x k 0) 0) (λ f. f) (λ f. absurd (omega (arith, z, rw y at (H .has k (omega arith) (omega arith)))))
+
   pub holds-copied : {v : List ℕ} → v ≡ w → HoldsBeyond v x
   holds-copied e = rw e (record { long = H .long; has = λ n b p. H .has n b (omega arith) })
+
+  pub holds-added : {v : List ℕ} {n : ℕ} → n < 4096 → v ≡ added w n → Holds v x
+  holds-added {n = n} b e = rw e (record { long = length-added w n ∙ H .long; has = λ k c p. added-old w n (omega (arith, H .long)) b k (H .has k c p) })
 
   -- the start pair, which becomes open, is added
   pub holds-started : {v y z : List ℕ} {n : ℕ} → length x ≡ 4160 → n < 4096 → v ≡ added w n → y ≡ plainMarks x → z ≡ set y n 1 → Holds v z
   holds-started {n = n} l b e f g =
-      let P = holds-kept {y = plainMarks x} H (plain-ranks x l .absent) in
-      rw (g, f, e)
+      let P = holds-kept {y = plainMarks x} (holds-added b e) (plain-ranks x l .absent) in
+      rw (g, f)
       (record {
-        long = length-added w n ∙ H .long;
-        has = λ k c p. dite (ℕ-discrete k n) (λ q. rw q (added-here w n (omega (arith, H .long)) b))
-            (λ q. added-old w n (omega (arith, H .long)) b k (P .has k c (omega (arith, getD-set-other (plainMarks x) n k 1 0 q))));
+        long = P .long;
+        has = λ k c p. dite (ℕ-discrete k n) (λ q. rw (q, e) (added-here w n (omega (arith, H .long)) b)) (λ q. P .has k c (omega (arith, getD-set-other (plainMarks x) n k 1 0 q)));
       })
 
   pub holds-opened : (t : List ℕ) {y : List ℕ} → length x ≡ 4160 → y ≡ allOpened t x → Holds w y

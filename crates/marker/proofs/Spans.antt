@@ -38,6 +38,16 @@ module _ (a b : ℕ) (f : ℕ → ℕ) (i x : ℕ) where
   among-after : b ≤ i → among a b f i x ≡ x
   among-after q = dite (decLt i a) among-before (λ p. among-past (omega arith) q)
 
+-- a pass goes on past elements that stay as they are
+pub passing-gap : (g : ℕ → ℕ → ℕ) {d₀ d : List ℕ} {i j : ℕ} → Passing g d₀ d i → i ≤ j → j ≤ length d → ((k : ℕ) → i ≤ k → k < j → g k (getD d₀ k 0) ≡ getD d₀ k 0) → Passing g d₀ d j
+passing-gap g {i = i} P a b h =
+    record {
+      long = P .long;
+      most = b;
+      before = λ k l. dite (decLt k i) (λ m. P .before k m) (λ m. P .after k (omega arith) ∙ sym (h k (omega arith) l));
+      after = λ k l. P .after k (omega arith);
+    }
+
 -- one store a turn: of those below i that is done
 pub record Remaking (a b : ℕ) (f : ℕ → ℕ) (d₀ d : List ℕ) (i : ℕ) : Type 0 where
   pub least : a ≤ i
@@ -62,6 +72,18 @@ module _ (a b : ℕ) (f : ℕ → ℕ) where
         most = omega arith;
         short = simp length-set (R .short);
         done = passing-more (among a b f) (R .done) (omega (arith, R .short)) (e ∙ sym (among-in a b f i (getD d i 0) (R .least) l));
+      }
+
+  -- elements that stay as they are need no store
+  pub remaking-gap : {d₀ d : List ℕ} {i j : ℕ} → Remaking a b f d₀ d i → i ≤ j → j ≤ b → ((k : ℕ) → i ≤ k → k < j → f (getD d₀ k 0) ≡ getD d₀ k 0) → Remaking a b f d₀ d j
+  remaking-gap {d₀ = d₀} R p q h =
+      record {
+        least = omega (arith, R .least);
+        most = q;
+        short = R .short;
+        done =
+            passing-gap (among a b f) (R .done) p (omega (arith, R .short))
+            (λ k l m. among-in a b f k (getD d₀ k 0) (omega (arith, R .least)) (omega arith) ∙ h k l m);
       }
 
   pub remaking-end : {d₀ d : List ℕ} {i : ℕ} → Remaking a b f d₀ d i → b ≤ i → d ≡ remade a b f d₀

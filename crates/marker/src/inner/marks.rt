@@ -21,30 +21,32 @@ fn plain_mark(v: u8, x: u8) -> u8
     v
 }
 
-// v for the marks of a span that are not 0.
-fn plain_some(marks: &mut [u8], from: usize, to: usize, v: u8)
-    requires { ⌜ (from ≤ to) × (to ≤ length (now marks)) ⌝ }
-    ensures { λ _. ⌜ now (marks .exit) ≡ remade from to (plainAs v) (now (marks .entry)) ⌝ }
+// v for those of the 64 marks from `from` on that are not 0.
+fn plain_row(marks: &mut [u8], from: usize, v: u8)
+    requires { ⌜ from + 64 ≤ length (now marks) ⌝ }
+    ensures { λ _. ⌜ now (marks .exit) ≡ remade from (from + 64) (plainAs v) (now (marks .entry)) ⌝ }
 {
     let mut i = from;
-    while i < to {
+    while i < from + 64 {
         let x = marks[i];
         marks[i] = plain_mark(v, x);
         i += 1;
     }
 }
 
-// Kept places 2, pairs 4.
-fn plain(marks: &mut [u8])
+// Pairs 4, kept places 2. Old places of which no pair was seen have no marks.
+fn plain(marks: &mut [u8], seen: &[u64])
+    requires { ⌜ (length (now marks) ≡ 4160) × Holds (now seen) (now marks) ⌝ }
     ensures { λ _. ⌜ now (marks .exit) ≡ plainMarks (now (marks .entry)) ⌝ }
 {
-    let n = marks.len();
-    if n < 4096 {
-        plain_some(marks, 0, n, 4);
-        return;
+    let mut p = 0;
+    while p < 64 {
+        if seen[p] != 0 {
+            plain_row(marks, 64 * p, 4);
+        }
+        p += 1;
     }
-    plain_some(marks, 0, 4096, 4);
-    plain_some(marks, 4096, n, 2);
+    plain_row(marks, 4096, 2);
 }
 
 // Whether a target is an open or kept node.
@@ -264,7 +266,7 @@ pub fn rank(marks: &mut [u8], targets: &[u16], n: usize, seen: &mut [u64])
     ensures { λ _. ⌜ (now (marks .exit) ≡ finalMarks n (now (targets .entry)) (now (marks .entry))) × Holds (now (seen .exit)) (now (marks .exit)) ⌝ }
 {
     members::add(seen, n);
-    plain(marks);
+    plain(marks, &*seen);
     buffers::put8(marks, n, 1);
     open_all(marks, targets, &*seen);
     cover_all(marks, targets, &*seen);

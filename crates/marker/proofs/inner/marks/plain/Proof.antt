@@ -1,38 +1,68 @@
 -- `marker::inner::marks::plain` meets its contract. Assumes nothing.
-use Rattle.marker.proofs.Ranking.{plain-few, plain-all}
+use Prim.Native.Nat.{_-_}
+use mathlib.Core.Path.{_∙_}
+use mathlib.Core.Logic.{⊎-elim}
+use Rattle.marker.proofs.Ranking.{Plain, plain-start, plain-more, plain-past, plain-end}
 use borrow.Author.Needs.{needs}
+use native.Mathlib.Omega.{arith}
 use Rattle.marker.proofs.inner.marks.plain.Statement.{statement}
 use Rattle.marker.proofs.inner.marks.plain.Tie as tie
 
-plain-some-requires : tie.Need-plain-some-requires
-plain-some-requires c κs = search needs
+abbrev Inv-loop : tie.InvT-loop
+Inv-loop marks₀ seen p₀ marks p = Plain marks₀ marks p
 
-same-length : tie.Need-same-length
+abbrev μ-loop : tie.MeasureT-loop
+μ-loop marks₀ seen p₀ marks p = 64 - p
+
+loop-holds : tie.Need-loop-holds Inv-loop μ-loop
+loop-holds c = search plain-start
+
+mul-if1 : tie.Need-mul-if1 Inv-loop μ-loop
+mul-if1 c = search needs
+
+shared-slice-read-if1 : tie.Need-shared-slice-read-if1 Inv-loop μ-loop
+shared-slice-read-if1 c = search needs
+
+mul-plain-row : tie.Need-mul-plain-row Inv-loop μ-loop
+mul-plain-row c = search needs
+
+plain-row-requires : tie.Need-plain-row-requires Inv-loop μ-loop
+plain-row-requires c κs = search needs
+
+add-p : tie.Need-add-p Inv-loop μ-loop
+add-p c = search needs
+
+loop-less : tie.Need-loop-less Inv-loop μ-loop
+loop-less c = search needs
+
+loop-again : tie.Need-loop-again Inv-loop μ-loop
+loop-again c =
+    let P = c .before .before .before .loop .inv in
+    ⊎-elim (λ w. plain-more P (omega arith) (w .5 ∙ w .2 .ensures)) (λ w. plain-past P (omega arith) (c .before .before .before .before .before .before .pre .1) (w .0 .left) (w .1)) (c .if1 .came)
+
+plain-row-requires-2 : tie.Need-plain-row-requires-2 Inv-loop μ-loop
+plain-row-requires-2 c κs = search needs
+
+same-length : tie.Need-same-length Inv-loop μ-loop
 same-length c = search needs
 
-returns : tie.Need-returns
-returns c = search plain-few
-
-plain-some-requires-2 : tie.Need-plain-some-requires-2
-plain-some-requires-2 c κs = search needs
-
-plain-some-requires-3 : tie.Need-plain-some-requires-3
-plain-some-requires-3 c κs = search needs
-
-same-length-2 : tie.Need-same-length-2
-same-length-2 c = search needs
-
-returns-2 : tie.Need-returns-2
-returns-2 c = search plain-all
+returns : tie.Need-returns Inv-loop μ-loop
+returns c = plain-end (c .before .before .before .before .before .loop .inv) (omega arith) (c .before .before .plain-row2 .ensures)
 
 pub plain-spec : {M : Type 1} → statement M
 plain-spec =
     tie.close
     (tie.spec
-    plain-some-requires
+    Inv-loop
+    μ-loop
+    loop-holds
+    mul-if1
+    shared-slice-read-if1
+    mul-plain-row
+    plain-row-requires
+    add-p
+    loop-less
+    loop-again
+    plain-row-requires-2
     same-length
-    returns
-    plain-some-requires-2
-    plain-some-requires-3
-    same-length-2
-    returns-2)
+    returns)

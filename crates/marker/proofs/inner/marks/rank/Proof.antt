@@ -1,6 +1,6 @@
 -- `marker::inner::marks::rank` meets its contract. Assumes nothing.
 use Rattle.marker.proofs.Ranking.{rank-is}
-use Rattle.marker.proofs.Seen.{holds-started, holds-covered}
+use Rattle.marker.proofs.Seen.{holds-added, holds-started, holds-covered}
 use borrow.Author.Needs.{needs}
 use Rattle.marker.proofs.inner.marks.rank.Statement.{statement}
 use Rattle.marker.proofs.inner.marks.rank.Tie as tie
@@ -9,7 +9,7 @@ add-requires : tie.Need-add-requires
 add-requires c κs = search needs
 
 plain-requires : tie.Need-plain-requires
-plain-requires c κs = search needs
+plain-requires c κs = (search needs, search holds-added)
 
 put8-requires : tie.Need-put8-requires
 put8-requires c κs = search needs
@@ -27,7 +27,7 @@ same-length-2 : tie.Need-same-length-2
 same-length-2 c = search needs
 
 returns : tie.Need-returns
-returns c = (search rank-is, search holds-covered)
+returns c = (search rank-is, holds-covered (c .before .before .before .before .before .before .before .open-all .ensures .1) _ (c .before .before .cover-all .ensures))
 
 pub rank-spec : {M : Type 1} → statement M
 rank-spec =

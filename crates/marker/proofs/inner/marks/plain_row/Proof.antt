@@ -1,19 +1,23 @@
--- `marker::inner::marks::plain_some` meets its contract. Assumes nothing.
-use Prim.Native.Nat.{_-_}
+-- `marker::inner::marks::plain_row` meets its contract. Assumes nothing.
+use Prim.Native.Nat.{_+_, _-_}
 use Rattle.marker.specs.Marks.{plainAs}
 use Rattle.marker.proofs.Spans.{Remaking, remaking-start, remaking-more, remaking-end}
 use borrow.Author.Needs.{needs}
-use Rattle.marker.proofs.inner.marks.plain_some.Statement.{statement}
-use Rattle.marker.proofs.inner.marks.plain_some.Tie as tie
+use native.Mathlib.Omega.{arith}
+use Rattle.marker.proofs.inner.marks.plain_row.Statement.{statement}
+use Rattle.marker.proofs.inner.marks.plain_row.Tie as tie
 
 abbrev Inv-loop : tie.InvT-loop
-Inv-loop marks₀ from to v i₀ marks i = Remaking from to (plainAs v) marks₀ marks i
+Inv-loop marks₀ from v i₀ marks i = Remaking from (from + 64) (plainAs v) marks₀ marks i
 
 abbrev μ-loop : tie.MeasureT-loop
-μ-loop marks₀ from to v i₀ marks i = to - i
+μ-loop marks₀ from v i₀ marks i = from + 64 - i
 
 loop-holds : tie.Need-loop-holds Inv-loop μ-loop
-loop-holds c = search remaking-start
+loop-holds c = remaking-start _ _ _ _ (omega arith) (omega arith)
+
+add-loop : tie.Need-add-loop Inv-loop μ-loop
+add-loop c = search needs
 
 slice-read-x : tie.Need-slice-read-x Inv-loop μ-loop
 slice-read-x c = search needs
@@ -39,13 +43,14 @@ same-length c = search needs
 returns : tie.Need-returns Inv-loop μ-loop
 returns c = search remaking-end
 
-pub plain-some-spec : {M : Type 1} → statement M
-plain-some-spec =
+pub plain-row-spec : {M : Type 1} → statement M
+plain-row-spec =
     tie.close
     (tie.spec
     Inv-loop
     μ-loop
     loop-holds
+    add-loop
     slice-read-x
     plain-mark-requires
     slice-write-marks
