@@ -15,14 +15,12 @@ use Rattle.base.specs.Says.{bool}
 use Rattle.base.proofs.Options.{both-missing, not-due, first-there, first-missing}
 use Rattle.base.proofs.Says.{says}
 use Rattle.base.proofs.Tests.{T-true}
-use Rattle.base.specs.Walks.{count}
 use Rattle.chart.specs.declared.charts.Head.{Head}
 use Rattle.chart.specs.declared.charts.Judged.{Judged}
-use Rattle.chart.specs.Charts.{Chart, charted, size}
-use Rattle.chart.specs.Lookup.{Ascending}
+use Rattle.chart.specs.Charts.{Chart, charted}
 use Rattle.chart.specs.Faults.{Fault, fault, told as chartTold, refusal as chartRefusal}
 use Rattle.chart.specs.Faultless.{FaultlessChart}
-use Rattle.chart.proofs.Faultless.{faultless, ascends, no-refusal}
+use Rattle.chart.proofs.Faultless.{faultless}
 use Rattle.checker.specs.Records.{recordOf}
 use Rattle.checker.specs.Checks.{sized, inChart, refusal as checkRefusal}
 use Rattle.builder.specs.declared.answers.Summary.{Summary}
@@ -122,18 +120,14 @@ module _ (old new : Chart) (m t s w : List ℕ) where
   accepted v e q = accepted-by (sym e ∙ ap toldVerdict q)
 
 -- ---- both algorithms
--- rows of faultless charts have an index
-pub indexable : (old new : Chart) → FaultlessChart old → FaultlessChart new → (Ascending (old .table) × (size (old .table) ≤ 128)) × (Ascending (new .table) × (size (new .table) ≤ 128))
-indexable old new F G = ((ascends old (no-refusal old F), F .few-rows), (ascends new (no-refusal new G), G .few-rows))
-
 module _ (ho hn : Head) (to tn : List ℕ) {m t s w : List ℕ} (a : graph m t s w ≡ explored (charted ho to) (charted hn tn)) where
   pub both-left : {m₁ t₁ s₁ w₁ : List ℕ} → graph m₁ t₁ s₁ w₁ ≡ finished ho hn (graph m t s w) → graph m₁ t₁ s₁ w₁ ≡ built (charted ho to) (charted hn tn)
   unfolding built
   both-left b = b ∙ ap (finished ho hn) a
 
-  pub both-summed : (m₁ : List ℕ) {st : ℕ} {sm : Summary} → st ≡ startOf ho hn m → sm ≡ summary st m₁ → sm ≡ summary (recorded (charted ho to) (charted hn tn) .start) m₁
+  pub both-summed : (m₁ : List ℕ) {sm : Summary} → sm ≡ summary (startOf ho hn m) m₁ → sm ≡ summary (recorded (charted ho to) (charted hn tn) .start) m₁
   unfolding recorded
-  both-summed m₁ c d = d ∙ (λ i. summary ((c ∙ (λ k. startOf ho hn (a k .marks))) i) m₁)
+  both-summed m₁ d = d ∙ (λ i. summary (startOf ho hn (a i .marks)) m₁)
 
 -- ---- a build
 module _ (old new : Chart) (m t s w : List ℕ) (A : Accepted old new (graph m t s w)) {m₁ t₁ s₁ w₁ : List ℕ} {sm : Summary}
@@ -170,8 +164,3 @@ module _ (old new : Chart) (m t s w : List ℕ) (v : Verdict) {n c p : ℕ} (e :
 
 pub never-done : {A : Type 0} (n c p : ℕ) (x : Summary) → builts.Refused n c p ≡ builts.Done x → A
 never-done n c p x e = let z : _≡_ {A = ℕ} 0 1 = cc in absurd (omega arith)
-
--- ---- the counts
-pub summary-is : (start : ℕ) (m : List ℕ) {a b c : ℕ} → a ≡ count 1 m → b ≡ count 2 m → c ≡ count 3 m → record { start = start; opened = a; kept = b; covered = c } ≡ summary start m
-unfolding summary
-summary-is start m a b c = λ i. record { start = start; opened = a i; kept = b i; covered = c i }

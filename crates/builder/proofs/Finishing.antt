@@ -3,14 +3,13 @@ use mathlib.Core.Path.{_≡_, refl, sym, ap, _∙_}
 use mathlib.Core.Bool.{Bool, true, false, _&&_, not}
 use mathlib.Core.List.{List, [], _∷_, map}
 use mathlib.Core.Logic.{dite}
-use Prim.Native.Nat.{ℕ, zero, suc, _+_, _*_, _-_, _/_, _%_, _≤_, _<_}
-use native.Mathlib.Numerals.{add-one}
+use Prim.Native.Nat.{ℕ, zero, _+_, _*_, _-_, _/_, _%_, _≤_, _<_}
 use native.Mathlib.Omega.{arith}
 use native.Mathlib.Decide.{ℕ-discrete, decLt}
-use borrow.Author.Tests.{eq-eqb, ne-eqb, lt-ltb, le-ltb}
+use borrow.Author.Tests.{lt-ltb, le-ltb}
 use lib.Dec.{ltb}
-use lib.ListN.{length, getD, set, drop, replicate, length-set, drop-of-length-le}
-use lib.Seq.{drop-cons, getD-set-other}
+use lib.ListN.{length, getD, set, drop, replicate, length-set}
+use lib.Seq.{getD-set-same, getD-set-other}
 use Rattle.base.specs.Says.{bool}
 use Rattle.base.specs.Walks.{pass, count}
 use Rattle.base.proofs.Tests.{and-true}
@@ -21,19 +20,21 @@ use Rattle.chart.specs.declared.places.NewPlace.{NewPlace}
 use Rattle.chart.specs.Places.{keptNumber, oldOf, newOf}
 use Rattle.align.specs.Sets.{bit, without}
 use Rattle.align.specs.Steps.{fair}
-use Rattle.align.proofs.Sets.{bit-none}
 use Rattle.checker.specs.Records.{index}
 use Rattle.checker.specs.Rules.{startPair, startKept}
 use Rattle.words.specs.Words.{Member, LowestFrom}
 use Rattle.words.proofs.Rests.{Coming, coming-start, coming-next, coming-more, coming-less, coming-end}
-use Rattle.graph.specs.Graphs.{Graph, graph, Sized, Covers, marked}
+use Rattle.graph.specs.Graphs.{Graph, graph, Sized, marked}
 use Rattle.marker.specs.Spans.{remade}
+use Rattle.marker.specs.declared.inner.marks.Counts.{Counts}
 use Rattle.marker.specs.Marks.{finalMarks}
-use Rattle.marker.specs.Seen.{Holds}
 use Rattle.builder.specs.Builds.{redirected, finalTargets, alone, lone, finished, startOf}
+use Rattle.builder.specs.Answers.{summary}
 use Rattle.graph.proofs.Parts.{graph-eq}
 use Rattle.graph.proofs.Stores.{Passing, passing-none, passing-all}
 use Rattle.marker.proofs.Spans.{Remaking, remaking-start, remaking-more, remaking-gap, remaking-end, passing-span}
+use Rattle.marker.proofs.Counts.{count-set, count-here, count-else, count-none}
+use Rattle.marker.proofs.Ranking.{kept-is}
 
 -- ---- a target
 not-first : (a b : Bool) → a && b ≡ false → b ≡ true → a ≡ false
@@ -166,16 +167,53 @@ lone-is new z f a b c d e =
     (d ∙ ap (λ (k : ℕ). replicate k 0) (z .sets))
     (e ∙ ap (λ (k : ℕ). replicate k 0) (z .waiting))
 
--- the lone kept start holds no pair
-pub lone-holds : (new : Head) {m t s w m₁ t₁ s₁ w₁ seen : List ℕ} → Covers seen (graph m t s w) → graph m₁ t₁ s₁ w₁ ≡ lone new → Holds seen m₁
-unfolding lone
-lone-holds new {m₁ = m₁} C e = record { long = C .long; has = λ n l p. absurd (empty n l p) }
-  where
-    empty : (n : ℕ) → n < 4096 → 0 < getD m₁ n 0 → ⊥
-    empty n l p =
-        let z : getD m₁ n 0 ≡ getD (set (replicate 4160 0) (startKept new) 2) n 0 = λ i. getD (e i .marks) n 0 in
-        let y = getD-set-other {A = ℕ} (replicate 4160 0) (startKept new) n 2 0 (λ h. omega arith) in
-        omega (arith, z, y, zeros-at 4160 n)
+-- its marks: one kept node, no open or covered one
+module _ (new : Head) {m t s w : List ℕ} (e : graph m t s w ≡ lone new) where
+  is : m ≡ set (replicate 4160 0) (startKept new) 2
+  unfolding lone
+  is = λ i. e i .marks
+
+  none-at : (v k : ℕ) → 0 < v → (v ≡ 2 → ⊥) → getD m k 0 ≡ v → ⊥
+  none-at v k a b z = go (ℕ-discrete k (startKept new)) (rw is at z)
+    where
+      go : Dec (k ≡ startKept new) → getD (set (replicate 4160 0) (startKept new) 2) k 0 ≡ v → ⊥
+      go (yes q) h = b (sym h ∙ rw q (getD-set-same {A = ℕ} (replicate 4160 0) (startKept new) 2 0 (omega arith)))
+      go (no q) h = omega (arith, h, getD-set-other {A = ℕ} (replicate 4160 0) (startKept new) k 2 0 q, zeros-at 4160 k)
+
+  lone-none : (v : ℕ) → 0 < v → (v ≡ 2 → ⊥) → 0 ≡ count v m
+  lone-none v a b = sym (count-none v m {i = 0} (omega arith) (λ k x y z. none-at v k a b z))
+
+  lone-one : 1 ≡ count 2 m
+  lone-one =
+      let a = count-set 2 (replicate 4160 0) (startKept new) (omega arith) (λ z. omega (arith, z, zeros-at 4160 (startKept new))) in
+      let b = count-none 2 (replicate 4160 0) {i = 0} (omega arith) (λ k x y z. omega (arith, z, zeros-at 4160 k)) in
+      omega (arith, ap (count 2) is, a, b)
+
+-- ---- counting
+-- of the elements from a up to i, n are v
+pub record Counting (v : ℕ) (l : List ℕ) (a n i : ℕ) : Type 0 where
+  pub few : n ≤ i - a
+  pub least : a ≤ i
+  pub same : count v (drop a l) ≡ n + count v (drop i l)
+
+module _ (v : ℕ) (l : List ℕ) where
+  pub count-start : (a : ℕ) → Counting v l a 0 a
+  count-start a = record { few = omega arith; least = omega arith; same = omega arith }
+
+  -- one element more
+  pub count-one : {a b n i o : ℕ} → Counting v l a n i → i < b → b ≤ length l → (getD l i 0 ≡ v → o ≡ 1) × ((getD l i 0 ≡ v → ⊥) → o ≡ 0) × (o ≤ 1) → Counting v l a (n + o) (i + 1)
+  count-one {i = i} C h k e =
+      record {
+        few = omega (arith, C .few, C .least, e .2);
+        least = omega (arith, C .least);
+        same =
+            dite (ℕ-discrete (getD l i 0) v)
+            (λ y. omega (arith, C .same, e .0 y, count-here v l i (omega arith) y)) (λ y. omega (arith, C .same, e .1 y, count-else v l i (omega arith) y));
+      }
+
+  -- a row of 64
+  pub count-row : {a n i : ℕ} → Counting v l a n i → i ≤ a + 64 → a + 64 ≤ i → (count v (drop a l) ≡ n + count v (drop (a + 64) l)) × (n ≤ 64)
+  count-row {a} {n} {i} C p q = let e : i ≡ a + 64 = omega arith in (rw e at (C .same), omega (arith, C .few))
 
 -- ---- the end
 module _ (old new : Head) (m t s w : List ℕ) {b : Bool} (e : b ≡ alone old new m) where
@@ -189,118 +227,28 @@ module _ (old new : Head) (m t s w : List ℕ) {b : Bool} (e : b ≡ alone old n
   finish-joint q c a d = graph-eq (d ∙ (λ i. finalMarks (c i) (a i) m)) a refl refl ∙ rw (sym e ∙ q, finished)
 
 module _ (old new : Head) (m : List ℕ) {b : Bool} (e : b ≡ alone old new m) where
-  pub start-alone : {k : ℕ} → b ≡ true → k ≡ startKept new → k ≡ startOf old new m
+  start-alone : {k : ℕ} → b ≡ true → k ≡ startKept new → k ≡ startOf old new m
   unfolding startOf
   start-alone q c = c ∙ rw (sym e ∙ q, startOf)
 
-  pub start-joint : {k : ℕ} → b ≡ false → k ≡ startPair old new → k ≡ startOf old new m
+  start-joint : {k : ℕ} → b ≡ false → k ≡ startPair old new → k ≡ startOf old new m
   unfolding startOf
   start-joint q c = c ∙ rw (sym e ∙ q, startOf)
 
--- ---- counting
--- of the elements from a up to i, n are v
-pub record Counting (v : ℕ) (l : List ℕ) (a n i : ℕ) : Type 0 where
-  pub least : a ≤ i
-  pub most : i ≤ length l
-  pub few : n ≤ i - a
-  pub same : count v (drop a l) ≡ n + count v (drop i l)
+-- the start and the counts
+summary-is : {start start′ : ℕ} (m : List ℕ) {a b c : ℕ} → start ≡ start′ → a ≡ count 1 m → b ≡ count 2 m → c ≡ count 3 m
+    → record { start = start; opened = a; kept = b; covered = c } ≡ summary start′ m
+unfolding summary
+summary-is m e a b c = λ i. record { start = e i; opened = a i; kept = b i; covered = c i }
 
-module _ (v : ℕ) (l : List ℕ) where
-  pub count-start : (a : ℕ) → a ≤ length l → Counting v l a 0 a
-  count-start a h = record { least = omega arith; most = h; few = omega arith; same = omega arith }
+module _ (old new : Head) (m : List ℕ) {b : Bool} (e : b ≡ alone old new m) where
+  pub summed-alone : {k : ℕ} {m₁ t₁ s₁ w₁ : List ℕ} → b ≡ true → k ≡ startKept new → graph m₁ t₁ s₁ w₁ ≡ lone new
+      → record { start = k; opened = 0; kept = 1; covered = 0 } ≡ summary (startOf old new m) m₁
+  summed-alone {m₁ = m₁} q c g =
+      summary-is m₁ (start-alone old new m e q c) (lone-none new g 1 (omega arith) (λ z. omega arith)) (lone-one new g) (lone-none new g 3 (omega arith) (λ z. omega arith))
 
-  at : (i : ℕ) → i < length l → drop i l ≡ getD l i 0 ∷ drop (i + 1) l
-  at i b = rw (add-one i) (drop-cons l i 0 b)
-
-  count-yes : (x : ℕ) (r : List ℕ) → x ≡ v → count v (x ∷ r) ≡ count v r + 1
-  unfolding count
-  count-yes x r e = rw (eq-eqb x v e, count)
-
-  count-no : (x : ℕ) (r : List ℕ) → (x ≡ v → ⊥) → count v (x ∷ r) ≡ count v r
-  unfolding count
-  count-no x r e = rw (ne-eqb x v e, count)
-
-  -- the element at i counts as one or not
-  count-at : (i : ℕ) {o : ℕ} → i < length l → (getD l i 0 ≡ v → o ≡ 1) × ((getD l i 0 ≡ v → ⊥) → o ≡ 0) × (o ≤ 1)
-      → (count v (drop i l) ≡ o + count v (drop (i + 1) l)) × (o ≤ i + 1 - i)
-  count-at i h e =
-      let z = ap (count v) (at i h) in
-      dite (ℕ-discrete (getD l i 0) v)
-      (λ y. (omega (arith, z, e .0 y, count-yes (getD l i 0) (drop (i + 1) l) y), omega (arith, e .0 y)))
-      (λ y. (omega (arith, z, e .1 y, count-no (getD l i 0) (drop (i + 1) l) y), omega (arith, e .1 y)))
-
-  -- a span more
-  pub count-span : {a n i r j : ℕ} → Counting v l a n i → i ≤ j → j ≤ length l → (count v (drop i l) ≡ r + count v (drop j l)) × (r ≤ j - i) → Counting v l a (n + r) j
-  count-span C p q e =
-      record { least = omega (arith, C .least); most = q; few = omega (arith, C .few, C .least, e .1); same = omega (arith, C .same, e .0) }
-
-  -- one element more
-  pub count-one : {a b n i o : ℕ} → Counting v l a n i → i < b → b ≤ length l → (getD l i 0 ≡ v → o ≡ 1) × ((getD l i 0 ≡ v → ⊥) → o ≡ 0) × (o ≤ 1) → Counting v l a (n + o) (i + 1)
-  count-one {i = i} C h k e = count-span C (omega arith) (omega arith) (count-at i (omega arith) e)
-
-  -- a row of 64
-  pub count-row : {a n i : ℕ} → Counting v l a n i → i ≤ a + 64 → a + 64 ≤ i → (count v (drop a l) ≡ n + count v (drop (a + 64) l)) × (n ≤ 64)
-  count-row {a} {n} {i} C p q = let e : i ≡ a + 64 = omega arith in (rw e at (C .same), omega (arith, C .few))
-
-  -- elements other than v do not count
-  count-gap : (d i : ℕ) → i + d ≤ length l → ((k : ℕ) → i ≤ k → k < i + d → getD l k 0 ≡ v → ⊥) → count v (drop i l) ≡ count v (drop (i + d) l)
-  count-gap zero i b h = let z : i ≡ i + zero = omega arith in ap (λ (k : ℕ). count v (drop k l)) z
-  count-gap (suc d) i b h =
-      let z : i + 1 + d ≡ i + suc d = omega arith in
-      ap (count v) (at i (omega arith)) ∙ count-no (getD l i 0) (drop (i + 1) l) (h i (omega arith) (omega arith))
-      ∙ count-gap d (i + 1) (omega arith) (λ k a c. h k (omega arith) (omega arith)) ∙ ap (λ (k : ℕ). count v (drop k l)) z
-
--- none of an old place of which no pair was seen
-pub count-unseen : (v : ℕ) (l seen : List ℕ) (p : ℕ) → length l ≡ 4160 → Holds seen l → p < 64 → 0 < v → getD seen p 0 ≡ 0
-    → (count v (drop (64 * p) l) ≡ 0 + count v (drop (64 * p + 64) l)) × (_≤_ 0 64)
-count-unseen v l seen p h H m a e = let g = count-gap v l 64 (64 * p) (omega arith) (λ k x y f. omega (arith, none k x y)) in (omega (arith, g), omega arith)
-  where
-    none : (k : ℕ) → 64 * p ≤ k → k < 64 * p + 64 → getD l k 0 ≡ 0
-    none k x y =
-        let w : k / 64 ≡ p = omega arith in
-        let z : bit (getD seen p 0) (k % 64) ≡ 0 = ap (λ (n : ℕ). bit n (k % 64)) e ∙ bit-none (k % 64) in
-        dite (ℕ-discrete (getD l k 0) 0) (λ f. f) (λ f. absurd (omega (arith, z, rw w at (H .has k (omega arith) (omega arith)))))
-
--- of the pairs before i and of the kept nodes, n are v
-pub record Tally (v : ℕ) (l : List ℕ) (n i : ℕ) : Type 0 where
-  pub few : n ≤ i + 64
-  pub same : n + count v (drop i l) ≡ count v l + count v (drop 4096 l)
-
-module _ (v : ℕ) (l : List ℕ) (h : length l ≡ 4160) where
-  tally-start : {n : ℕ} → (count v (drop 4096 l) ≡ n + count v (drop (4096 + 64) l)) × (n ≤ 64) → Tally v l n 0
-  unfolding count
-  tally-start {n} e =
-      let z : drop 4160 l ≡ [] = drop-of-length-le l {i = 4160} (omega arith) in
-      let y = e .0 ∙ ap (λ (x : List ℕ). n + count v x) z in
-      record { few = omega (arith, e .1); same = omega (arith, y) }
-
-  module _ (p : ℕ) {n : ℕ} (T : Tally v l n (64 * p)) where
-    next : 64 * (p + 1) ≡ 64 * p + 64
-    next = omega arith
-
-    tally-row : {r : ℕ} → (count v (drop (64 * p) l) ≡ r + count v (drop (64 * p + 64) l)) × (r ≤ 64) → Tally v l (n + r) (64 * (p + 1))
-    tally-row e = rw next (record { few = omega (arith, T .few, e .1); same = omega (arith, T .same, e .0) })
-
-  tally-end : (p : ℕ) {n : ℕ} → Tally v l n (64 * p) → p ≤ 64 → 64 ≤ p → n ≡ count v l
-  tally-end p T a b = let e : 64 * p ≡ 4096 = omega arith in omega (arith, rw e at (T .same))
-
--- all three, up to old place p
-pub record Tallies (l : List ℕ) (a b c p : ℕ) : Type 0 where
-  pub most : p ≤ 64
-  pub ones : Tally 1 l a (64 * p)
-  pub twos : Tally 2 l b (64 * p)
-  pub threes : Tally 3 l c (64 * p)
-
-module _ (l : List ℕ) (h : length l ≡ 4160) where
-  abbrev Row : ℕ → ℕ → ℕ → Type 0
-  Row v i n = (count v (drop i l) ≡ n + count v (drop (i + 64) l)) × (n ≤ 64)
-
-  pub tallies-start : {a b c : ℕ} → Row 1 4096 a → Row 2 4096 b → Row 3 4096 c → Tallies l a b c 0
-  tallies-start x y z = record { most = omega arith; ones = tally-start 1 l h x; twos = tally-start 2 l h y; threes = tally-start 3 l h z }
-
-  module _ {a b c p : ℕ} (T : Tallies l a b c p) where
-    pub tallies-row : {x y z : ℕ} → p < 64 → Row 1 (64 * p) x → Row 2 (64 * p) y → Row 3 (64 * p) z → Tallies l (a + x) (b + y) (c + z) (p + 1)
-    tallies-row m x y z = record { most = omega arith; ones = tally-row 1 l h p (T .ones) x; twos = tally-row 2 l h p (T .twos) y; threes = tally-row 3 l h p (T .threes) z }
-
-    pub tallies-end : 64 ≤ p → (a ≡ count 1 l) × (b ≡ count 2 l) × (c ≡ count 3 l)
-    tallies-end m = (tally-end 1 l h p (T .ones) (T .most) m, tally-end 2 l h p (T .twos) (T .most) m, tally-end 3 l h p (T .threes) (T .most) m)
+  pub summed-joint : {k r : ℕ} {c : Counts} (t m₁ : List ℕ) → b ≡ false → k ≡ startPair old new → length m ≡ 4160 → length t ≡ 8192
+      → (m₁ ≡ finalMarks k t m) × (c .opened ≡ count 1 m₁) × (c .covered ≡ count 3 m₁) → (count 2 (drop 4096 m₁) ≡ r + count 2 (drop (4096 + 64) m₁)) × (r ≤ 64)
+      → record { start = k; opened = c .opened; kept = r; covered = c .covered } ≡ summary (startOf old new m) m₁
+  summed-joint {k} t m₁ q d lm lt f h =
+      summary-is m₁ (start-joint old new m e q d) (f .1) (kept-is k t m lm lt (omega arith) (f .0) h) (f .2)

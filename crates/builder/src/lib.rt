@@ -23,7 +23,6 @@ use chart::inner::faults::fault;
 use chart::inner::rows;
 use detector::inner::explore::explore;
 use inner::finish::finish;
-use inner::finish::summary;
 
 pub mod answers; // answers.rt: what a build answers
 pub mod inner; // inner.rt: what a build is made of
@@ -148,8 +147,7 @@ fn complete<'a>(
         waiting,
         &mut seen,
     );
-    let start = finish(old, new, marks, targets, sets, waiting, &mut seen);
-    summary(start, &*marks, &seen)
+    finish(old, new, marks, targets, sets, waiting, &mut seen)
 }
 
 // A build, or the refusal that is due, which writes nothing. What a build leaves, with the start it answers, the check passes.

@@ -46,11 +46,12 @@ module _ (t m l : List ℕ) (i : ℕ) where
 -- ---- the pairs of one word: only those beyond lead, which are members
 pub record Leading (t m w : List ℕ) (p : ℕ) (l₀ l : List ℕ) (word : ℕ) : Type 0 where
   pub long : length l ≡ 64
-  pub going : Going (ledFrom t m) w p l₀ l word
+  pub at : ℕ
+  pub going : Going (ledFrom t m) w p l₀ l word at
 
 module _ (t m w : List ℕ) (p : ℕ) where
   pub lead-start : {l : List ℕ} → length l ≡ 64 → Leading t m w p l l (getD w p 0)
-  lead-start {l} e = record { long = e; going = going-start (ledFrom t m) w p l }
+  lead-start {l} e = record { long = e; at = 0; going = going-start (ledFrom t m) w p l }
 
   module _ {l₀ l : List ℕ} {word : ℕ} (L : Leading t m w p l₀ l word) (b : p < 64) (H : HoldsBeyond w m) where
     idle : (i : ℕ) → i < 64 → (Member w (64 * p + i) → ⊥) → l ≡ ledFrom t m l (64 * p + i)
@@ -58,7 +59,7 @@ module _ (t m w : List ℕ) (p : ℕ) where
 
     pub lead-more : {l′ : List ℕ} {q rest : ℕ} → LowestFrom word 0 q → q < 64 → rest ≡ without word q → l′ ≡ ledFrom t m l (64 * p + q) → Leading t m w p l₀ l′ rest
     lead-more {q = q} F c e d =
-        record { long = ap length d ∙ length-led t m l (64 * p + q) ∙ L .long; going = going-more (ledFrom t m) w p (L .going) idle F c e d }
+        record { long = ap length d ∙ length-led t m l (64 * p + q) ∙ L .long; at = q + 1; going = going-more (ledFrom t m) w p (L .going) idle F c e d }
 
     pub lead-end : word ≡ 0 → l ≡ each (ledFrom t m) (64 * p) 64 l₀
     lead-end e = going-end (ledFrom t m) w p (L .going) idle e

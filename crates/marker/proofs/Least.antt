@@ -17,7 +17,7 @@ use Rattle.base.proofs.Repeat.{repeated-keeps}
 use Rattle.base.proofs.Tests.{T-or, T-or-l, T-or-r, T-true}
 use Rattle.checker.specs.Records.{index}
 use Rattle.marker.specs.Marks.{plainMarks, inQ, opening, nextOpening, opened, allOpened, transitions, cover, covered, allCovered, finalMarks}
-use Rattle.marker.proofs.Marks.{Ranks, rank-there, rank-set, plain-ranks, plain-pair, plain-node, opening-why, first-opens, all-opens, covered-ranks, covered-same, covered-not, cover-here, cover-not, cover-same}
+use Rattle.marker.proofs.Marks.{Ranks, rank-there, rank-node, rank-set, plain-ranks, plain-pair, plain-node, opening-why, first-opens, all-opens, covered-ranks, covered-same, covered-not, cover-here, cover-not, cover-same}
 
 -- ---- open: the least such set
 module _ (m t : List ℕ) (lm : length m ≡ 4160) (S : ℕ → Type 0) where
@@ -39,9 +39,7 @@ module _ (m t : List ℕ) (lm : length m ≡ 4160) (S : ℕ → Type 0) where
       ]
     where
       kept : getD x k 0 ≡ 2 → (4096 ≤ k) × (0 < getD m k 0)
-      kept a =
-          let z = rank-there m x (W .ranks) k (omega arith) in
-          (dite (decLt k 4096) (λ l. absurd (⊎-elim (λ y. omega arith) (λ y. ⊎-elim (λ u. omega arith) (λ u. omega arith) y) (W .ranks .pair k l (z .1)))) (λ l. omega arith), z .1)
+      kept a = (rank-node m x (W .ranks) k a, rank-there m x (W .ranks) k (omega arith) .1)
 
   opened-in : Closed → (x : List ℕ) (n : ℕ) → Within x → nextOpening t x ≡ some n → Within (opened x n)
   unfolding opening

@@ -4,6 +4,7 @@ pub mod Spans
 pub mod Passes
 pub mod Seen
 pub mod Sweeps
+pub mod Counts
 pub mod Ranking
 pub mod Least
 pub mod Orders

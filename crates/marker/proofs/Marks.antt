@@ -1,5 +1,5 @@
 -- The marks of Algorithm 1: which a node can have, and that they are closed as the condition needs. Assumes nothing.
-use mathlib.Core.Path.{_≡_, refl, sym, _∙_}
+use mathlib.Core.Path.{_≡_, refl, sym, ap, _∙_}
 use mathlib.Core.Bool.{Bool, true, false}
 use mathlib.Core.Logic.{_⊎_, inl, inr, ⊎-elim, dite}
 use mathlib.Core.List.{List, [], _∷_}
@@ -10,7 +10,7 @@ use native.Mathlib.Decide.{ℕ-discrete, decLt}
 use borrow.Author.Tests.{ne-eqb, eqb-true, eqb-false, lt-ltb, le-ltb}
 use lib.Dec.{T, eqb, eqb→eq, eqb-refl}
 use lib.ListN.{length, getD, set, take, length-set, List·getD-eq-default}
-use lib.Seq.{getD-set-same, getD-set-other, getD-take, length-take-le}
+use lib.Seq.{getD-set-same, getD-set-other, getD-take, length-take-le, ext-getD}
 use Rattle.base.proofs.Lists.{has}
 use Rattle.base.proofs.Tests.{T-or, T-or-l, T-or-r, and-true, or-false}
 use Rattle.base.proofs.Repeat.{Falls, rests, repeated-keeps}
@@ -37,6 +37,12 @@ module _ (m x : List ℕ) (R : Ranks m x) (n : ℕ) where
   -- 1, 3 and 4 are marks of pairs
   pub rank-pair : 0 < getD x n 0 → (getD x n 0 ≡ 2 → ⊥) → n < 4096
   rank-pair p e = let t = rank-there p in dite (decLt n 4096) (λ h. h) (λ h. absurd (e (R .node n (omega arith) (t .0) (t .1))))
+
+  -- and 2 is one of kept nodes
+  pub rank-node : getD x n 0 ≡ 2 → 4096 ≤ n
+  rank-node e =
+      let t = rank-there (omega arith) in
+      dite (decLt n 4096) (λ l. absurd (⊎-elim (λ y. omega arith) (λ y. ⊎-elim (λ u. omega arith) (λ u. omega arith) y) (R .pair n l (t .1)))) (λ l. omega arith)
 
 -- a pair that is beyond is opened, or covered
 pub rank-set : (m x : List ℕ) (n v : ℕ) → Ranks m x → getD x n 0 ≡ 4 → (v ≡ 1) ⊎ ((v ≡ 3) ⊎ (v ≡ 4)) → Ranks m (set x n v)
@@ -91,6 +97,26 @@ plain-uncovered m l n e =
     let R = plain-ranks m l in
     let t = rank-there m (plainMarks m) R n (omega arith) in
     dite (decLt n 4096) (λ b. omega (arith, plain-pair m l n (t .0) b (t .1))) (λ b. omega (arith, plain-node m l n (t .0) (omega arith) (t .1)))
+
+-- the start becomes open, whether it had a mark or not
+start-any : (m : List ℕ) (s : ℕ) → length m ≡ 4160 → s < 4096 → set (plainMarks m) s 1 ≡ set (plainMarks (set m s 1)) s 1
+start-any m s l b = ext-getD 0 (set (plainMarks m) s 1) (set (plainMarks m′) s 1) (simp (length-set, length-plain) refl) (λ k c. go k (below k c) (ℕ-discrete k s))
+  where
+    m′ : List ℕ
+    m′ = set m s 1
+
+    l′ : length m′ ≡ 4160
+    l′ = length-set m s 1 ∙ l
+
+    below : (k : ℕ) → k < length (set (plainMarks m) s 1) → k < 4160
+    below k c = omega (arith, length-set (plainMarks m) s 1, length-plain m)
+
+    go : (k : ℕ) → k < 4160 → Dec (k ≡ s) → getD (set (plainMarks m) s 1) k 0 ≡ getD (set (plainMarks m′) s 1) k 0
+    go k c (yes e) =
+        rw e (getD-set-same (plainMarks m) s 1 0 (omega (arith, length-plain m)) ∙ sym (getD-set-same (plainMarks m′) s 1 0 (omega (arith, length-plain m′, l′))))
+    go k c (no e) =
+        getD-set-other (plainMarks m) s k 1 0 e ∙ plain-at m l k c ∙ ap (plainMark k) (sym (getD-set-other m s k 1 0 e)) ∙ sym (plain-at m′ l′ k c)
+        ∙ sym (getD-set-other (plainMarks m′) s k 1 0 e)
 
 -- ---- lines 1 to 5 of Algorithm 1
 -- what holds as pairs are opened: start n is open, none is covered
@@ -312,3 +338,18 @@ module _ (m t : List ℕ) (s : ℕ) (lm : length m ≡ 4160) (lt : length t ≡ 
           was-beyond i c e =
               dite (ℕ-discrete (getD y i 0) 4) (λ z. z)
               (λ z. let w = covered-same (transitions y t) y i z in absurd (⊎-elim (λ q. O .uncovered i (sym w ∙ q)) (λ q. z (sym w ∙ q)) e))
+
+-- the same of a start with or without a mark: which marks nodes have before covering, and at the end
+module _ (m t : List ℕ) (s : ℕ) (lm : length m ≡ 4160) (lt : length t ≡ 8192) (b : s < 4096) where
+  opens-any : Opens (set m s 1) s (allOpened t (set (plainMarks m) s 1))
+  opens-any =
+      rw (start-any m s lm b)
+      (all-opens t (set m s 1) s (set (plainMarks (set m s 1)) s 1)
+      (first-opens (set m s 1) t s (length-set m s 1 ∙ lm) lt b (omega (arith, getD-set-same m s 1 0 (omega arith)))))
+
+  pub none-covered : (k : ℕ) → getD (allOpened t (set (plainMarks m) s 1)) k 0 ≡ 3 → ⊥
+  none-covered = opens-any .uncovered
+
+  pub final-ranks : Ranks (set m s 1) (finalMarks s t m)
+  unfolding finalMarks allCovered
+  final-ranks = let y = allOpened t (set (plainMarks m) s 1) in covered-ranks (set m s 1) (transitions y t) y (opens-any .ranks)

@@ -30,24 +30,23 @@ module _ (f : List ℕ → ℕ → List ℕ) (a : ℕ) where
       rw (e, each, z) (ap (λ (l : List ℕ). f l (a + (m + n))) (each-then m n x))
 
 -- the loop over the bits of word p: x₀ has become x by the pairs below bit `at`, and `word` is what is left
-pub record Going (f : List ℕ → ℕ → List ℕ) (w : List ℕ) (p : ℕ) (x₀ x : List ℕ) (word : ℕ) : Type 0 where
-  pub at : ℕ
+pub record Going (f : List ℕ → ℕ → List ℕ) (w : List ℕ) (p : ℕ) (x₀ x : List ℕ) (word at : ℕ) : Type 0 where
   pub coming : Coming (getD w p 0) word at
   pub is : x ≡ each f (64 * p) at x₀
 
 module _ (f : List ℕ → ℕ → List ℕ) (w : List ℕ) (p : ℕ) where
-  pub going-start : (x : List ℕ) → Going f w p x x (getD w p 0)
+  pub going-start : (x : List ℕ) → Going f w p x x (getD w p 0) 0
   unfolding each
-  going-start x = record { at = 0; coming = coming-start (getD w p 0); is = refl }
+  going-start x = record { coming = coming-start (getD w p 0); is = refl }
 
   -- pairs that are no members need nothing
-  module _ {x₀ x : List ℕ} {word : ℕ} (G : Going f w p x₀ x word) (idle : (i : ℕ) → i < 64 → (Member w (64 * p + i) → ⊥) → x ≡ f x (64 * p + i)) where
-    passed : {q : ℕ} → LowestFrom (getD w p 0) (G .at) q → x ≡ each f (64 * p) q x₀
+  module _ {x₀ x : List ℕ} {word at : ℕ} (G : Going f w p x₀ x word at) (idle : (i : ℕ) → i < 64 → (Member w (64 * p + i) → ⊥) → x ≡ f x (64 * p + i)) where
+    passed : {q : ℕ} → LowestFrom (getD w p 0) at q → x ≡ each f (64 * p) q x₀
     passed {q} N = each-past f (64 * p) x₀ q (G .is) (N .least) (λ i a b. idle i (omega (arith, N .most)) (none-up w p N i a b))
 
-    pub going-more : {y : List ℕ} {q rest : ℕ} → LowestFrom word 0 q → q < 64 → rest ≡ without word q → y ≡ f x (64 * p + q) → Going f w p x₀ y rest
+    pub going-more : {y : List ℕ} {q rest : ℕ} → LowestFrom word 0 q → q < 64 → rest ≡ without word q → y ≡ f x (64 * p + q) → Going f w p x₀ y rest (q + 1)
     going-more {q = q} L l e d =
-        record { at = q + 1; coming = coming-more (G .coming) L l e; is = each-more f (64 * p) x₀ q (passed (coming-next (G .coming) L l)) d }
+        record { coming = coming-more (G .coming) L l e; is = each-more f (64 * p) x₀ q (passed (coming-next (G .coming) L l)) d }
 
     pub going-end : word ≡ 0 → x ≡ each f (64 * p) 64 x₀
     going-end e = passed (coming-end (G .coming) e)

@@ -3,23 +3,28 @@ use mathlib.Core.Path.{_≡_, refl, sym, ap, _∙_}
 use mathlib.Core.Bool.{Bool, true, false, _||_}
 use mathlib.Core.List.{List, [], _∷_}
 use mathlib.Core.Logic.{dite}
-use Prim.Native.Nat.{ℕ, zero, suc, _+_, _*_, _≤_, _<_}
+use Prim.Native.Nat.{ℕ, zero, suc, _+_, _*_, _-_, _≤_, _<_}
 use native.Mathlib.Numerals.{add-one}
 use native.Mathlib.Omega.{arith}
 use native.Mathlib.Decide.{ℕ-discrete, decLt}
-use borrow.Author.Tests.{ne-eqb, lt-ltb, le-ltb}
+use borrow.Author.Tests.{eq-eqb, ne-eqb, eqb-true, lt-ltb, le-ltb}
 use lib.Dec.{eqb}
 use lib.ListN.{length, getD, set, drop, length-set, length-drop, drop-of-length-le, List·getD-eq-default}
 use lib.Seq.{drop-cons, getD-drop, getD-set-same, getD-set-other}
+use Rattle.base.specs.Walks.{count}
 use Rattle.checker.specs.Records.{index}
 use Rattle.align.specs.Sets.{without}
 use Rattle.words.specs.Words.{Member, LowestFrom}
+use Rattle.words.proofs.Rests.{coming-next, coming-end, none-up}
+use Rattle.marker.specs.declared.inner.marks.Counts.{Counts}
+use Rattle.marker.specs.Counts.{Counted}
 use Rattle.marker.specs.Spans.{remade, each}
 use Rattle.marker.specs.Seen.{Holds}
 use Rattle.marker.specs.Marks.{plainMark, plainAs, plainMarks, inQ, opening, allOpened, transitions, cover, covered, coverFrom, allCovered, finalMarks}
 use Rattle.graph.proofs.Stores.{Passing, passing-none, passing-all}
-use Rattle.marker.proofs.Marks.{cover-same}
+use Rattle.marker.proofs.Marks.{Ranks, rank-pair, rank-node, cover-same, none-covered, final-ranks}
 use Rattle.marker.proofs.Spans.{passing-gap, passing-span}
+use Rattle.marker.proofs.Counts.{count-set, count-gap, count-none, Ones, ones-drop, counted-none, counted-few, counted-past, counted-open, counted-then}
 use Rattle.marker.proofs.Passes.{Going, going-start, going-more, going-end}
 use Rattle.marker.proofs.Seen.{holds-kept, none-seen}
 
@@ -105,16 +110,28 @@ module _ (t m : List ℕ) (i x : ℕ) where
 
 -- ---- covering
 module _ (m : List ℕ) (n : ℕ) where
-  pub cover-yes : n < length m → getD m n 0 ≡ 4 → set m n 3 ≡ cover m n
+  cover-yes : n < length m → getD m n 0 ≡ 4 → set m n 3 ≡ cover m n
   unfolding cover
   cover-yes l e = rw (e, cover)
 
-  pub cover-no : (getD m n 0 ≡ 4 → ⊥) → m ≡ cover m n
+  cover-no : (getD m n 0 ≡ 4 → ⊥) → m ≡ cover m n
   unfolding cover
   cover-no e = rw (ne-eqb (getD m n 0) 4 e, cover)
 
-  pub cover-past : length m ≤ n → m ≡ cover m n
+  cover-past : length m ≤ n → m ≡ cover m n
   cover-past l = cover-no (λ e. omega (arith, List·getD-eq-default m 0 {n = n} l))
+
+  abbrev Covers : List ℕ → ℕ → Type 0
+  Covers y r = (y ≡ cover m n) × (count 3 y ≡ r + count 3 m) × (r ≤ 1)
+
+  pub covers-one : n < length m → getD m n 0 ≡ 4 → Covers (set m n 3) 1
+  covers-one l e = (cover-yes l e, count-set 3 m n l (λ z. omega arith), omega arith)
+
+  pub covers-none : (getD m n 0 ≡ 4 → ⊥) → Covers m 0
+  covers-none e = (cover-no e, omega arith, omega arith)
+
+  pub covers-past : length m ≤ n → Covers m 0
+  covers-past l = (cover-past l, omega arith, omega arith)
 
   length-cover : length (cover m n) ≡ length m
   length-cover = dite (ℕ-discrete (getD m n 0) 4) (λ e. go e (decLt n (length m))) (λ e. ap length (sym (cover-no e)))
@@ -133,19 +150,24 @@ module _ (m : List ℕ) (n : ℕ) where
       go e (yes l) (no z) = rw (← cover-yes l e, getD-set-other m n k 3 0 z)
 
 module _ (t m : List ℕ) (i : ℕ) where
-  pub from-not : (getD m i 0 ≡ 1 → ⊥) → m ≡ coverFrom t m i
+  from-not : (getD m i 0 ≡ 1 → ⊥) → m ≡ coverFrom t m i
   unfolding coverFrom
   from-not e = rw (ne-eqb (getD m i 0) 1 e, coverFrom)
 
-  pub from-open : {m₁ m₂ : List ℕ} → getD m i 0 ≡ 1 → m₁ ≡ cover m (getD t (2 * i) 0) → m₂ ≡ cover m₁ (getD t (2 * i + 1) 0) → m₂ ≡ coverFrom t m i
+  from-open : {m₁ m₂ : List ℕ} → getD m i 0 ≡ 1 → m₁ ≡ cover m (getD t (2 * i) 0) → m₂ ≡ cover m₁ (getD t (2 * i + 1) 0) → m₂ ≡ coverFrom t m i
   unfolding coverFrom
   from-open e a b = b ∙ ap (λ (x : List ℕ). cover x (getD t (2 * i + 1) 0)) a ∙ (let z : index i 0 ≡ 2 * i = omega arith in rw (e, coverFrom) (rw z))
+
+  -- both targets
+  pub covers-both : {m₁ m₂ : List ℕ} {a b : ℕ} → getD m i 0 ≡ 1 → Covers m (getD t (2 * i) 0) m₁ a → Covers m₁ (getD t (2 * i + 1) 0) m₂ b
+      → (m₂ ≡ coverFrom t m i) × (count 3 m₂ ≡ a + b + count 3 m) × (a + b ≤ 2)
+  covers-both e x y = (from-open e (x .0) (y .0), omega (arith, x .1, y .1), omega (arith, x .2, y .2))
 
   from-is : getD m i 0 ≡ 1 → coverFrom t m i ≡ cover (cover m (getD t (index i 0) 0)) (getD t (index i 1) 0)
   unfolding coverFrom
   from-is e = rw (e, coverFrom)
 
-  from-ones : (k : ℕ) → eqb (getD (coverFrom t m i) k 0) 1 ≡ eqb (getD m k 0) 1
+  from-ones : Ones (coverFrom t m i) m
   from-ones k =
       dite (ℕ-discrete (getD m i 0) 1)
       (λ e. rw (from-is e) (cover-ones (cover m (getD t (index i 0) 0)) (getD t (index i 1) 0) k ∙ cover-ones m (getD t (index i 0) 0) k))
@@ -183,11 +205,12 @@ pub record Covering (t w m₀ m : List ℕ) (i : ℕ) : Type 0 where
   pub long : length m ≡ 4160
   pub held : Holds w m
   pub most : i ≤ 4096
+  pub ones : Ones m m₀
   pub same : allCovered t m₀ ≡ covered m (transitions (drop i m) (drop (2 * i) t))
 
-pub cover-start : (t : List ℕ) {w m : List ℕ} → length m ≡ 4160 → Holds w m → Covering t w m m 0
+cover-start : (t : List ℕ) {w m : List ℕ} → length m ≡ 4160 → Holds w m → Covering t w m m 0
 unfolding allCovered
-cover-start t l H = record { long = l; held = H; most = omega arith; same = refl }
+cover-start t l H = record { long = l; held = H; most = omega arith; ones = λ k. refl; same = refl }
 
 module _ (t : List ℕ) (w : length t ≡ 8192) where
   heads : (i : ℕ) → i < 4096 → drop (2 * i) t ≡ getD t (index i 0) 0 ∷ (getD t (index i 1) 0 ∷ drop (2 * (i + 1)) t)
@@ -210,6 +233,7 @@ module _ (t : List ℕ) (w : length t ≡ 8192) where
         long = length-from t m i ∙ C .long;
         held = holds-from t m i (C .held) refl;
         most = omega arith;
+        ones = λ k. from-ones t m i k ∙ C .ones k;
         same =
             C .same ∙ open-step m i l (C .long)
             ∙ ap (covered (coverFrom t m i))
@@ -225,10 +249,10 @@ module _ (t : List ℕ) (w : length t ≡ 8192) where
       rw e at (cover-more (cover-span n C (omega arith)) (omega arith) refl)
 
   -- the next word
-  pub cover-next : {v m₀ m m′ : List ℕ} {p : ℕ} → Covering t v m₀ m (64 * p) → p < 64 → m′ ≡ each (coverFrom t) (64 * p) 64 m → Covering t v m₀ m′ (64 * (p + 1))
+  cover-next : {v m₀ m m′ : List ℕ} {p : ℕ} → Covering t v m₀ m (64 * p) → p < 64 → m′ ≡ each (coverFrom t) (64 * p) 64 m → Covering t v m₀ m′ (64 * (p + 1))
   cover-next {p = p} C l e = let z : 64 * (p + 1) ≡ 64 * p + 64 = omega arith in rw (e, z) (cover-span 64 C (omega arith))
 
-  pub cover-end : {v m₀ m : List ℕ} {p : ℕ} → Covering t v m₀ m (64 * p) → 64 ≤ p → m ≡ allCovered t m₀
+  cover-end : {v m₀ m : List ℕ} {p : ℕ} → Covering t v m₀ m (64 * p) → 64 ≤ p → m ≡ allCovered t m₀
   unfolding covered transitions
   cover-end {m = m} {p = p} C l =
       let e : drop (2 * (64 * p)) t ≡ [] = drop-of-length-le t {i = 2 * (64 * p)} (omega arith) in
@@ -238,32 +262,136 @@ module _ (t : List ℕ) (w : length t ≡ 8192) where
       none-left [] = refl
       none-left (a ∷ x) = refl
 
+-- the words before p, with their counts
+pub record CoveringAll (t w m₀ m : List ℕ) (p : ℕ) (c : Counts) : Type 0 where
+  pub long : length m₀ ≡ 4160
+  pub covering : Covering t w m₀ m (64 * p)
+  pub counted : Counted m₀ m 0 (64 * p) (record { opened = 0; covered = 0 }) c
+
+pub all-start : (t : List ℕ) {w m : List ℕ} → length m ≡ 4160 → Holds w m → CoveringAll t w m m 0 (record { opened = 0; covered = 0 })
+all-start t {m = m} l H = record { long = l; covering = cover-start t l H; counted = counted-none m 0 _ }
+
+module _ {t w m₀ m : List ℕ} {p : ℕ} {c : Counts} (A : CoveringAll t w m₀ m p c) where
+  pub all-few : (c .opened ≤ 4160) × (c .covered ≤ 4160)
+  all-few = let f = counted-few (A .counted) (A .long) (A .covering .long) in (omega (arith, f .0), omega (arith, f .1))
+
+  pub all-more : {m′ : List ℕ} {c′ : Counts} → length t ≡ 8192 → p < 64 → (m′ ≡ each (coverFrom t) (64 * p) 64 m) × Counted m m′ (64 * p) (64 * p + 64) c c′ → CoveringAll t w m₀ m′ (p + 1) c′
+  all-more lt l e =
+      let z : 64 * (p + 1) ≡ 64 * p + 64 = omega arith in
+      record {
+        long = A .long;
+        covering = cover-next t lt (A .covering) l (e .0);
+        counted = rw z (counted-then (A .counted) (A .covering .ones) (A .covering .long ∙ sym (A .long)) (e .1));
+      }
+
+  pub all-end : length t ≡ 8192 → 64 ≤ p → (m ≡ allCovered t m₀) × (count 1 m ≡ c .opened + count 1 (drop 4096 m)) × (count 3 m ≡ c .covered + count 3 m₀)
+  all-end lt l =
+      let z : 64 * p ≡ 4096 = omega (arith, A .covering .most) in
+      let C = rw z at (A .counted) in
+      let same = ones-drop m m₀ (A .covering .ones) (A .covering .long ∙ sym (A .long)) in
+      (cover-end t lt (A .covering) l, omega (arith, C .opened, same 0, same 4096), omega (arith, C .covered))
+
 -- ---- the pairs of one word: only open ones cover, which are members
-pub record CoveringWord (t w : List ℕ) (p : ℕ) (m₀ m : List ℕ) (word : ℕ) : Type 0 where
+pub record CoveringWord (t w : List ℕ) (p : ℕ) (m₀ m : List ℕ) (word : ℕ) (so to : Counts) : Type 0 where
   pub long : length m ≡ 4160
+  pub same : length m₀ ≡ 4160
   pub held : Holds w m
-  pub going : Going (coverFrom t) w p m₀ m word
+  pub ones : Ones m m₀
+  pub at : ℕ
+  pub going : Going (coverFrom t) w p m₀ m word at
+  pub counted : Counted m₀ m (64 * p) (64 * p + at) so to
 
 module _ (t w : List ℕ) (p : ℕ) where
-  pub word-start : {m : List ℕ} → length m ≡ 4160 → Holds w m → CoveringWord t w p m m (getD w p 0)
-  word-start {m} l H = record { long = l; held = H; going = going-start (coverFrom t) w p m }
+  pub word-start : {m : List ℕ} (so : Counts) → length m ≡ 4160 → Holds w m → CoveringWord t w p m m (getD w p 0) so so
+  word-start {m} so l H =
+      let z : 64 * p + 0 ≡ 64 * p = omega arith in
+      record { long = l; same = l; held = H; ones = λ k. refl; at = 0; going = going-start (coverFrom t) w p m; counted = rw z (counted-none m (64 * p) so) }
 
-  module _ {m₀ m : List ℕ} {word : ℕ} (C : CoveringWord t w p m₀ m word) (b : p < 64) where
-    idle : (i : ℕ) → i < 64 → (Member w (64 * p + i) → ⊥) → m ≡ coverFrom t m (64 * p + i)
-    idle i c f = from-not t m (64 * p + i) (λ e. f (C .held .has (64 * p + i) (omega arith) (omega arith)))
+  module _ {m₀ m : List ℕ} {word : ℕ} {so to : Counts} (C : CoveringWord t w p m₀ m word so to) where
+    pub word-few : (to .opened ≤ so .opened + 4160) × (to .covered ≤ so .covered + 4160)
+    word-few = counted-few (C .counted) (C .same) (C .long)
 
-    pub word-more : {m′ : List ℕ} {q rest : ℕ} → LowestFrom word 0 q → q < 64 → rest ≡ without word q → m′ ≡ coverFrom t m (64 * p + q) → CoveringWord t w p m₀ m′ rest
-    word-more {q = q} L c e d =
-        record {
-          long = ap length d ∙ length-from t m (64 * p + q) ∙ C .long;
-          held = holds-from t m (64 * p + q) (C .held) d;
-          going = going-more (coverFrom t) w p (C .going) idle L c e d;
-        }
+    module _ (b : p < 64) where
+      idle : (i : ℕ) → i < 64 → (Member w (64 * p + i) → ⊥) → m ≡ coverFrom t m (64 * p + i)
+      idle i c f = from-not t m (64 * p + i) (λ e. f (C .held .has (64 * p + i) (omega arith) (omega arith)))
 
-    pub word-end : word ≡ 0 → m ≡ each (coverFrom t) (64 * p) 64 m₀
-    word-end e = going-end (coverFrom t) w p (C .going) idle e
+      -- up to the next bit none is open
+      passed : {q : ℕ} → LowestFrom (getD w p 0) (C .at) q → Counted m₀ m (64 * p) (64 * p + q) so to
+      passed {q} N =
+          counted-past (C .counted) (64 * p + q) (omega (arith, N .least)) (omega (arith, N .most, C .same))
+          (λ k c d e. let i : k ≡ 64 * p + (k - 64 * p) = omega arith in
+          none-up w p N (k - 64 * p) (omega arith) (omega arith) (rw i at (C .held .has k (omega (arith, N .most)) (omega (arith, was-one k e)))))
+        where
+          was-one : (k : ℕ) → getD m₀ k 0 ≡ 1 → getD m k 0 ≡ 1
+          was-one k e = eqb-true (getD m k 0) 1 (C .ones k ∙ eq-eqb (getD m₀ k 0) 1 e)
 
--- ---- all of it
-pub rank-is : (n : ℕ) (t m : List ℕ) {m₁ m₂ m₃ m₄ : List ℕ} → m₁ ≡ plainMarks m → m₂ ≡ set m₁ n 1 → m₃ ≡ allOpened t m₂ → m₄ ≡ allCovered t m₃ → m₄ ≡ finalMarks n t m
-unfolding finalMarks
-rank-is n t m a b c d = d ∙ ap (allCovered t) (c ∙ ap (allOpened t) (b ∙ ap (λ (x : List ℕ). set x n 1) a))
+      module _ {q rest : ℕ} (L : LowestFrom word 0 q) (c : q < 64) (e : rest ≡ without word q) where
+        next : 64 * p + q + 1 ≡ 64 * p + (q + 1)
+        next = omega arith
+
+        was : getD m (64 * p + q) 0 ≡ 1 → getD m₀ (64 * p + q) 0 ≡ 1
+        was o = eqb-true (getD m₀ (64 * p + q) 0) 1 (sym (C .ones (64 * p + q)) ∙ eq-eqb (getD m (64 * p + q) 0) 1 o)
+
+        pub word-open : {m′ : List ℕ} (n : ℕ) → getD m (64 * p + q) 0 ≡ 1 → (m′ ≡ coverFrom t m (64 * p + q)) × (count 3 m′ ≡ n + count 3 m) × (n ≤ 2)
+            → CoveringWord t w p m₀ m′ rest so (record { opened = to .opened + 1; covered = to .covered + n })
+        word-open n o d =
+            record {
+              long = ap length (d .0) ∙ length-from t m (64 * p + q) ∙ C .long;
+              same = C .same;
+              held = holds-from t m (64 * p + q) (C .held) (d .0);
+              ones = λ k. rw (d .0) (from-ones t m (64 * p + q) k) ∙ C .ones k;
+              at = q + 1;
+              going = going-more (coverFrom t) w p (C .going) idle L c e (d .0);
+              counted = rw next at (counted-open (passed (coming-next (C .going .coming) L c)) n (omega (arith, C .same)) (was o) (d .1));
+            }
+
+        pub word-shut : (getD m (64 * p + q) 0 ≡ 1 → ⊥) → CoveringWord t w p m₀ m rest so to
+        word-shut o =
+            record {
+              long = C .long;
+              same = C .same;
+              held = C .held;
+              ones = C .ones;
+              at = q + 1;
+              going = going-more (coverFrom t) w p (C .going) idle L c e (from-not t m (64 * p + q) o);
+              counted = rw next at (counted-past (passed (coming-next (C .going .coming) L c)) (64 * p + q + 1) (omega arith) (omega (arith, C .same)) (λ k x y z. o (shut k x y z)));
+            }
+          where
+            shut : (k : ℕ) → 64 * p + q ≤ k → k < 64 * p + q + 1 → getD m₀ k 0 ≡ 1 → getD m (64 * p + q) 0 ≡ 1
+            shut k x y z =
+                let i : k ≡ 64 * p + q = omega arith in
+                eqb-true (getD m (64 * p + q) 0) 1 (C .ones (64 * p + q) ∙ eq-eqb (getD m₀ (64 * p + q) 0) 1 (rw i at z))
+
+      pub word-end : word ≡ 0 → (m ≡ each (coverFrom t) (64 * p) 64 m₀) × Counted m₀ m (64 * p) (64 * p + 64) so to
+      word-end e = (going-end (coverFrom t) w p (C .going) idle e, passed (coming-end (C .going .coming) e))
+
+-- ---- all of it, with the counts
+module _ (n : ℕ) (t m : List ℕ) (lm : length m ≡ 4160) (lt : length t ≡ 8192) (b : n < 4096) where
+  module _ {x : List ℕ} (e : x ≡ finalMarks n t m) where
+    ranks : Ranks (set m n 1) x
+    ranks = rw e (final-ranks m t n lm lt b)
+
+    -- of the kept nodes none is open
+    opened-is : (r : ℕ) → count 1 x ≡ r + count 1 (drop 4096 x) → r ≡ count 1 x
+    opened-is r c =
+        omega (arith, count-none 1 x {i = 4096} (omega (arith, ranks .long)) (λ k a d z. omega (arith, rank-pair (set m n 1) x ranks k (omega arith) (λ q. omega arith))))
+
+    -- only kept nodes are kept
+    pub kept-is : {r : ℕ} → (count 2 (drop 4096 x) ≡ r + count 2 (drop (4096 + 64) x)) × (r ≤ 64) → r ≡ count 2 x
+    unfolding count
+    kept-is c =
+        let z : count 2 (drop 4160 x) ≡ 0 = ap (count 2) (drop-of-length-le x {i = 4160} (omega (arith, ranks .long))) in
+        omega (arith, c .0, z, count-gap 2 x {i = 0} 4096 (omega arith) (omega (arith, ranks .long)) (λ k a d q. omega (arith, rank-node (set m n 1) x ranks k q)))
+
+  -- before covering none was covered
+  covered-is : {x : List ℕ} (y r : ℕ) → x ≡ allOpened t (set (plainMarks m) n 1) → y ≡ r + count 3 x → r ≡ y
+  covered-is {x} y r e c = omega (arith, count-none 3 x {i = 0} (omega arith) (λ k a d z. none-covered m t n lm lt b k (rw e at z)))
+
+  pub rank-is : {m₁ m₂ m₃ m₄ : List ℕ} {c : Counts} → m₁ ≡ plainMarks m → m₂ ≡ set m₁ n 1 → m₃ ≡ allOpened t m₂
+      → (m₄ ≡ allCovered t m₃) × (count 1 m₄ ≡ c .opened + count 1 (drop 4096 m₄)) × (count 3 m₄ ≡ c .covered + count 3 m₃)
+      → (m₄ ≡ finalMarks n t m) × (c .opened ≡ count 1 m₄) × (c .covered ≡ count 3 m₄)
+  unfolding finalMarks
+  rank-is {m₄ = m₄} {c = c} p q o d =
+      let f = o ∙ ap (allOpened t) (q ∙ ap (λ (x : List ℕ). set x n 1) p) in
+      let e = d .0 ∙ ap (allCovered t) f in
+      (e, opened-is e (c .opened) (d .1), covered-is (count 3 m₄) (c .covered) f (d .2))

@@ -13,8 +13,8 @@ use Rattle.words.specs.Words.{added, removed}
 use Rattle.words.proofs.Words.{length-added, length-removed, added-here, added-old, removed-other}
 use Rattle.graph.proofs.Stores.{Passing, passing-more}
 use Rattle.marker.specs.Seen.{Holds, HoldsBeyond}
-use Rattle.marker.specs.Marks.{plainMarks, allOpened, Opened, Tried, allCovered, transitions}
-use Rattle.marker.proofs.Marks.{plain-ranks, covered-same}
+use Rattle.marker.specs.Marks.{plainMarks, allOpened, Opened, Tried}
+use Rattle.marker.proofs.Marks.{plain-ranks}
 use Rattle.marker.proofs.Orders.{opened-at, some-opened}
 
 -- ---- every pair with a mark
@@ -49,10 +49,6 @@ module _ {w x : List ℕ} (H : Holds w x) where
 
   pub holds-opened : (t : List ℕ) {y : List ℕ} → length x ≡ 4160 → y ≡ allOpened t x → Holds w y
   holds-opened t l e = rw e (holds-kept H (λ k z. ⊎-elim (λ s. s ∙ z) (λ s. absurd (omega (arith, s .0))) (opened-at t l (some-opened t l .1) k)))
-
-  pub holds-covered : (t : List ℕ) {y : List ℕ} → y ≡ allCovered t x → Holds w y
-  unfolding allCovered
-  holds-covered t e = rw e (holds-kept H (λ k z. covered-same (transitions x t) x k (λ q. omega arith) ∙ z))
 
 -- ---- every pair beyond
 module _ {w x : List ℕ} (H : HoldsBeyond w x) where

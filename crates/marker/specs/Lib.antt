@@ -3,3 +3,4 @@ pub mod Spans
 pub mod Seen
 pub mod Marks
 pub mod Spreads
+pub mod Counts

@@ -1,7 +1,6 @@
 -- `builder::complete` meets its contract. Assumes nothing.
 use Rattle.chart.proofs.Faultless.{indexable}
 use Rattle.builder.proofs.Answering.{both-left, both-summed}
-use native.Mathlib.Omega.{arith}
 use borrow.Author.Needs.{needs}
 use Rattle.builder.proofs.complete.Statement.{statement}
 use Rattle.builder.proofs.complete.Tie as tie
@@ -21,12 +20,6 @@ slice-aggregate-finish c = search needs
 finish-requires : tie.Need-finish-requires
 finish-requires c κs = let S = c .before .before .before .before .before .before .before .before .before .before .before .before .before .before .before .before .before .before .before .before .before .before .before .before .before .before .before .before .pre .1 .1 in (record { marks = search (needs, S .marks); targets = search (needs, S .targets); sets = search (needs, S .sets); waiting = search (needs, S .waiting) }, c .before .before .before .before .before .before .before .before .before .before .before .before .before .before .explore .ensures .0)
 
-slice-aggregate-summary : tie.Need-slice-aggregate-summary
-slice-aggregate-summary c = search needs
-
-summary-requires : tie.Need-summary-requires
-summary-requires c κs = let S = c .before .before .before .before .before .before .before .before .before .before .before .before .before .before .before .before .before .before .before .before .before .before .before .before .before .before .before .before .before .before .before .before .before .before .before .before .before .before .before .before .pre .1 .1 in (search (needs, S .marks), c .before .before .before .before .before .before .before .before .before .before .before .finish .ensures .2)
-
 same-length : tie.Need-same-length
 same-length c = search needs
 
@@ -40,7 +33,10 @@ same-length-4 : tie.Need-same-length-4
 same-length-4 c = search needs
 
 returns : tie.Need-returns
-returns c = (both-left _ _ _ _ (c .before .before .before .before .before .before .before .before .before .before .before .before .before .before .before .before .before .before .before .before .before .before .before .before .before .before .before .explore .ensures .1) (c .before .before .before .before .before .before .before .before .before .before .before .before .finish .ensures .0), both-summed _ _ _ _ (c .before .before .before .before .before .before .before .before .before .before .before .before .before .before .before .before .before .before .before .before .before .before .before .before .before .before .before .explore .ensures .1) _ (c .before .before .before .before .before .before .before .before .before .before .before .before .finish .ensures .1) (c .summary .ensures))
+returns c =
+    let e = c .before .before .before .before .before .before .before .before .before .before .before .before .before .before .before .before .before .before .before .before .before .before .before .before .explore .ensures .1 in
+    let f = c .before .before .before .before .before .before .before .before .before .finish .ensures in
+    (both-left _ _ _ _ e (f .0), both-summed _ _ _ _ e _ (f .1))
 
 pub complete-spec : {M : Type 1} → statement M
 complete-spec =
@@ -51,8 +47,6 @@ complete-spec =
     explore-requires
     slice-aggregate-finish
     finish-requires
-    slice-aggregate-summary
-    summary-requires
     same-length
     same-length-2
     same-length-3

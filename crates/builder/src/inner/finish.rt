@@ -9,7 +9,6 @@ ghost use Rattle.checker.specs.Records.{index};
 ghost use Rattle.words.specs.Words.{Member};
 ghost use Rattle.graph.specs.Graphs.{graph, Sized, Covers};
 ghost use Rattle.marker.specs.Spans.{remade};
-ghost use Rattle.marker.specs.Seen.{Holds};
 ghost use Rattle.builder.specs.Builds.{redirected, alone, lone, finished, startOf};
 ghost use Rattle.builder.specs.Answers.{summary};
 use crate::answers::Summary;
@@ -99,34 +98,6 @@ fn leave_alone(
     buffers::fill8(waiting, 0);
 }
 
-// The final contents of the buffers, where no pair waits, and the start. Only pairs that were seen are looked at; whoever has buffers as found
-// hands over a set with all pairs.
-pub fn finish(
-    old: Head,
-    new: Head,
-    marks: &mut [u8],
-    targets: &mut [u16],
-    sets: &mut [u64],
-    waiting: &mut [u8],
-    seen: &mut [u64],
-) -> usize
-    requires { ⌜ Sized (graph (now marks) (now targets) (now sets) (now waiting)) ⌝ }
-    requires { ⌜ Covers (now seen) (graph (now marks) (now targets) (now sets) (now waiting)) ⌝ }
-    ensures { λ r. ⌜ (graph (now (marks .exit)) (now (targets .exit)) (now (sets .exit)) (now (waiting .exit))
-        ≡ finished old new (graph (now (marks .entry)) (now (targets .entry)) (now (sets .entry)) (now (waiting .entry))))
-        × (r ≡ startOf old new (now (marks .entry)))
-        × Holds (now (seen .exit)) (now (marks .exit)) ⌝ }
-{
-    if is_alone(old, new, &*marks) {
-        leave_alone(new, marks, targets, sets, waiting);
-        return first_kept(new);
-    }
-    let first = first_pair(old, new);
-    redirect_all(&*marks, targets, &*seen);
-    rank(marks, &*targets, first, seen);
-    first
-}
-
 // One, if a mark is v.
 fn one_if(x: u8, v: u8) -> u8
     ensures { λ r. ⌜ ((x ≡ v → r ≡ 1) × ((x ≡ v → ⊥) → r ≡ 0) × (r ≤ 1)) ⌝ }
@@ -151,36 +122,39 @@ fn count_row(marks: &[u8], i: usize, v: u8) -> usize
     n as usize
 }
 
-// How many pairs with old place p have mark v, which is not 0: none, where none was seen.
-fn count_place(marks: &[u8], seen: &[u64], p: usize, v: u8) -> usize
-    requires { ⌜ (length (now marks) ≡ 4160) × Holds (now seen) (now marks) × (p < 64) × (0 < v) ⌝ }
-    ensures { λ r. ⌜ (count v (drop (64 * p) (now (marks .entry))) ≡ r + count v (drop (64 * p + 64) (now (marks .entry)))) × (r ≤ 64) ⌝ }
+// The final contents of the buffers, where no pair waits, and the start with the counts of marks 1, 2 and 3. Only pairs that were seen are looked
+// at; whoever has buffers as found hands over a set with all pairs.
+pub fn finish(
+    old: Head,
+    new: Head,
+    marks: &mut [u8],
+    targets: &mut [u16],
+    sets: &mut [u64],
+    waiting: &mut [u8],
+    seen: &mut [u64],
+) -> Summary
+    requires { ⌜ Sized (graph (now marks) (now targets) (now sets) (now waiting)) ⌝ }
+    requires { ⌜ Covers (now seen) (graph (now marks) (now targets) (now sets) (now waiting)) ⌝ }
+    ensures { λ r. ⌜ (graph (now (marks .exit)) (now (targets .exit)) (now (sets .exit)) (now (waiting .exit))
+        ≡ finished old new (graph (now (marks .entry)) (now (targets .entry)) (now (sets .entry)) (now (waiting .entry))))
+        × (r ≡ summary (startOf old new (now (marks .entry))) (now (marks .exit))) ⌝ }
 {
-    if seen[p] == 0 {
-        return 0;
+    if is_alone(old, new, &*marks) {
+        leave_alone(new, marks, targets, sets, waiting);
+        return Summary {
+            start: first_kept(new),
+            opened: 0,
+            kept: 1,
+            covered: 0,
+        };
     }
-    count_row(marks, 64 * p, v)
-}
-
-// The start, and the counts of marks 1, 2 and 3: of the kept nodes, and of the pairs.
-pub fn summary(start: usize, marks: &[u8], seen: &[u64]) -> Summary
-    requires { ⌜ (length (now marks) ≡ 4160) × Holds (now seen) (now marks) ⌝ }
-    ensures { λ r. ⌜ r ≡ summary start (now (marks .entry)) ⌝ }
-{
-    let mut opened = count_row(marks, 4096, 1);
-    let mut kept = count_row(marks, 4096, 2);
-    let mut covered = count_row(marks, 4096, 3);
-    let mut p = 0;
-    while p < 64 {
-        opened += count_place(marks, seen, p, 1);
-        kept += count_place(marks, seen, p, 2);
-        covered += count_place(marks, seen, p, 3);
-        p += 1;
-    }
+    let first = first_pair(old, new);
+    redirect_all(&*marks, targets, &*seen);
+    let counts = rank(marks, &*targets, first, seen);
     Summary {
-        start,
-        opened,
-        kept,
-        covered,
+        start: first,
+        opened: counts.opened,
+        kept: count_row(&*marks, 4096, 2),
+        covered: counts.covered,
     }
 }

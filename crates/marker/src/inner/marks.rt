@@ -1,12 +1,14 @@
 // Algorithm 1: the final marks, from those between turns and the final targets.
 ghost use mathlib.Core.Path.{_≡_};
 ghost use Prim.Native.Nat.{_+_, _*_, _≤_, _<_};
-ghost use lib.ListN.{length, getD};
+ghost use lib.ListN.{length, getD, drop};
+ghost use Rattle.base.specs.Walks.{count};
 ghost use Rattle.marker.specs.Spans.{remade, each};
 ghost use Rattle.marker.specs.Seen.{Holds, HoldsBeyond};
 ghost use Rattle.marker.specs.Marks.{plainAs, plainMarks, inQ, opening, Tried, Swept, allOpened};
 ghost use Rattle.marker.specs.Marks.{cover, coverFrom, allCovered, finalMarks};
 ghost use Rattle.marker.specs.Spreads.{Passed};
+ghost use Rattle.marker.specs.Counts.{Counted};
 use crate::inner::spread::spread;
 use align::inner::sets::without;
 use graph::inner::buffers;
@@ -211,63 +213,86 @@ fn open_all(marks: &mut [u8], targets: &[u16], seen: &[u64])
     open_rest(marks, targets, &mut rest);
 }
 
-// A target of an open pair that is beyond becomes covered.
-fn cover(marks: &mut [u8], n: u16)
-    ensures { λ _. ⌜ now (marks .exit) ≡ cover (now (marks .entry)) n ⌝ }
+// How many pairs are open, and how many became covered.
+pub struct Counts {
+    pub opened: usize,
+    pub covered: usize,
+}
+
+// A target of an open pair that is beyond becomes covered: how many that were.
+fn cover(marks: &mut [u8], n: u16) -> usize
+    ensures { λ r. ⌜ (now (marks .exit) ≡ cover (now (marks .entry)) n) × (count 3 (now (marks .exit)) ≡ r + count 3 (now (marks .entry))) × (r ≤ 1) ⌝ }
 {
     let at = n as usize;
-    if at < marks.len() {
-        if marks[at] == 4 {
-            marks[at] = 3;
-        }
+    if marks.len() <= at {
+        return 0;
     }
+    if marks[at] != 4 {
+        return 0;
+    }
+    marks[at] = 3;
+    1
 }
 
-// The targets of pair i, if it is open.
-fn cover_from(marks: &mut [u8], targets: &[u16], i: usize)
-    requires { ⌜ (length (now marks) ≡ 4160) × (length (now targets) ≡ 8192) × (i < 4096) ⌝ }
-    ensures { λ _. ⌜ now (marks .exit) ≡ coverFrom (now (targets .entry)) (now (marks .entry)) i ⌝ }
+// The same of both targets of pair i, which is open.
+fn cover_from(marks: &mut [u8], targets: &[u16], i: usize) -> usize
+    requires { ⌜ (length (now marks) ≡ 4160) × (length (now targets) ≡ 8192) × (i < 4096) × (getD (now marks) i 0 ≡ 1) ⌝ }
+    ensures { λ r. ⌜ (now (marks .exit) ≡ coverFrom (now (targets .entry)) (now (marks .entry)) i)
+        × (count 3 (now (marks .exit)) ≡ r + count 3 (now (marks .entry))) × (r ≤ 2) ⌝ }
 {
-    if marks[i] == 1 {
-        let at = 2 * i;
-        cover(marks, targets[at]);
-        cover(marks, targets[at + 1]);
-    }
+    let at = 2 * i;
+    cover(marks, targets[at]) + cover(marks, targets[at + 1])
 }
 
-// The same of the pairs of word p. Those not seen have no mark, and are not open.
-fn cover_word(marks: &mut [u8], targets: &[u16], seen: &[u64], p: usize)
+// The same of the open pairs of word p, which are counted too, from `so` on. Those not seen have no mark, and are not open.
+fn cover_word(marks: &mut [u8], targets: &[u16], seen: &[u64], p: usize, so: Counts) -> Counts
     requires { ⌜ (length (now marks) ≡ 4160) × (length (now targets) ≡ 8192) × (p < 64) × Holds (now seen) (now marks) ⌝ }
-    ensures { λ _. ⌜ now (marks .exit) ≡ each (coverFrom (now (targets .entry))) (64 * p) 64 (now (marks .entry)) ⌝ }
+    requires { ⌜ (so .opened ≤ 4160) × (so .covered ≤ 4160) ⌝ }
+    ensures { λ r. ⌜ (now (marks .exit) ≡ each (coverFrom (now (targets .entry))) (64 * p) 64 (now (marks .entry)))
+        × Counted (now (marks .entry)) (now (marks .exit)) (64 * p) (64 * p + 64) so r ⌝ }
 {
+    let mut opened = so.opened;
+    let mut covered = so.covered;
     let mut word = seen[p];
     while word != 0 {
         let q = members::lowest(word);
         word = without(word, q as u32);
-        cover_from(marks, targets, 64 * p + q);
+        if marks[64 * p + q] == 1 {
+            opened += 1;
+            covered += cover_from(marks, targets, 64 * p + q);
+        }
     }
+    Counts { opened, covered }
 }
 
-// The other targets of open pairs.
-fn cover_all(marks: &mut [u8], targets: &[u16], seen: &[u64])
+// The other targets of open pairs, and how many pairs are open and became covered.
+fn cover_all(marks: &mut [u8], targets: &[u16], seen: &[u64]) -> Counts
     requires { ⌜ (length (now marks) ≡ 4160) × (length (now targets) ≡ 8192) × Holds (now seen) (now marks) ⌝ }
-    ensures { λ _. ⌜ now (marks .exit) ≡ allCovered (now (targets .entry)) (now (marks .entry)) ⌝ }
+    ensures { λ r. ⌜ (now (marks .exit) ≡ allCovered (now (targets .entry)) (now (marks .entry)))
+        × (count 1 (now (marks .exit)) ≡ r .opened + count 1 (drop 4096 (now (marks .exit))))
+        × (count 3 (now (marks .exit)) ≡ r .covered + count 3 (now (marks .entry))) ⌝ }
 {
+    let mut c = Counts {
+        opened: 0,
+        covered: 0,
+    };
     let mut p = 0;
     while p < 64 {
-        cover_word(marks, targets, seen, p);
+        c = cover_word(marks, targets, seen, p, c);
         p += 1;
     }
+    c
 }
 
-// All of it, from the start pair n. The pairs seen have every pair with a mark, before and after.
-pub fn rank(marks: &mut [u8], targets: &[u16], n: usize, seen: &mut [u64])
+// All of it, from the start pair n, and the counts of marks 1 and 3. The pairs seen have every pair with a mark.
+pub fn rank(marks: &mut [u8], targets: &[u16], n: usize, seen: &mut [u64]) -> Counts
     requires { ⌜ (length (now marks) ≡ 4160) × (length (now targets) ≡ 8192) × (n < 4096) × Holds (now seen) (now marks) ⌝ }
-    ensures { λ _. ⌜ (now (marks .exit) ≡ finalMarks n (now (targets .entry)) (now (marks .entry))) × Holds (now (seen .exit)) (now (marks .exit)) ⌝ }
+    ensures { λ r. ⌜ (now (marks .exit) ≡ finalMarks n (now (targets .entry)) (now (marks .entry)))
+        × (r .opened ≡ count 1 (now (marks .exit))) × (r .covered ≡ count 3 (now (marks .exit))) ⌝ }
 {
     members::add(seen, n);
     plain(marks, &*seen);
     buffers::put8(marks, n, 1);
     open_all(marks, targets, &*seen);
-    cover_all(marks, targets, &*seen);
+    cover_all(marks, targets, &*seen)
 }

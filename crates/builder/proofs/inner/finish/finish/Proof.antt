@@ -1,6 +1,5 @@
 -- `builder::inner::finish::finish` meets its contract. Assumes nothing.
-use Rattle.builder.proofs.Finishing.{finish-alone, finish-joint, start-alone, start-joint, lone-holds}
-use native.Mathlib.Omega.{arith}
+use Rattle.builder.proofs.Finishing.{finish-alone, finish-joint, summed-alone, summed-joint}
 use borrow.Author.Needs.{needs}
 use Rattle.builder.proofs.inner.finish.finish.Statement.{statement}
 use Rattle.builder.proofs.inner.finish.finish.Tie as tie
@@ -27,7 +26,7 @@ same-length-4 : tie.Need-same-length-4
 same-length-4 c = search needs
 
 returns : tie.Need-returns
-returns c = (search finish-alone, search start-alone, search lone-holds)
+returns c = (search finish-alone, summed-alone _ _ _ (c .before .before .before .before .before .before .before .before .before .before .before .before .before .before .before .is-alone .ensures) (c .before .before .before .before .before .before .before .before .before .before .before .before .before .before .if1 .taken) (c .first-kept .ensures) (c .before .before .before .before .before .before .before .before .before .leave-alone .ensures))
 
 first-pair-requires : tie.Need-first-pair-requires
 first-pair-requires c κs = search needs
@@ -37,6 +36,9 @@ redirect-all-requires c κs = search needs
 
 rank-requires : tie.Need-rank-requires
 rank-requires c κs = search needs
+
+count-row-requires : tie.Need-count-row-requires
+count-row-requires c κs = search needs
 
 same-length-5 : tie.Need-same-length-5
 same-length-5 c = search needs
@@ -48,7 +50,7 @@ same-length-7 : tie.Need-same-length-7
 same-length-7 c = search needs
 
 returns-2 : tie.Need-returns-2
-returns-2 c = (search finish-joint, search start-joint, search needs)
+returns-2 c = (search finish-joint, summed-joint _ _ _ (c .before .before .before .before .before .before .before .before .before .before .before .before .before .before .before .before .before .before .is-alone .ensures) _ _ (c .before .before .before .before .before .before .before .before .before .before .before .before .before .before .before .before .before .if1 .left) (c .before .before .before .before .before .before .before .before .before .before .before .before .before .before .before .before .first-pair .ensures) (c .before .before .before .before .before .before .before .before .before .before .before .before .before .before .before .before .before .before .before .before .before .before .before .before .before .pre .0 .marks) (search needs) (c .before .before .before .before .before .before .rank .ensures) (c .count-row .ensures))
 
 pub finish-spec : {M : Type 1} → statement M
 finish-spec =
@@ -65,6 +67,7 @@ finish-spec =
     first-pair-requires
     redirect-all-requires
     rank-requires
+    count-row-requires
     same-length-5
     same-length-6
     same-length-7

@@ -1,11 +1,8 @@
 -- `marker::inner::marks::cover_from` meets its contract. Assumes nothing.
-use Rattle.marker.proofs.Ranking.{from-not, from-open}
+use Rattle.marker.proofs.Ranking.{covers-both}
 use borrow.Author.Needs.{needs}
 use Rattle.marker.proofs.inner.marks.cover_from.Statement.{statement}
 use Rattle.marker.proofs.inner.marks.cover_from.Tie as tie
-
-slice-read-if1 : tie.Need-slice-read-if1
-slice-read-if1 c = search needs
 
 mul-at : tie.Need-mul-at
 mul-at c = search needs
@@ -31,20 +28,19 @@ shared-slice-read-cover-2 c = search needs
 cover-requires-2 : tie.Need-cover-requires-2
 cover-requires-2 c κs = search needs
 
+add-result : tie.Need-add-result
+add-result c = search needs
+
 same-length : tie.Need-same-length
 same-length c = search needs
 
 returns : tie.Need-returns
-returns c = search from-open
-
-returns-2 : tie.Need-returns-2
-returns-2 c = search from-not
+returns c = covers-both _ _ _ (c .before .before .before .before .before .before .before .before .before .before .before .before .pre .3) (c .before .before .before .before .before .before .before .cover .ensures) (c .before .before .cover2 .ensures)
 
 pub cover-from-spec : {M : Type 1} → statement M
 cover-from-spec =
     tie.close
     (tie.spec
-    slice-read-if1
     mul-at
     mul-cover
     shared-slice-read-cover
@@ -53,6 +49,6 @@ cover-from-spec =
     mul-cover-2
     shared-slice-read-cover-2
     cover-requires-2
+    add-result
     same-length
-    returns
-    returns-2)
+    returns)

@@ -1,6 +1,6 @@
 -- `marker::inner::marks::rank` meets its contract. Assumes nothing.
 use Rattle.marker.proofs.Ranking.{rank-is}
-use Rattle.marker.proofs.Seen.{holds-added, holds-started, holds-covered}
+use Rattle.marker.proofs.Seen.{holds-added, holds-started}
 use borrow.Author.Needs.{needs}
 use Rattle.marker.proofs.inner.marks.rank.Statement.{statement}
 use Rattle.marker.proofs.inner.marks.rank.Tie as tie
@@ -27,7 +27,9 @@ same-length-2 : tie.Need-same-length-2
 same-length-2 c = search needs
 
 returns : tie.Need-returns
-returns c = (search rank-is, holds-covered (c .before .before .before .before .before .before .before .open-all .ensures .1) _ (c .before .before .cover-all .ensures))
+returns c =
+    let q = c .before .before .before .before .before .before .before .before .before .before .before .before .before .before .before .before .before .before .before .before .before .before .before .before .before .before .pre in
+    rank-is _ _ _ (q .0) (q .1) (q .2) (c .before .before .before .before .before .before .before .before .before .before .before .before .before .before .before .before .plain .ensures) (c .before .before .before .before .before .before .before .before .before .before .before .before .put8 .ensures) (c .before .before .before .before .before .before .before .open-all .ensures .0) (c .before .before .cover-all .ensures)
 
 pub rank-spec : {M : Type 1} → statement M
 rank-spec =
