@@ -7,7 +7,7 @@ use Prim.Native.Nat.{ℕ, zero, suc, _+_, _-_, _≤_, _<_}
 use native.Mathlib.Numerals.{add-one}
 use native.Mathlib.Omega.{arith}
 use native.Mathlib.Decide.{ℕ-discrete}
-use borrow.Author.Tests.{eq-eqb, ne-eqb}
+use borrow.Author.Tests.{eq-eqb, ne-eqb, eqb-true}
 use lib.Dec.{eqb}
 use lib.ListN.{length, getD, set, drop, length-drop, drop-of-length-le}
 use lib.Seq.{drop-cons, getD-drop}
@@ -76,6 +76,9 @@ module _ (v : ℕ) where
 -- x and y have the same open pairs
 abbrev pub Ones : List ℕ → List ℕ → Type 0
 Ones x y = (k : ℕ) → eqb (getD x k 0) 1 ≡ eqb (getD y k 0) 1
+
+pub ones-at : (x y : List ℕ) → Ones x y → (k : ℕ) → getD y k 0 ≡ 1 → getD x k 0 ≡ 1
+ones-at x y h k e = eqb-true (getD x k 0) 1 (h k ∙ eq-eqb (getD y k 0) 1 e)
 
 pub ones-drop : (x y : List ℕ) → Ones x y → length x ≡ length y → (i : ℕ) → count 1 (drop i x) ≡ count 1 (drop i y)
 ones-drop x y h l i = count-same 1 (drop i x) (drop i y) (simp length-drop (omega arith)) (λ k. rw (getD-drop, getD-drop) (h (i + k)))

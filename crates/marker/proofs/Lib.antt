@@ -5,6 +5,7 @@ pub mod Passes
 pub mod Seen
 pub mod Sweeps
 pub mod Counts
+pub mod Covering
 pub mod Ranking
 pub mod Least
 pub mod Orders

@@ -1,5 +1,5 @@
 -- `marker::inner::marks::cover` meets its contract. Assumes nothing.
-use Rattle.marker.proofs.Ranking.{covers-one, covers-none, covers-past}
+use Rattle.marker.proofs.Covering.{covers-one, covers-none, covers-past}
 use native.Mathlib.Omega.{arith}
 use borrow.Author.Needs.{needs}
 use Rattle.marker.proofs.inner.marks.cover.Statement.{statement}

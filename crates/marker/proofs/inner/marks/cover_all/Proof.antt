@@ -1,6 +1,6 @@
 -- `marker::inner::marks::cover_all` meets its contract. Assumes nothing.
 use Prim.Native.Nat.{_-_}
-use Rattle.marker.proofs.Ranking.{CoveringAll, all-start, all-few, all-more, all-end}
+use Rattle.marker.proofs.Covering.{CoveringAll, all-start, all-few, all-more, all-end}
 use borrow.Author.Needs.{needs}
 use native.Mathlib.Omega.{arith}
 use Rattle.marker.proofs.inner.marks.cover_all.Statement.{statement}

@@ -1,5 +1,5 @@
 -- `marker::inner::marks::cover_from` meets its contract. Assumes nothing.
-use Rattle.marker.proofs.Ranking.{covers-both}
+use Rattle.marker.proofs.Covering.{covers-both}
 use borrow.Author.Needs.{needs}
 use Rattle.marker.proofs.inner.marks.cover_from.Statement.{statement}
 use Rattle.marker.proofs.inner.marks.cover_from.Tie as tie

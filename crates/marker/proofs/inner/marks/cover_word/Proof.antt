@@ -1,6 +1,6 @@
 -- `marker::inner::marks::cover_word` meets its contract. Assumes nothing.
 use Rattle.words.proofs.Rests.{coming-less}
-use Rattle.marker.proofs.Ranking.{CoveringWord, word-start, word-few, word-open, word-shut, word-end}
+use Rattle.marker.proofs.Covering.{CoveringWord, word-start, word-few, word-open, word-shut, word-end}
 use borrow.Author.Needs.{needs}
 use native.Mathlib.Omega.{arith}
 use Rattle.marker.proofs.inner.marks.cover_word.Statement.{statement}
