@@ -245,10 +245,12 @@ module _ (old new : Head) (m : List ℕ) {b : Bool} (e : b ≡ alone old new m) 
   pub summed-alone : {k : ℕ} {m₁ t₁ s₁ w₁ : List ℕ} → b ≡ true → k ≡ startKept new → graph m₁ t₁ s₁ w₁ ≡ lone new
       → record { start = k; opened = 0; kept = 1; covered = 0 } ≡ summary (startOf old new m) m₁
   summed-alone {m₁ = m₁} q c g =
-      summary-is m₁ (start-alone old new m e q c) (lone-none new g 1 (omega arith) (λ z. omega arith)) (lone-one new g) (lone-none new g 3 (omega arith) (λ z. omega arith))
+      summary-is m₁ (start-alone old new m e q c)
+      (lone-none new g 1 (omega arith) (λ z. omega arith)) (lone-one new g) (lone-none new g 3 (omega arith) (λ z. omega arith))
 
   pub summed-joint : {k r : ℕ} {c : Counts} (t m₁ : List ℕ) → b ≡ false → k ≡ startPair old new → length m ≡ 4160 → length t ≡ 8192
-      → (m₁ ≡ finalMarks k t m) × (c .opened ≡ count 1 m₁) × (c .covered ≡ count 3 m₁) → (count 2 (drop 4096 m₁) ≡ r + count 2 (drop (4096 + 64) m₁)) × (r ≤ 64)
+      → (m₁ ≡ finalMarks k t m) × (c .opened ≡ count 1 m₁) × (c .covered ≡ count 3 m₁)
+      → (count 2 (drop 4096 m₁) ≡ r + count 2 (drop (4096 + 64) m₁)) × (r ≤ 64)
       → record { start = k; opened = c .opened; kept = r; covered = c .covered } ≡ summary (startOf old new m) m₁
   summed-joint {k} t m₁ q d lm lt f h =
       summary-is m₁ (start-joint old new m e q d) (f .1) (kept-is k t m lm lt (omega arith) (f .0) h) (f .2)

@@ -181,7 +181,8 @@ module _ {t w m₀ m : List ℕ} {p : ℕ} {c : Counts} (A : CoveringAll t w m�
   pub all-few : (c .opened ≤ 4160) × (c .covered ≤ 4160)
   all-few = let f = counted-few (A .counted) (A .long) (A .covering .long) in (omega (arith, f .0), omega (arith, f .1))
 
-  pub all-more : {m′ : List ℕ} {c′ : Counts} → length t ≡ 8192 → p < 64 → (m′ ≡ each (coverFrom t) (64 * p) 64 m) × Counted m m′ (64 * p) (64 * p + 64) c c′ → CoveringAll t w m₀ m′ (p + 1) c′
+  pub all-more : {m′ : List ℕ} {c′ : Counts} → length t ≡ 8192 → p < 64
+      → (m′ ≡ each (coverFrom t) (64 * p) 64 m) × Counted m m′ (64 * p) (64 * p + 64) c c′ → CoveringAll t w m₀ m′ (p + 1) c′
   all-more lt l e =
       let z : 64 * (p + 1) ≡ 64 * p + 64 = omega arith in
       record {

@@ -110,14 +110,16 @@ module _ (n : ℕ) (t m : List ℕ) (lm : length m ≡ 4160) (lt : length t ≡ 
     -- of the kept nodes none is open
     opened-is : (r : ℕ) → count 1 x ≡ r + count 1 (drop 4096 x) → r ≡ count 1 x
     opened-is r c =
-        omega (arith, count-none 1 x {i = 4096} (omega (arith, ranks .long)) (λ k a d z. omega (arith, rank-pair (set m n 1) x ranks k (omega arith) (λ q. omega arith))))
+        let z = count-none 1 x {i = 4096} (omega (arith, ranks .long)) (λ k a d f. omega (arith, rank-pair (set m n 1) x ranks k (omega arith) (λ q. omega arith))) in
+        omega arith
 
     -- only kept nodes are kept
     pub kept-is : {r : ℕ} → (count 2 (drop 4096 x) ≡ r + count 2 (drop (4096 + 64) x)) × (r ≤ 64) → r ≡ count 2 x
     unfolding count
     kept-is c =
         let z : count 2 (drop 4160 x) ≡ 0 = ap (count 2) (drop-of-length-le x {i = 4160} (omega (arith, ranks .long))) in
-        omega (arith, c .0, z, count-gap 2 x {i = 0} 4096 (omega arith) (omega (arith, ranks .long)) (λ k a d q. omega (arith, rank-node (set m n 1) x ranks k q)))
+        let g = count-gap 2 x {i = 0} 4096 (omega arith) (omega (arith, ranks .long)) (λ k a d q. omega (arith, rank-node (set m n 1) x ranks k q)) in
+        omega (arith, c .0)
 
   -- before covering none was covered
   covered-is : {x : List ℕ} (y r : ℕ) → x ≡ allOpened t (set (plainMarks m) n 1) → y ≡ r + count 3 x → r ≡ y

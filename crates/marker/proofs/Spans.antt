@@ -39,7 +39,8 @@ module _ (a b : ℕ) (f : ℕ → ℕ) (i x : ℕ) where
   among-after q = dite (decLt i a) among-before (λ p. among-past (omega arith) q)
 
 -- a pass goes on past elements that stay as they are
-pub passing-gap : (g : ℕ → ℕ → ℕ) {d₀ d : List ℕ} {i j : ℕ} → Passing g d₀ d i → i ≤ j → j ≤ length d → ((k : ℕ) → i ≤ k → k < j → g k (getD d₀ k 0) ≡ getD d₀ k 0) → Passing g d₀ d j
+pub passing-gap : (g : ℕ → ℕ → ℕ) {d₀ d : List ℕ} {i j : ℕ} → Passing g d₀ d i → i ≤ j → j ≤ length d
+    → ((k : ℕ) → i ≤ k → k < j → g k (getD d₀ k 0) ≡ getD d₀ k 0) → Passing g d₀ d j
 passing-gap g {i = i} P a b h =
     record {
       long = P .long;
@@ -75,7 +76,8 @@ module _ (a b : ℕ) (f : ℕ → ℕ) where
       }
 
   -- elements that stay as they are need no store
-  pub remaking-gap : {d₀ d : List ℕ} {i j : ℕ} → Remaking a b f d₀ d i → i ≤ j → j ≤ b → ((k : ℕ) → i ≤ k → k < j → f (getD d₀ k 0) ≡ getD d₀ k 0) → Remaking a b f d₀ d j
+  pub remaking-gap : {d₀ d : List ℕ} {i j : ℕ} → Remaking a b f d₀ d i → i ≤ j → j ≤ b
+      → ((k : ℕ) → i ≤ k → k < j → f (getD d₀ k 0) ≡ getD d₀ k 0) → Remaking a b f d₀ d j
   remaking-gap {d₀ = d₀} R p q h =
       record {
         least = omega (arith, R .least);
