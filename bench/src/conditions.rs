@@ -1,22 +1,24 @@
-//! The table of building and checking: the proved code, plain Rust over the same buffers (and once more with lists on the heap beside
-//! them), and Rust over std's collections, taking turns on the same charts.
+//! The table of building and checking: the proved code, plain Rust over the same buffers (in three ways), and Rust over std's collections,
+//! taking turns on the same charts. All of them build into the same memory, as its place in the caches is worth several per cent.
 
 use crate::plain_build;
 use picker_tests::checker::Record;
+use picker_tests::conditions::{build, check, Buffers};
 use picker_tests::{algorithms, checker, drawn, Chart, Random};
 use std::hint::black_box;
 use std::time::Instant;
 
 /// One of those who take turns.
-type Contender<'a> = Box<dyn FnMut() + 'a>;
+type Contender<'a> = Box<dyn FnMut(&mut Buffers) + 'a>;
 
 /// Nanoseconds of one call of each, and the ratio of each to the first: medians over rounds in which all take a turn.
 fn turns(mut all: Vec<Contender>) -> Vec<(f64, f64)> {
     const TURN: f64 = 200_000.0;
-    let once = |work: &mut Contender, calls: usize| {
+    let buffers = &mut lent();
+    let mut once = |work: &mut Contender, calls: usize| {
         let began = Instant::now();
         for _ in 0..calls {
-            work();
+            work(buffers);
         }
         began.elapsed().as_nanos() as f64 / calls as f64
     };
@@ -40,84 +42,64 @@ fn turns(mut all: Vec<Contender>) -> Vec<(f64, f64)> {
     (0..all.len()).map(|i| (median(&|round| round[i]), median(&|round| round[0] / round[i]))).collect()
 }
 
-/// The buffers of one contender.
-struct Lent {
-    marks: Vec<u8>,
-    targets: Vec<u16>,
-    sets: Vec<u64>,
-    waiting: Vec<u8>,
+fn lent() -> Buffers {
+    Buffers { marks: vec![0xA5; 4160], targets: vec![0xA5A5; 8192], sets: vec![0xA5A5; 4096], waiting: vec![0xA5; 4096] }
 }
 
-fn lent() -> Lent {
-    Lent { marks: vec![0xA5; 4160], targets: vec![0xA5A5; 8192], sets: vec![0xA5A5; 4096], waiting: vec![0xA5; 4096] }
+/// The proved build, in the form of the plain ones.
+fn ours(old: &Chart, new: &Chart, buffers: &mut Buffers) -> Option<[u64; 4]> {
+    build(old, new, buffers).ok()
 }
 
-mod ours {
-    use super::*;
-    use picker_tests::conditions::{build, check, Buffers};
+fn over_the_same_buffers(old: &Chart, new: &Chart, b: &mut Buffers) -> Option<[u64; 4]> {
+    plain_build::build::<true>(old, new, &mut b.marks, &mut b.targets, &mut b.sets, &mut b.waiting).ok().map(|answer| answer.map(u64::from))
+}
 
-    fn buffers(lent: Lent) -> Buffers {
-        Buffers { marks: lent.marks, targets: lent.targets, sets: lent.sets, waiting: lent.waiting }
-    }
+fn with_sets(old: &Chart, new: &Chart, b: &mut Buffers) -> Option<[u64; 4]> {
+    plain_build::build::<false>(old, new, &mut b.marks, &mut b.targets, &mut b.sets, &mut b.waiting).ok().map(|answer| answer.map(u64::from))
+}
 
-    pub fn builder<'a>(pairs: &'a [(Chart, Chart)]) -> Option<Contender<'a>> {
-        for (old, new) in pairs {
-            let (mut buffers, expected) = (buffers(lent()), algorithms::build(old, new));
-            assert_eq!(build(old, new, &mut buffers), Ok([expected.start, expected.open, expected.kept, expected.covered].map(u64::from)));
-            assert!(buffers.marks == expected.marks && buffers.targets == expected.targets && buffers.sets == expected.sets);
-        }
-        let mut buffers = buffers(lent());
-        Some(Box::new(move || {
-            for (old, new) in pairs {
-                black_box(build(black_box(old), black_box(new), &mut buffers)).ok();
-            }
-        }))
-    }
-
-    pub fn checker<'a>(pairs: &'a [(Chart, Chart)], records: &'a [Record]) -> Option<Contender<'a>> {
-        Some(Box::new(move || {
-            for ((old, new), record) in pairs.iter().zip(records) {
-                assert!(black_box(check(black_box(old), black_box(new), record)).is_ok());
-            }
-        }))
-    }
+fn with_lists(old: &Chart, new: &Chart, b: &mut Buffers) -> Option<[u64; 4]> {
+    plain_build::build_with_lists(old, new, &mut b.marks, &mut b.targets, &mut b.sets, &mut b.waiting).ok().map(|answer| answer.map(u64::from))
 }
 
 /// Two lines: building and checking a list of pairs, per pair.
 fn lines(what: &str, pairs: &[(Chart, Chart)]) {
     let built: Vec<_> = pairs.iter().map(|(old, new)| algorithms::build(old, new)).collect();
     let nodes = built.iter().map(|b| b.marks.iter().filter(|m| **m != 0).count()).sum::<usize>() / pairs.len();
-    for ((old, new), expected) in pairs.iter().zip(&built) {
-        let mut lent = lent();
-        let answer = plain_build::build(old, new, &mut lent.marks, &mut lent.targets, &mut lent.sets, &mut lent.waiting);
-        assert_eq!(answer, Ok([expected.start, expected.open, expected.kept, expected.covered]));
-        assert!(lent.marks == expected.marks && lent.targets == expected.targets && lent.sets == expected.sets && lent.waiting == expected.waiting);
-    }
-    let records: Vec<Record> = built.into_iter().map(Record::from).collect();
 
-    let mut all: Vec<Contender> = ours::builder(pairs).into_iter().collect();
-    for build in [plain_build::build, plain_build::build_with_lists] {
-        let mut plain = lent();
-        all.push(Box::new(move || {
+    let mut all: Vec<Contender> = Vec::new();
+    for build in [ours, over_the_same_buffers, with_sets, with_lists] {
+        for ((old, new), expected) in pairs.iter().zip(&built) {
+            let mut b = lent();
+            assert_eq!(build(old, new, &mut b), Some([expected.start, expected.open, expected.kept, expected.covered].map(u64::from)));
+            assert!(b.marks == expected.marks && b.targets == expected.targets && b.sets == expected.sets && b.waiting == expected.waiting);
+        }
+        all.push(Box::new(move |buffers| {
             for (old, new) in pairs {
-                black_box(build(black_box(old), black_box(new), &mut plain.marks, &mut plain.targets, &mut plain.sets, &mut plain.waiting)).ok();
+                black_box(build(black_box(old), black_box(new), buffers));
             }
         }));
     }
-    all.push(Box::new(|| {
+    all.push(Box::new(|_| {
         for (old, new) in pairs {
             black_box(algorithms::build(black_box(old), black_box(new)));
         }
     }));
     line(&format!("build {what}"), nodes, pairs.len(), turns(all));
 
-    let mut all: Vec<Contender> = ours::checker(pairs, &records).into_iter().collect();
-    all.push(Box::new(|| {
+    let records: Vec<Record> = built.into_iter().map(Record::from).collect();
+    let mut all: Vec<Contender> = vec![Box::new(|_| {
+        for ((old, new), record) in pairs.iter().zip(&records) {
+            assert!(black_box(check(black_box(old), black_box(new), record)).is_ok());
+        }
+    })];
+    all.push(Box::new(|_| {
         for ((old, new), r) in pairs.iter().zip(&records) {
             assert!(black_box(plain_build::check(black_box(old), black_box(new), r.start, &r.marks, &r.targets, &r.sets)).is_ok());
         }
     }));
-    all.push(Box::new(|| {
+    all.push(Box::new(|_| {
         for ((old, new), r) in pairs.iter().zip(&records) {
             assert!(black_box(checker::check(black_box(old), black_box(new), r)).is_ok());
         }
@@ -125,19 +107,20 @@ fn lines(what: &str, pairs: &[(Chart, Chart)]) {
     line(&format!("check {what}"), nodes, pairs.len(), turns(all));
 }
 
-/// Proved, plain, over std's collections; a build also with lists on the heap, before the last.
+/// Times of the proved code, the plain one and the one over std's collections, then the ratios to all who took turns; of a check there is no
+/// other plain one.
 fn line(what: &str, nodes: usize, pairs: usize, measured: Vec<(f64, f64)>) {
     let micros = |i: usize| format!("{:.2} µs", measured[i].0 / 1000.0 / pairs as f64);
     let last = measured.len() - 1;
-    let lists = if last == 3 { (micros(2), format!("{:.2}", measured[2].1)) } else { ("".into(), "".into()) };
+    let ratio = |i: usize| if 1 < i && i < 4 && last < 4 { String::new() } else { format!("{:.2}", measured[i].1) };
     println!(
-        "| {what} | {nodes} | {} | {} | {} | {} | {:.2} | {} | {:.3} |",
+        "| {what} | {nodes} | {} | {} | {} | {} | {} | {} | {:.3} |",
         micros(0),
         micros(1),
-        lists.0,
         micros(last),
-        measured[1].1,
-        lists.1,
+        ratio(1),
+        ratio(2),
+        ratio(3),
         measured[last].1
     );
 }
@@ -145,9 +128,9 @@ fn line(what: &str, nodes: usize, pairs: usize, measured: Vec<(f64, f64)>) {
 pub fn table() {
     println!();
     let random = &mut Random::new(20281);
-    println!("Times are of one pair of charts; nodes are those of its record, on average. Ratios: ours to plain Rust over the same buffers and no");
-    println!("other memory but a few words, to plain Rust with lists on the heap beside them, and to Rust over std's collections.\n");
-    println!("| Work | Nodes | Proved | Plain Rust | With lists | Over std's collections | Ratio to plain | Ratio with lists | Ratio to std |");
+    println!("Times are of one pair of charts; nodes are those of its record, on average. Ratios: ours to plain Rust over the same buffers and a few");
+    println!("words, to the same with sets in place of marks and waiting between turns, to that with lists on the heap, and to std's collections.\n");
+    println!("| Work | Nodes | Proved | Plain Rust | Over std's collections | To plain | To plain with sets | To plain with lists | To std |");
     println!("|---|---|---|---|---|---|---|---|---|");
     let mut renumbered = Vec::new();
     for places in [8, 16, 32, 64] {

@@ -1,7 +1,9 @@
 //! The builder and the checker in plain Rust, over the same buffers, written for speed and not for proof: rows found by an index of places,
-//! pairs that are there and pairs that wait in bit sets of a word for each old place. Open marks are propagated in two ways: by passes over the
-//! pairs that are not open yet, which needs no memory but the lent buffers and those words, as the proved code; and over lists of predecessors,
-//! which takes 8 KiB more on the stack and two lists on the heap.
+//! pairs that are there and pairs that wait in bit sets of a word for each old place. There are three builders:
+//! - over the same buffers: between turns marks and waiting say who is in the graph, kept and waiting, as those of the proved code do;
+//! - with sets instead: marks and waiting are left alone until the end, and only the bit sets know;
+//! - with lists: the same, and open marks are propagated over lists of predecessors, which takes 8 KiB more on the stack and two lists on the
+//!   heap. The two others pass over the pairs that are not open yet, which needs no memory but the lent buffers and those words.
 
 use crate::plain::judge;
 use picker_tests::Chart;
@@ -212,7 +214,15 @@ struct Explored {
     alone: bool,
 }
 
-fn explore(old: &Chart, new: &Chart, marks: &mut [u8], targets: &mut [u16], sets: &mut [u64], waiting: &mut [u8]) -> Result<Explored, Refusal> {
+/// Algorithm 2. `KEPT_UP`: whether marks and waiting are kept up between turns.
+fn explore<const KEPT_UP: bool>(
+    old: &Chart,
+    new: &Chart,
+    marks: &mut [u8],
+    targets: &mut [u16],
+    sets: &mut [u64],
+    waiting: &mut [u8],
+) -> Result<Explored, Refusal> {
     if marks.len() != 4160 || targets.len() != 8192 || sets.len() != 4096 || waiting.len() != 4096 {
         return Err((21, 0, 0));
     }
@@ -228,6 +238,10 @@ fn explore(old: &Chart, new: &Chart, marks: &mut [u8], targets: &mut [u16], sets
     let (mut some, mut kept) = (1u64, 0u64);
     present[0] = 1;
     waits[0] = 1;
+    if KEPT_UP {
+        marks[0] = 1;
+        waiting[0] = 1;
+    }
     while some != 0 {
         let p = some.trailing_zeros() as usize;
         let q = waits[p].trailing_zeros() as usize;
@@ -236,6 +250,9 @@ fn explore(old: &Chart, new: &Chart, marks: &mut [u8], targets: &mut [u16], sets
             some &= !(1 << p);
         }
         let pair = 64 * p + q;
+        if KEPT_UP {
+            waiting[pair] = 0;
+        }
         let mut set = sets[pair];
         for (which, row) in new.rows(q).enumerate() {
             let q2 = row[1] as usize;
@@ -246,6 +263,9 @@ fn explore(old: &Chart, new: &Chart, marks: &mut [u8], targets: &mut [u16], sets
                 None => {
                     if kept >> q2 & 1 == 0 {
                         kept |= 1 << q2;
+                        if KEPT_UP {
+                            marks[4096 + q2] = 1;
+                        }
                         for p in 0..64 {
                             if present[p] >> q2 & 1 == 1 {
                                 present[p] &= !(1 << q2);
@@ -254,6 +274,10 @@ fn explore(old: &Chart, new: &Chart, marks: &mut [u8], targets: &mut [u16], sets
                                     some &= !(1 << p);
                                 }
                                 let gone = 64 * p + q2;
+                                if KEPT_UP {
+                                    marks[gone] = 0;
+                                    waiting[gone] = 0;
+                                }
                                 sets[gone] = 0;
                                 targets[2 * gone..2 * gone + 2].fill(65535);
                             }
@@ -268,8 +292,14 @@ fn explore(old: &Chart, new: &Chart, marks: &mut [u8], targets: &mut [u16], sets
                     if p2 != old.alarm && (is_new || joined & !sets[to] != 0) {
                         waits[p2] |= 1 << q2;
                         some |= 1 << p2;
+                        if KEPT_UP {
+                            waiting[to] = 1;
+                        }
                     }
                     present[p2] |= 1 << q2;
+                    if KEPT_UP {
+                        marks[to] = 1;
+                    }
                     sets[to] |= joined;
                     to
                 }
@@ -287,10 +317,12 @@ fn leave_alone(present: &[u64; 64], marks: &mut [u8], targets: &mut [u16], sets:
     for p in 0..64 {
         for q in bits(present[p]) {
             let pair = 64 * p + q;
+            marks[pair] = 0;
             sets[pair] = 0;
             targets[2 * pair..2 * pair + 2].fill(65535);
         }
     }
+    marks[4096..].fill(0);
     marks[4096] = 2;
     [4096, 0, 1, 0]
 }
@@ -307,8 +339,15 @@ fn opens(marks: &mut [u8], targets: &[u16], pair: usize) -> bool {
 }
 
 /// Start and counts of marks 1, 2 and 3. Nothing but the buffers and a few words.
-pub fn build(old: &Chart, new: &Chart, marks: &mut [u8], targets: &mut [u16], sets: &mut [u64], waiting: &mut [u8]) -> Result<[u32; 4], Refusal> {
-    let Explored { present, kept, alone } = explore(old, new, marks, targets, sets, waiting)?;
+pub fn build<const KEPT_UP: bool>(
+    old: &Chart,
+    new: &Chart,
+    marks: &mut [u8],
+    targets: &mut [u16],
+    sets: &mut [u64],
+    waiting: &mut [u8],
+) -> Result<[u32; 4], Refusal> {
+    let Explored { present, kept, alone } = explore::<KEPT_UP>(old, new, marks, targets, sets, waiting)?;
     if alone {
         return Ok(leave_alone(&present, marks, targets, sets));
     }
@@ -372,7 +411,7 @@ pub fn build(old: &Chart, new: &Chart, marks: &mut [u8], targets: &mut [u16], se
     Ok([0, opened, kept.count_ones(), covered])
 }
 
-/// The same, with lists of predecessors.
+/// The same with lists of predecessors, marks and waiting not kept up.
 pub fn build_with_lists(
     old: &Chart,
     new: &Chart,
@@ -381,7 +420,7 @@ pub fn build_with_lists(
     sets: &mut [u64],
     waiting: &mut [u8],
 ) -> Result<[u32; 4], Refusal> {
-    let Explored { present, kept, alone } = explore(old, new, marks, targets, sets, waiting)?;
+    let Explored { present, kept, alone } = explore::<false>(old, new, marks, targets, sets, waiting)?;
     if alone {
         return Ok(leave_alone(&present, marks, targets, sets));
     }
@@ -547,7 +586,7 @@ mod tests {
             for _ in 0..cases(if sort == Sort::Wide { 4 } else { 200 }) {
                 let (old, new) = drawn::pair(&mut random, sort);
                 let expected = algorithms::build(&old, &new);
-                for build in [build, build_with_lists] {
+                for build in [build::<true>, build::<false>, build_with_lists] {
                     let (mut marks, mut targets, mut sets, mut waiting) = (vec![9; 4160], vec![9; 8192], vec![9; 4096], vec![9; 4096]);
                     let answer = build(&old, &new, &mut marks, &mut targets, &mut sets, &mut waiting);
                     assert_eq!(answer, Ok([expected.start, expected.open, expected.kept, expected.covered]), "{old:?} {new:?}");

@@ -25,7 +25,7 @@ pub fn plain_program() {
         }
     }
     let (mut marks, mut targets, mut sets, mut waiting) = (vec![0; 4160], vec![0; 8192], vec![0; 4096], vec![0; 4096]);
-    let [start, open, kept, covered] = plain_build::build(&charts[0], &charts[1], &mut marks, &mut targets, &mut sets, &mut waiting).unwrap();
+    let [start, open, kept, covered] = plain_build::build::<true>(&charts[0], &charts[1], &mut marks, &mut targets, &mut sets, &mut waiting).unwrap();
     let records = algorithms::printed(&charts[1], start, [open, kept, covered], &marks, &targets);
     std::io::stdout().write_all((records.join("\r\n") + "\r\n").as_bytes()).unwrap();
 }
