@@ -3,7 +3,7 @@ use mathlib.Core.Path.{_≡_, refl, ap, _∙_}
 use mathlib.Core.Bool.{Bool, true, false}
 use mathlib.Core.Logic.{_↔_, dite}
 use mathlib.Core.List.{List}
-use Prim.Native.Nat.{ℕ, _/_, _%_, _^_, _≤_, _<_}
+use Prim.Native.Nat.{ℕ, _+_, _*_, _/_, _%_, _^_, _≤_, _<_}
 use native.Mathlib.Decide.{ℕ-discrete}
 use native.Mathlib.Omega.{arith}
 use borrow.Author.Tests.{eqb-true}
@@ -110,16 +110,23 @@ module _ (w : List ℕ) (n : ℕ) where
     unlisted-other i c f m = (removed-other w n (omega arith) b i c f (m .0), rw (else-removed w n 64 (λ e. omega arith)) (m .1))
 
 -- ---- whether a pair is a member, as a test
-pub has-is : (w : List ℕ) (n : ℕ) {x : ℕ} {b : Bool} → getD w (n / 64) 0 < 2 ^ 64 → x ≡ alone (n % 64) → b ≡ meets (getD w (n / 64) 0) x
-    → (b ≡ true) ↔ Member w n
-has-is w n l a e = rw (e, a) (there, go (meets (getD w (n / 64) 0) (alone (n % 64))) refl)
-  where
-    there : meets (getD w (n / 64) 0) (alone (n % 64)) ≡ true → Member w n
-    there t = let s = meet-some (getD w (n / 64) 0) (alone (n % 64)) l t in rw (alone-only (s .0) (n % 64) (s .3)) at (s .2)
+module _ (y q : ℕ) {x : ℕ} {b : Bool} (l : y < 2 ^ 64) (a : x ≡ alone q) (e : b ≡ meets y x) where
+  bit-is : (b ≡ true) ↔ (bit y q ≡ 1)
+  bit-is = rw (e, a) (there, go (meets y (alone q)) refl)
+    where
+      there : meets y (alone q) ≡ true → bit y q ≡ 1
+      there t = let s = meet-some y (alone q) l t in rw (alone-only (s .0) q (s .3)) at (s .2)
 
-    go : (b : Bool) → meets (getD w (n / 64) 0) (alone (n % 64)) ≡ b → Member w n → b ≡ true
-    go true f m = refl
-    go false f m = absurd (meet-none (getD w (n / 64) 0) (alone (n % 64)) (n % 64) f m (alone-here (n % 64)))
+      go : (b : Bool) → meets y (alone q) ≡ b → bit y q ≡ 1 → b ≡ true
+      go true f m = refl
+      go false f m = absurd (meet-none y (alone q) q f m (alone-here q))
+
+pub has-is : (w : List ℕ) (p q : ℕ) {x : ℕ} {b : Bool} → q < 64 → getD w p 0 < 2 ^ 64 → x ≡ alone q → b ≡ meets (getD w p 0) x
+    → (b ≡ true) ↔ Member w (64 * p + q)
+has-is w p q k l a e =
+    let i : (64 * p + q) / 64 ≡ p = omega arith in
+    let j : (64 * p + q) % 64 ≡ q = omega arith in
+    rw (i, j) (bit-is (getD w p 0) q l a e)
 
 -- ---- a bit that its word lacks is no member
 pub not-at : (w : List ℕ) (p i : ℕ) → i / 64 ≡ p → bit (getD w p 0) (i % 64) ≡ 0 → Member w i → ⊥

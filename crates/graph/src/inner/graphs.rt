@@ -57,10 +57,10 @@ pub fn keep(
     ensures { λ _. ⌜ graph (now (marks .exit)) (now (targets .exit)) (now (sets .exit)) (now (waiting .exit))
         ≡ keep (graph (now (marks .entry)) (now (targets .entry)) (now (sets .entry)) (now (waiting .entry))) q ⌝ }
 {
-    for p in 0u32..64 {
-        let n = pair(OldPlace(p), q);
-        if members::has(seen, n) {
-            leave(marks, targets, sets, waiting, n);
+    let k = pair(OldPlace(0), q);
+    for p in 0..64 {
+        if members::has(seen, p, k) {
+            leave(marks, targets, sets, waiting, 64 * p + k);
         }
     }
     buffers::put8(marks, kept(q), 1);

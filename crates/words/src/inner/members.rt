@@ -2,7 +2,7 @@
 ghost use mathlib.Core.Path.{_≡_};
 ghost use mathlib.Core.Bool.{true};
 ghost use mathlib.Core.Logic.{_↔_};
-ghost use Prim.Native.Nat.{_≤_, _<_};
+ghost use Prim.Native.Nat.{_+_, _*_, _≤_, _<_};
 ghost use lib.ListN.{length};
 ghost use Rattle.words.specs.Words.{Member, added, removed, listed, LowestFrom, HighestBefore};
 use align::inner::sets::alone;
@@ -26,13 +26,12 @@ pub fn remove(words: &mut [u64], n: usize)
     words[p] = without(words[p], (n % 64) as u32);
 }
 
-// Whether pair n is a member. Its mask is that of all pairs with its new place, so a loop over these makes it once.
-pub fn has(words: &[u64], n: usize) -> bool
-    requires { ⌜ (64 ≤ length (now words)) × (n < 4096) ⌝ }
-    ensures { λ r. ⌜ (r ≡ true) ↔ Member (now (words .entry)) n ⌝ }
+// Whether the pair of bit q of word p is a member. A loop over the words makes the mask of q once.
+pub fn has(words: &[u64], p: usize, q: usize) -> bool
+    requires { ⌜ (64 ≤ length (now words)) × (p < 64) × (q < 64) ⌝ }
+    ensures { λ r. ⌜ (r ≡ true) ↔ Member (now (words .entry)) (64 * p + q) ⌝ }
 {
-    let p = n / 64;
-    meets(words[p], alone((n % 64) as u32))
+    meets(words[p], alone(q as u32))
 }
 
 // Adds pair n to a list of 65 words: also the last, of words that may have a bit, gains one.

@@ -4,23 +4,30 @@ use Prim.Native.Nat.{_-_}
 use Rattle.graph.specs.Graphs.{graph}
 use Rattle.graph.proofs.Keeping.{Going, going-none, going-same, going-seen, going-unseen, keep-is}
 use borrow.Author.Needs.{needs}
+use native.Mathlib.Omega.{arith}
 use Rattle.graph.proofs.inner.graphs.keep.Statement.{statement}
 use Rattle.graph.proofs.inner.graphs.keep.Tie as tie
 
 abbrev Inv-loop : tie.InvT-loop
-Inv-loop marks₀ targets₀ sets₀ waiting₀ seen q p₀ marks targets sets waiting p = Going q (graph marks₀ targets₀ sets₀ waiting₀) (graph marks targets sets waiting) p
+Inv-loop marks₀ targets₀ sets₀ waiting₀ seen q k p₀ marks targets sets waiting p = Going q (graph marks₀ targets₀ sets₀ waiting₀) (graph marks targets sets waiting) p
 
 abbrev μ-loop : tie.MeasureT-loop
-μ-loop marks₀ targets₀ sets₀ waiting₀ seen q p₀ marks targets sets waiting p = 64 - p
-
-loop-holds : tie.Need-loop-holds Inv-loop μ-loop
-loop-holds c = going-none _ _
+μ-loop marks₀ targets₀ sets₀ waiting₀ seen q k p₀ marks targets sets waiting p = 64 - p
 
 pair-requires : tie.Need-pair-requires Inv-loop μ-loop
 pair-requires c κs = search needs
 
+loop-holds : tie.Need-loop-holds Inv-loop μ-loop
+loop-holds c = going-none _ _
+
 has-requires : tie.Need-has-requires Inv-loop μ-loop
 has-requires c κs = search needs
+
+mul-leave : tie.Need-mul-leave Inv-loop μ-loop
+mul-leave c = search needs
+
+add-leave : tie.Need-add-leave Inv-loop μ-loop
+add-leave c = search needs
 
 leave-requires : tie.Need-leave-requires Inv-loop μ-loop
 leave-requires c κs = search needs
@@ -33,11 +40,11 @@ loop-less c = search needs
 
 loop-again : tie.Need-loop-again Inv-loop μ-loop
 loop-again c =
-    let I = c .before .before .before .before .loop .inv in
+    let I = c .before .before .before .loop .inv in
     let P = c .before .before .before .before .before .before .before .before .before .before .pre in
-    let e = c .before .before .pair .ensures in
-    ⊎-elim (λ w. going-same (going-seen I (P .1 .0) (P .0) (search needs) e (w .5 .ensures)) (w .14) (w .15) (w .16) (w .17))
-    (λ w. going-same (going-unseen I (P .1 .0) (P .0) (search needs) e (P .1 .1) (c .before .has .ensures) (w .0 .left)) (w .1) (w .2) (w .3) (w .4))
+    let k = c .before .before .before .before .pair .ensures in
+    ⊎-elim (λ w. going-same (going-seen I (P .1 .0) (P .0) (search needs) (omega (arith, k)) (w .5 .ensures)) (w .14) (w .15) (w .16) (w .17))
+    (λ w. going-same (going-unseen I (P .1 .0) (P .0) (search needs) (omega (arith, k)) (P .1 .1) (c .before .has .ensures) (w .0 .left)) (w .1) (w .2) (w .3) (w .4))
     (c .if1 .came)
 
 kept-requires : tie.Need-kept-requires Inv-loop μ-loop
@@ -67,9 +74,11 @@ keep-spec =
     (tie.spec
     Inv-loop
     μ-loop
-    loop-holds
     pair-requires
+    loop-holds
     has-requires
+    mul-leave
+    add-leave
     leave-requires
     add-p
     loop-less

@@ -1,5 +1,4 @@
 -- `words::inner::members::has` meets its contract. Assumes nothing.
-use Prim.Native.Nat.{_/_}
 use native.Mathlib.Omega.{arith}
 use Rattle.words.proofs.Words.{has-is}
 use borrow.Author.Needs.{needs}
@@ -23,17 +22,8 @@ meets-requires c κs = search needs
 
 returns : tie.Need-returns
 returns c =
-    let w = c .before .before .before .before .args .words .now in
-    let n = c .before .before .before .before .args .n in
-    has-is w n (omega (arith, c .before .before .shared-slice-known2 .given (n / 64))) (c .before .alone .ensures) (c .meets .ensures)
+    let a = c .before .before .before .before .args in
+    has-is (a .words .now) (a .p) (a .q) (search needs) (omega (arith, c .before .before .shared-slice-known2 .given (a .p))) (c .before .alone .ensures) (c .meets .ensures)
 
 pub has-spec : {M : Type 1} → statement M
-has-spec =
-    tie.close
-    (tie.spec
-    mul-meets
-    shared-slice-read-meets
-    cast-alone
-    alone-requires
-    meets-requires
-    returns)
+has-spec = tie.close (tie.spec mul-meets shared-slice-read-meets cast-alone alone-requires meets-requires returns)
