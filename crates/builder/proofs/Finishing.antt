@@ -10,9 +10,10 @@ use borrow.Author.Tests.{lt-ltb, le-ltb}
 use lib.Dec.{ltb}
 use lib.ListN.{length, getD, set, drop, replicate, length-set}
 use lib.Seq.{getD-set-same, getD-set-other}
-use Rattle.base.specs.Says.{bool}
+use Rattle.base.specs.Says.{eq, each, bool}
 use Rattle.base.specs.Walks.{pass, count}
-use Rattle.base.proofs.Tests.{and-true}
+use Rattle.base.proofs.Says.{says}
+use Rattle.base.proofs.Tests.{and-true, T-true}
 use Rattle.base.proofs.Walks.{zeros-at}
 use Rattle.chart.specs.declared.charts.Head.{Head}
 use Rattle.chart.specs.declared.places.OldPlace.{OldPlace}
@@ -32,7 +33,7 @@ use Rattle.builder.specs.Builds.{redirected, finalTargets, alone, lone, 
 use Rattle.builder.specs.Answers.{summary}
 use Rattle.graph.proofs.Parts.{graph-eq}
 use Rattle.graph.proofs.Stores.{Passing, passing-none, passing-all}
-use Rattle.marker.proofs.Spans.{Remaking, remaking-start, remaking-more, remaking-gap, remaking-end, passing-span}
+use Rattle.marker.proofs.Spans.{Remaking, remaking-start, remaking-more, remaking-gap, remaking-end, passing-gap, passing-span}
 use Rattle.marker.proofs.Counts.{count-set, count-here, count-else, count-none}
 use Rattle.marker.proofs.Ranking.{kept-is}
 
@@ -141,6 +142,19 @@ module _ (m t₀ : List ℕ) where
 
     pub all-end : 64 ≤ p → t ≡ map (redirected m) t₀
     all-end l = mapped (redirected m) (T .done) (omega (arith, T .long))
+
+-- no place is kept
+module _ (m : List ℕ) {b : Bool} (e : b ≡ bool (each 64 (λ j. eq (getD m (4096 + j) 0) 0))) (y : b ≡ true) where
+  stays : (x : ℕ) → redirected m x ≡ x
+  unfolding marked
+  stays x =
+      let z : getD m (4096 + x % 64) 0 ≡ 0 = says (each 64 (λ j. eq (getD m (4096 + j) 0) 0)) (T-true (sym e ∙ y)) (x % 64) (omega arith) in
+      dite (decLt x 4096) (λ l. sym (redirect-near m x {q = newOf x} refl refl refl l (rw z))) (λ l. sym (redirect-far m x (omega arith)))
+
+  pub all-stay : (t : List ℕ) → t ≡ map (redirected m) t
+  all-stay t =
+      let f : ℕ → ℕ → ℕ = λ j x. redirected m x in
+      mapped (redirected m) {i = length t} (passing-gap f (passing-none f t) (omega arith) (omega arith) (λ k a d. stays (getD t k 0))) (omega arith)
 
 -- ---- the lone kept start
 module _ (old new : Head) (m : List ℕ) {k : ℕ} {b : Bool} (a : k ≡ startKept new) (d : b ≡ marked m k) where

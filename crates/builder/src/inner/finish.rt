@@ -18,6 +18,7 @@ use chart::charts::Head;
 use chart::inner::pairs::kept;
 use chart::inner::pairs::new_of;
 use chart::inner::pairs::old_of;
+use checker::inner::shape::blank;
 use detector::inner::explore::first_kept;
 use detector::inner::explore::first_pair;
 use graph::inner::buffers;
@@ -66,6 +67,18 @@ fn redirect_all(marks: &[u8], targets: &mut [u16], seen: &[u64])
         redirect_word(marks, targets, p, seen[p]);
         p += 1;
     }
+}
+
+// The same. Where no place is kept, which is soon seen, no target is redirected.
+fn redirect_kept(marks: &[u8], targets: &mut [u16], seen: &[u64])
+    requires { ⌜ (length (now marks) ≡ 4160) × (length (now targets) ≡ 8192) × (length (now seen) ≡ 64) ⌝ }
+    requires { ⌜ ((i r : ℕ) → i < 4096 → r < 2 → (getD (now targets) (index i r) 0 ≡ 65535 → ⊥) → Member (now seen) i) ⌝ }
+    ensures { λ _. ⌜ now (targets .exit) ≡ map (redirected (now (marks .entry))) (now (targets .entry)) ⌝ }
+{
+    if blank(marks, 4096, 64) {
+        return;
+    }
+    redirect_all(marks, targets, seen);
 }
 
 // Whether the new start is kept, or is the new alarm without the old one being the old alarm.
@@ -149,7 +162,7 @@ pub fn finish(
         };
     }
     let first = first_pair(old, new);
-    redirect_all(&*marks, targets, &*seen);
+    redirect_kept(&*marks, targets, &*seen);
     let counts = rank(marks, &*targets, first, seen);
     Summary {
         start: first,

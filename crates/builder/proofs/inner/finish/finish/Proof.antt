@@ -31,8 +31,8 @@ returns c = (search finish-alone, summed-alone _ _ _ (c .before .before .before 
 first-pair-requires : tie.Need-first-pair-requires
 first-pair-requires c κs = search needs
 
-redirect-all-requires : tie.Need-redirect-all-requires
-redirect-all-requires c κs = search needs
+redirect-kept-requires : tie.Need-redirect-kept-requires
+redirect-kept-requires c κs = search needs
 
 rank-requires : tie.Need-rank-requires
 rank-requires c κs = search needs
@@ -65,7 +65,7 @@ finish-spec =
     same-length-4
     returns
     first-pair-requires
-    redirect-all-requires
+    redirect-kept-requires
     rank-requires
     count-row-requires
     same-length-5
