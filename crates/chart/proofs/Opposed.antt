@@ -4,8 +4,8 @@ use mathlib.Core.Bool.{Bool, true, false, cond, _&&_, not}
 use Prim.Native.Nat.{ℕ, _%_, _<_}
 use native.Mathlib.Decide.{ℕ-discrete, decLt}
 use native.Mathlib.Omega.{arith}
-use borrow.Author.Tests.{eqb-true, eqb-false, not-true}
-use lib.Dec.{eqb}
+use borrow.Author.Tests.{eqb-true, ltb-true}
+use lib.Dec.{eqb, ltb}
 use lib.ListN.{getD}
 use Rattle.base.proofs.Lists.{any-false}
 use Rattle.base.proofs.Tests.{T-true, and-true}
@@ -53,14 +53,16 @@ module _ (f g : Operation) where
       go false true e = absurd (T-true (sym e))
 
   pub opposed-codes : (s : ℕ) → ((s ≡ 6 → ⊥) → OppositeCodes (f .code) s)
-      → (((eqb (f .a) (g .a) && eqb (f .b) (g .b)) && eqb (f .c) (g .c)) && not (eqb s 6)) && eqb s (g .code) ≡ true
+      → (((eqb (f .a) (g .a) && eqb (f .b) (g .b)) && eqb (f .c) (g .c)) && eqb s (g .code)) && ltb 15 (g .code) ≡ true
       → (isAssumption f ≡ true) × (isAssumption g ≡ true) × Opposed f g
   opposed-codes s h t =
-      let (t, e) = and-true _ _ t in
       let (t, n) = and-true _ _ t in
+      let (t, e) = and-true _ _ t in
       let (t, c) = and-true _ _ t in
       let (a, b) = and-true _ _ t in
-      let o : OppositeCodes (f .code) (g .code) = subst (OppositeCodes (f .code)) (eqb-true s (g .code) e) (h (eqb-false s 6 (not-true _ n))) in (
+      let q = eqb-true s (g .code) e in
+      let l = ltb-true 15 (g .code) n in
+      let o : OppositeCodes (f .code) (g .code) = subst (OppositeCodes (f .code)) q (h (λ z. omega (arith, q, l))) in (
         o .first,
         o .second,
         opposed-by (eqb-true _ _ a) (eqb-true _ _ b) (eqb-true _ _ c) (alike-same (withConstant f) (withConstant g) (o .sort)) (o .relations),

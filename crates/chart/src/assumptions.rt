@@ -357,7 +357,7 @@ pub fn opposed(f: Operation, g: Operation) -> bool
     ensures { λ r. ⌜ (r ≡ true → (isAssumption f ≡ true) × (isAssumption g ≡ true) × Opposed f g) ⌝ }
 {
     let s = opposite(f.code);
-    (f.a == g.a) & (f.b == g.b) & (f.c == g.c) & (s != 6) & (s == g.code)
+    (f.a == g.a) & (f.b == g.b) & (f.c == g.c) & (s == g.code) & (15 < g.code)
 }
 
 // Whether exactly one of two assumptions holds, for all values.

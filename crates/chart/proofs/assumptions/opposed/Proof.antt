@@ -8,7 +8,7 @@ opposite-requires : tie.Need-opposite-requires
 opposite-requires c κs = search needs
 
 returns : tie.Need-returns
-returns c = opposed-codes _ _ _ (c .before .before .before .before .before .before .before .opposite .ensures)
+returns c = opposed-codes _ _ _ (c .before .before .before .before .before .before .before .before .opposite .ensures)
 
 pub opposed-spec : {M : Type 1} → statement M
 opposed-spec = tie.close (tie.spec opposite-requires returns)
