@@ -8,8 +8,8 @@ use native.Mathlib.Omega.{arith}
 use native.Mathlib.Decide.{ℕ-discrete, decLt}
 use borrow.Author.Tests.{lt-ltb, le-ltb}
 use lib.Dec.{ltb}
-use lib.ListN.{length, getD, set, drop, replicate, length-set}
-use lib.Seq.{getD-set-same, getD-set-other}
+use lib.ListN.{length, getD, set, take, drop, replicate, length-set, List·getD-eq-default}
+use lib.Seq.{getD-set-same, getD-set-other, getD-take, length-take-le}
 use Rattle.base.specs.Says.{eq, each, bool}
 use Rattle.base.specs.Walks.{pass, count}
 use Rattle.base.proofs.Says.{says}
@@ -23,10 +23,13 @@ use Rattle.align.specs.Sets.{bit, without}
 use Rattle.align.specs.Steps.{fair}
 use Rattle.checker.specs.Records.{index}
 use Rattle.checker.specs.Rules.{startPair, startKept}
-use Rattle.words.specs.Words.{Member, LowestFrom}
+use Rattle.align.proofs.Sets.{bit-none}
+use Rattle.words.specs.Words.{Member, added, LowestFrom}
+use Rattle.words.proofs.Words.{length-added, added-here, added-old, not-at}
 use Rattle.words.proofs.Rests.{Coming, coming-start, coming-next, coming-more, coming-less, coming-end}
-use Rattle.graph.specs.Graphs.{Graph, graph, Sized, marked}
+use Rattle.graph.specs.Graphs.{Graph, graph, Sized, Covers, marked}
 use Rattle.marker.specs.Spans.{remade}
+use Rattle.marker.specs.Seen.{Holds}
 use Rattle.marker.specs.declared.inner.marks.Counts.{Counts}
 use Rattle.marker.specs.Marks.{finalMarks}
 use Rattle.builder.specs.Builds.{redirected, finalTargets, alone, lone, finished, startOf}
@@ -34,6 +37,7 @@ use Rattle.builder.specs.Answers.{summary}
 use Rattle.graph.proofs.Parts.{graph-eq}
 use Rattle.graph.proofs.Stores.{Passing, passing-none, passing-all}
 use Rattle.marker.proofs.Spans.{Remaking, remaking-start, remaking-more, remaking-gap, remaking-end, passing-gap, passing-span}
+use Rattle.marker.proofs.Seen.{none-past}
 use Rattle.marker.proofs.Counts.{count-set, count-here, count-else, count-none}
 use Rattle.marker.proofs.Ranking.{kept-is}
 
@@ -140,8 +144,61 @@ module _ (m t₀ : List ℕ) where
         let P = passing-span (λ j x. redirected m x) (redirected m) (T .done) (omega arith) (omega (arith, T .long)) e (λ k x a b. refl) in
         record { most = omega arith; long = P .long ∙ sym (T .done .long) ∙ T .long; done = rw z P }
 
-    pub all-end : 64 ≤ p → t ≡ map (redirected m) t₀
-    all-end l = mapped (redirected m) (T .done) (omega (arith, T .long))
+    -- pairs that have no word have no targets
+    pub all-end : (seen : List ℕ) → ((i r : ℕ) → i < 4096 → r < 2 → (getD t₀ (index i r) 0 ≡ 65535 → ⊥) → Member seen i) → length seen ≤ p
+        → t ≡ map (redirected m) t₀
+    all-end seen U l =
+        mapped (redirected m)
+        (passing-gap (λ j x. redirected m x) {j = 8192} (T .done) (omega (arith, T .most)) (omega (arith, T .long)) far) (omega (arith, T .long))
+      where
+        far : (k : ℕ) → 128 * p ≤ k → k < 8192 → redirected m (getD t₀ k 0) ≡ getD t₀ k 0
+        far k a b =
+            let z : index (k / 2) (k % 2) ≡ k = omega arith in
+            let e : getD t₀ k 0 ≡ 65535 =
+            dite (ℕ-discrete (getD t₀ k 0) 65535) (λ y. y)
+            (λ f. absurd (none-past seen (k / 2) (omega arith)
+            (U (k / 2) (k % 2) (omega arith) (omega arith) (λ h. f (ap (λ (n : ℕ). getD t₀ n 0) (sym z) ∙ h))))) in
+            rw e (sym (redirect-far m 65535 (omega arith)))
+
+-- ---- the words that are used
+-- those from n on have no member
+pub record Ends (w : List ℕ) (n : ℕ) : Type 0 where
+  pub most : n ≤ length w
+  pub none : (p : ℕ) → n ≤ p → getD w p 0 ≡ 0
+
+abbrev Used : List ℕ → ℕ → Type 0
+Used w n = (n ≤ length w) × ((k : ℕ) → Member w k → Member (take n w) k)
+
+module _ (w : List ℕ) where
+  pub used-start : Ends w (length w)
+  used-start = record { most = omega arith; none = λ p l. List·getD-eq-default w 0 {n = p} l }
+
+  pub used-less : {n : ℕ} → Ends w n → 0 < n → getD w (n - 1) 0 ≡ 0 → Ends w (n - 1)
+  used-less {n} E l e =
+      record { most = omega (arith, E .most); none = λ p q. dite (ℕ-discrete p (n - 1)) (λ z. rw z e) (λ z. E .none p (omega arith)) }
+
+  pub used-all : {n : ℕ} → Ends w n → Used w n
+  used-all {n} E = (E .most, λ k m. dite (decLt (k / 64) n) (λ l. rw (getD-take n w (k / 64) 0 l) m) (λ l. absurd (past k (omega arith) m)))
+    where
+      past : (k : ℕ) → n ≤ k / 64 → Member w k → ⊥
+      past k l m = not-at w (k / 64) k refl (ap (λ (x : ℕ). bit x (k % 64)) (E .none (k / 64) l) ∙ bit-none (k % 64)) m
+
+-- with the start pair n they have all pairs seen
+module _ {w v : List ℕ} {n r : ℕ} {g : Graph} (C : Covers w g) (b : n < 4096) (e : v ≡ added w n) (U : Used v r) where
+  old : (k : ℕ) → Member w k → Member (take r v) k
+  old k m = U .1 k (rw e (added-old w n (omega (arith, C .long)) b k m))
+
+  pub used-most : length (take r v) ≤ 64
+  used-most = let z : length v ≡ 64 = ap length e ∙ length-added w n ∙ C .long in omega (arith, length-take-le r v (U .0), U .0)
+
+  pub used-targets : (i s : ℕ) → i < 4096 → s < 2 → (getD (g .targets) (index i s) 0 ≡ 65535 → ⊥) → Member (take r v) i
+  used-targets i s a c f = old i (C .targets i s a c f)
+
+  pub used-holds : Holds (take r v) (g .marks)
+  used-holds = record { most = used-most; has = λ k c p. old k (C .marks k c p) }
+
+  pub used-here : Member (take r v) n
+  used-here = U .1 n (rw e (added-here w n (omega (arith, C .long)) b))
 
 -- no place is kept
 module _ (m : List ℕ) {b : Bool} (e : b ≡ bool (each 64 (λ j. eq (getD m (4096 + j) 0) 0))) (y : b ≡ true) where

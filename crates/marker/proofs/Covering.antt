@@ -23,8 +23,9 @@ use Rattle.marker.specs.Seen.{Holds}
 use Rattle.marker.specs.Marks.{transitions, cover, covered, coverFrom, allCovered}
 use Rattle.marker.proofs.Marks.{cover-here, cover-not, cover-same}
 use Rattle.marker.proofs.Counts.{count-set, Ones, ones-at, ones-drop, counted-none, counted-few, counted-past, counted-open, counted-then}
+use Rattle.marker.proofs.Spans.{up-to}
 use Rattle.marker.proofs.Passes.{Going, going-start, going-more, going-end}
-use Rattle.marker.proofs.Seen.{holds-kept}
+use Rattle.marker.proofs.Seen.{holds-kept, unmarked-past}
 
 -- ---- one target
 module _ (m : List ℕ) (n : ℕ) where
@@ -158,11 +159,16 @@ module _ (t : List ℕ) (w : length t ≡ 8192) where
   cover-next : {v m₀ m m′ : List ℕ} {p : ℕ} → Covering t v m₀ m (64 * p) → p < 64 → m′ ≡ each (coverFrom t) (64 * p) 64 m → Covering t v m₀ m′ (64 * (p + 1))
   cover-next {p = p} C l e = let z : 64 * (p + 1) ≡ 64 * p + 64 = omega arith in rw (e, z) (cover-span 64 C (omega arith))
 
-  cover-end : {v m₀ m : List ℕ} {p : ℕ} → Covering t v m₀ m (64 * p) → 64 ≤ p → m ≡ allCovered t m₀
+  -- pairs that are not open cover nothing
+  cover-past : {v m₀ m : List ℕ} {i : ℕ} (j : ℕ) → Covering t v m₀ m i → i ≤ j → j ≤ 4096 → ((k : ℕ) → i ≤ k → k < j → getD m k 0 ≡ 1 → ⊥)
+      → Covering t v m₀ m j
+  cover-past {v} {m₀} {m} j C l b h = up-to (Covering t v m₀ m) j l C (λ k p q D. cover-more D (omega arith) (from-not t m k (h k p q)))
+
+  cover-end : {v m₀ m : List ℕ} → Covering t v m₀ m 4096 → m ≡ allCovered t m₀
   unfolding covered transitions
-  cover-end {m = m} {p = p} C l =
-      let e : drop (2 * (64 * p)) t ≡ [] = drop-of-length-le t {i = 2 * (64 * p)} (omega arith) in
-      sym (C .same ∙ rw e (none-left (drop (64 * p) m)))
+  cover-end {m = m} C =
+      let e : drop (2 * 4096) t ≡ [] = drop-of-length-le t {i = 2 * 4096} (omega arith) in
+      sym (C .same ∙ rw e (none-left (drop 4096 m)))
     where
       none-left : (x : List ℕ) → covered m (transitions x []) ≡ m
       none-left [] = refl
@@ -181,22 +187,31 @@ module _ {t w m₀ m : List ℕ} {p : ℕ} {c : Counts} (A : CoveringAll t w m�
   pub all-few : (c .opened ≤ 4160) × (c .covered ≤ 4160)
   all-few = let f = counted-few (A .counted) (A .long) (A .covering .long) in (omega (arith, f .0), omega (arith, f .1))
 
-  pub all-more : {m′ : List ℕ} {c′ : Counts} → length t ≡ 8192 → p < 64
+  pub all-more : {m′ : List ℕ} {c′ : Counts} → length t ≡ 8192 → p < length w
       → (m′ ≡ each (coverFrom t) (64 * p) 64 m) × Counted m m′ (64 * p) (64 * p + 64) c c′ → CoveringAll t w m₀ m′ (p + 1) c′
   all-more lt l e =
       let z : 64 * (p + 1) ≡ 64 * p + 64 = omega arith in
       record {
         long = A .long;
-        covering = cover-next t lt (A .covering) l (e .0);
+        covering = cover-next t lt (A .covering) (omega (arith, A .covering .held .most)) (e .0);
         counted = rw z (counted-then (A .counted) (A .covering .ones) (A .covering .long ∙ sym (A .long)) (e .1));
       }
 
-  pub all-end : length t ≡ 8192 → 64 ≤ p → (m ≡ allCovered t m₀) × (count 1 m ≡ c .opened + count 1 (drop 4096 m)) × (count 3 m ≡ c .covered + count 3 m₀)
+  -- whoever has no word is not open
+  shut : length w ≤ p → (k : ℕ) → 64 * p ≤ k → k < 4096 → getD m k 0 ≡ 1 → ⊥
+  shut l k a b e = omega (arith, unmarked-past (A .covering .held) k (omega arith) b)
+
+  pub all-end : length t ≡ 8192 → length w ≤ p
+      → (m ≡ allCovered t m₀) × (count 1 m ≡ c .opened + count 1 (drop 4096 m)) × (count 3 m ≡ c .covered + count 3 m₀)
   all-end lt l =
-      let z : 64 * p ≡ 4096 = omega (arith, A .covering .most) in
-      let C = rw z at (A .counted) in
-      let same = ones-drop m m₀ (A .covering .ones) (A .covering .long ∙ sym (A .long)) in
-      (cover-end t lt (A .covering) l, omega (arith, C .opened, same 0, same 4096), omega (arith, C .covered))
+      let C =
+      counted-past (A .counted) 4096 (A .covering .most) (omega (arith, A .long))
+      (λ k a b e. shut l k a b (ones-at m m₀ (A .covering .ones) k e)) in
+      let same = ones-drop m m₀ (A .covering .ones) (A .covering .long ∙ sym (A .long)) in (
+        cover-end t lt (cover-past t lt 4096 (A .covering) (A .covering .most) (omega arith) (shut l)),
+        omega (arith, C .opened, same 0, same 4096),
+        omega (arith, C .covered),
+      )
 
 -- ---- the pairs of one word: only open ones cover, which are members
 pub record CoveringWord (t w : List ℕ) (p : ℕ) (m₀ m : List ℕ) (word : ℕ) (so to : Counts) : Type 0 where
@@ -218,16 +233,17 @@ module _ (t w : List ℕ) (p : ℕ) where
     pub word-few : (to .opened ≤ so .opened + 4160) × (to .covered ≤ so .covered + 4160)
     word-few = counted-few (C .counted) (C .same) (C .long)
 
-    module _ (b : p < 64) where
+    module _ (b : p < length w) where
       idle : (i : ℕ) → i < 64 → (Member w (64 * p + i) → ⊥) → m ≡ coverFrom t m (64 * p + i)
-      idle i c f = from-not t m (64 * p + i) (λ e. f (C .held .has (64 * p + i) (omega arith) (omega arith)))
+      idle i c f = from-not t m (64 * p + i) (λ e. f (C .held .has (64 * p + i) (omega (arith, C .held .most)) (omega arith)))
 
       -- up to the next bit none is open
       passed : {q : ℕ} → LowestFrom (getD w p 0) (C .at) q → Counted m₀ m (64 * p) (64 * p + q) so to
       passed {q} N =
-          counted-past (C .counted) (64 * p + q) (omega (arith, N .least)) (omega (arith, N .most, C .same))
+          counted-past (C .counted) (64 * p + q) (omega (arith, N .least)) (omega (arith, N .most, C .same, C .held .most))
           (λ k c d e. let i : k ≡ 64 * p + (k - 64 * p) = omega arith in
-          none-up w p N (k - 64 * p) (omega arith) (omega arith) (rw i at (C .held .has k (omega (arith, N .most)) (omega (arith, ones-at m m₀ (C .ones) k e)))))
+          none-up w p N (k - 64 * p) (omega arith) (omega arith)
+          (rw i at (C .held .has k (omega (arith, N .most, C .held .most)) (omega (arith, ones-at m m₀ (C .ones) k e)))))
 
       module _ {q rest : ℕ} (L : LowestFrom word 0 q) (c : q < 64) (e : rest ≡ without word q) where
         next : 64 * p + q + 1 ≡ 64 * p + (q + 1)
@@ -246,7 +262,8 @@ module _ (t w : List ℕ) (p : ℕ) where
               ones = λ k. rw (d .0) (from-ones t m (64 * p + q) k) ∙ C .ones k;
               at = q + 1;
               going = going-more (coverFrom t) w p (C .going) idle L c e (d .0);
-              counted = rw next at (counted-open reached n (omega (arith, C .same)) (ones-at m₀ m (λ k. sym (C .ones k)) (64 * p + q) o) (d .1));
+              counted = rw next at (counted-open reached n (omega (arith, C .same, C .held .most))
+                  (ones-at m₀ m (λ k. sym (C .ones k)) (64 * p + q) o) (d .1));
             }
 
         pub word-shut : (getD m (64 * p + q) 0 ≡ 1 → ⊥) → CoveringWord t w p m₀ m rest so to
@@ -258,7 +275,7 @@ module _ (t w : List ℕ) (p : ℕ) where
               ones = C .ones;
               at = q + 1;
               going = going-more (coverFrom t) w p (C .going) idle L c e (from-not t m (64 * p + q) o);
-              counted = rw next at (counted-past reached (64 * p + q + 1) (omega arith) (omega (arith, C .same)) shut);
+              counted = rw next at (counted-past reached (64 * p + q + 1) (omega arith) (omega (arith, C .same, C .held .most)) shut);
             }
           where
             shut : (k : ℕ) → 64 * p + q ≤ k → k < 64 * p + q + 1 → getD m₀ k 0 ≡ 1 → ⊥

@@ -13,7 +13,8 @@ use Rattle.words.specs.Words.{Member, LowestFrom}
 use Rattle.marker.specs.Seen.{HoldsBeyond}
 use Rattle.marker.specs.Spreads.{ledTo, ledFrom}
 use Rattle.marker.specs.Spans.{each}
-use Rattle.marker.proofs.Passes.{each-then, Going, going-start, going-more, going-end}
+use Rattle.marker.proofs.Seen.{none-past}
+use Rattle.marker.proofs.Passes.{each-past, each-then, Going, going-start, going-more, going-end}
 
 module _ (l : List ℕ) (q n : ℕ) where
   pub led-pair : {v : ℕ} → n < 4096 → v ≡ with (getD l q 0) (n % 64) → set l q v ≡ ledTo l q n
@@ -53,9 +54,9 @@ module _ (t m w : List ℕ) (p : ℕ) where
   pub lead-start : {l : List ℕ} → length l ≡ 64 → Leading t m w p l l (getD w p 0)
   lead-start {l} e = record { long = e; at = 0; going = going-start (ledFrom t m) w p l }
 
-  module _ {l₀ l : List ℕ} {word : ℕ} (L : Leading t m w p l₀ l word) (b : p < 64) (H : HoldsBeyond w m) where
+  module _ {l₀ l : List ℕ} {word : ℕ} (L : Leading t m w p l₀ l word) (b : p < length w) (H : HoldsBeyond w m) where
     idle : (i : ℕ) → i < 64 → (Member w (64 * p + i) → ⊥) → l ≡ ledFrom t m l (64 * p + i)
-    idle i c f = led-not t m l (64 * p + i) (λ e. f (H .has (64 * p + i) (omega arith) e))
+    idle i c f = led-not t m l (64 * p + i) (λ e. f (H .has (64 * p + i) (omega (arith, H .most)) e))
 
     pub lead-more : {l′ : List ℕ} {q rest : ℕ} → LowestFrom word 0 q → q < 64 → rest ≡ without word q → l′ ≡ ledFrom t m l (64 * p + q) → Leading t m w p l₀ l′ rest
     lead-more {q = q} F c e d =
@@ -81,15 +82,18 @@ module _ (t m : List ℕ) where
   led-start e = record { is = refl; long = e; most = omega arith }
 
   module _ {l₀ l : List ℕ} {p : ℕ} (L : Led t m l₀ l p) where
-    pub led-more : {l′ : List ℕ} → p < 64 → l′ ≡ each (ledFrom t m) (64 * p) 64 l → Led t m l₀ l′ (p + 1)
-    led-more b e =
+    pub led-more : {w l′ : List ℕ} → HoldsBeyond w m → p < length w → l′ ≡ each (ledFrom t m) (64 * p) 64 l → Led t m l₀ l′ (p + 1)
+    led-more H b e =
         let z : 0 + 64 * p ≡ 64 * p = omega arith in
         let s : 64 * p + 64 ≡ 64 * (p + 1) = omega arith in
         record {
           is = e ∙ ap (each (ledFrom t m) (64 * p) 64) (L .is) ∙ rw (z, s) at (each-then (ledFrom t m) 0 (64 * p) 64 l₀);
           long = ap length e ∙ length-each t m (64 * p) 64 l ∙ L .long;
-          most = omega arith;
+          most = omega (arith, H .most);
         }
 
-    pub led-end : 64 ≤ p → l ≡ each (ledFrom t m) 0 4096 l₀
-    led-end b = let z : 64 * p ≡ 4096 = omega (arith, L .most) in rw z at (L .is)
+    pub led-end : {w : List ℕ} → HoldsBeyond w m → length w ≤ p → l ≡ each (ledFrom t m) 0 4096 l₀
+    led-end {w} H b = each-past (ledFrom t m) 0 l₀ 4096 (L .is) (omega (arith, L .most)) idle
+      where
+        idle : (i : ℕ) → 64 * p ≤ i → i < 4096 → l ≡ ledFrom t m l (0 + i)
+        idle i a c = let z : 0 + i ≡ i = omega arith in rw z (led-not t m l i (λ e. none-past w i (omega arith) (H .has i c e)))

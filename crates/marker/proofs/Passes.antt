@@ -17,7 +17,7 @@ module _ (f : List ℕ → ℕ → List ℕ) (a : ℕ) where
   each-more x k e d = rw (add-one k, each) (d ∙ ap (λ (l : List ℕ). f l (a + k)) e)
 
   -- numbers for which nothing is to be done
-  each-past : (x : List ℕ) {y : List ℕ} {k : ℕ} (j : ℕ) → y ≡ each f a k x → k ≤ j → ((i : ℕ) → k ≤ i → i < j → y ≡ f y (a + i)) → y ≡ each f a j x
+  pub each-past : (x : List ℕ) {y : List ℕ} {k : ℕ} (j : ℕ) → y ≡ each f a k x → k ≤ j → ((i : ℕ) → k ≤ i → i < j → y ≡ f y (a + i)) → y ≡ each f a j x
   each-past x {y} j e l h = up-to (λ i. y ≡ each f a i x) j l e (λ i p q d. each-more x i d (h i p q))
 
   -- one span after another

@@ -19,7 +19,7 @@ use Rattle.graph.proofs.Stores.{Passing, passing-none, passing-all}
 use Rattle.marker.proofs.Marks.{Ranks, rank-pair, rank-node, none-covered, final-ranks}
 use Rattle.marker.proofs.Spans.{passing-gap, passing-span}
 use Rattle.marker.proofs.Counts.{count-gap, count-none}
-use Rattle.marker.proofs.Seen.{none-seen}
+use Rattle.marker.proofs.Seen.{none-seen, unmarked-past}
 
 -- ---- plain marks
 module _ (v x : ℕ) where
@@ -71,11 +71,13 @@ module _ {m₀ m : List ℕ} {p : ℕ} (P : Plain m₀ m p) where
   plain-past l H e d =
       rw d (on l (passing-gap plainMark (P .done) (omega arith) (omega (arith, P .long)) (λ k a b. plain-same k (getD m₀ k 0) (none-seen H p l e k a b))))
 
-  pub plain-end : {m₁ : List ℕ} → 64 ≤ p → m₁ ≡ remade 4096 4160 (plainAs 2) m → m₁ ≡ plainMarks m₀
+  pub plain-end : {m₁ seen : List ℕ} → Holds seen m₀ → length seen ≤ p → m₁ ≡ remade 4096 4160 (plainAs 2) m → m₁ ≡ plainMarks m₀
   unfolding plainMarks
-  plain-end l e =
-      let z : 64 * p ≡ 4096 = omega (arith, P .most) in
-      let Q = passing-span plainMark (plainAs 2) (rw z at (P .done)) (omega arith) (omega (arith, P .long)) e (λ k x a b. plain-kept k x a) in
+  plain-end H l e =
+      let G =
+      passing-gap plainMark {j = 4096} (P .done) (omega (arith, P .most)) (omega (arith, P .long))
+      (λ k a b. plain-same k (getD m₀ k 0) (unmarked-past H k (omega arith) b)) in
+      let Q = passing-span plainMark (plainAs 2) G (omega arith) (omega (arith, P .long)) e (λ k x a b. plain-kept k x a) in
       passing-all plainMark Q (omega (arith, Q .long, P .long, P .done .long))
 
 -- ---- open or kept

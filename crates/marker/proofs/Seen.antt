@@ -5,23 +5,29 @@ use mathlib.Core.Logic.{⊎-elim, dite}
 use Prim.Native.Nat.{ℕ, _+_, _*_, _/_, _%_, _≤_, _<_}
 use native.Mathlib.Omega.{arith}
 use native.Mathlib.Decide.{ℕ-discrete}
-use lib.ListN.{length, getD, set}
+use lib.ListN.{length, getD, set, List·getD-eq-default}
 use lib.Seq.{getD-set-same, getD-set-other, ext-getD}
 use Rattle.align.specs.Sets.{bit}
 use Rattle.align.proofs.Sets.{bit-none}
-use Rattle.words.specs.Words.{added, removed}
-use Rattle.words.proofs.Words.{length-added, length-removed, added-here, added-old, removed-other}
+use Rattle.words.specs.Words.{Member, removed}
+use Rattle.words.proofs.Words.{length-removed, removed-other, not-at}
 use Rattle.graph.proofs.Stores.{Passing, passing-more}
 use Rattle.marker.specs.Seen.{Holds, HoldsBeyond}
 use Rattle.marker.specs.Marks.{plainMarks, allOpened, Opened, Tried}
 use Rattle.marker.proofs.Marks.{plain-ranks}
 use Rattle.marker.proofs.Orders.{opened-at, some-opened}
 
+-- words that are not there have no members
+pub none-past : (w : List ℕ) (k : ℕ) → 64 * length w ≤ k → Member w k → ⊥
+none-past w k l m =
+    let e : getD w (k / 64) 0 ≡ 0 = List·getD-eq-default w 0 {n = k / 64} (omega arith) in
+    not-at w (k / 64) k refl (ap (λ (n : ℕ). bit n (k % 64)) e ∙ bit-none (k % 64)) m
+
 -- ---- every pair with a mark
 -- where what has no mark gets none
 pub holds-kept : {w x y : List ℕ} → Holds w x → ((k : ℕ) → getD x k 0 ≡ 0 → getD y k 0 ≡ 0) → Holds w y
 holds-kept {x = x} H z =
-    record { long = H .long; has = λ n b p. H .has n b (dite (ℕ-discrete (getD x n 0) 0) (λ e. absurd (omega (arith, z n e))) (λ e. omega arith)) }
+    record { most = H .most; has = λ n b p. H .has n b (dite (ℕ-discrete (getD x n 0) 0) (λ e. absurd (omega (arith, z n e))) (λ e. omega arith)) }
 
 module _ {w x : List ℕ} (H : Holds w x) where
   -- an old place of which no pair was seen
@@ -31,20 +37,20 @@ module _ {w x : List ℕ} (H : Holds w x) where
       let z : bit (getD w p 0) (k % 64) ≡ 0 = ap (λ (n : ℕ). bit n (k % 64)) e ∙ bit-none (k % 64) in
       dite (ℕ-discrete (getD x k 0) 0) (λ f. f) (λ f. absurd (omega (arith, z, rw y at (H .has k (omega arith) (omega arith)))))
 
+  pub unmarked-past : (k : ℕ) → 64 * length w ≤ k → k < 4096 → getD x k 0 ≡ 0
+  unmarked-past k a b = dite (ℕ-discrete (getD x k 0) 0) (λ f. f) (λ f. absurd (none-past w k a (H .has k b (omega arith))))
+
   pub holds-copied : {v : List ℕ} → v ≡ w → HoldsBeyond v x
-  holds-copied e = rw e (record { long = H .long; has = λ n b p. H .has n b (omega arith) })
+  holds-copied e = rw e (record { most = H .most; has = λ n b p. H .has n b (omega arith) })
 
-  pub holds-added : {v : List ℕ} {n : ℕ} → n < 4096 → v ≡ added w n → Holds v x
-  holds-added {n = n} b e = rw e (record { long = length-added w n ∙ H .long; has = λ k c p. added-old w n (omega (arith, H .long)) b k (H .has k c p) })
-
-  -- the start pair, which becomes open, is added
-  pub holds-started : {v y z : List ℕ} {n : ℕ} → length x ≡ 4160 → n < 4096 → v ≡ added w n → y ≡ plainMarks x → z ≡ set y n 1 → Holds v z
-  holds-started {n = n} l b e f g =
-      let P = holds-kept {y = plainMarks x} (holds-added b e) (plain-ranks x l .absent) in
+  -- the start pair, which becomes open, is a member
+  pub holds-started : {y z : List ℕ} {n : ℕ} → length x ≡ 4160 → n < 4096 → Member w n → y ≡ plainMarks x → z ≡ set y n 1 → Holds w z
+  holds-started {n = n} l b s f g =
+      let P = holds-kept {y = plainMarks x} H (plain-ranks x l .absent) in
       rw (g, f)
       (record {
-        long = P .long;
-        has = λ k c p. dite (ℕ-discrete k n) (λ q. rw (q, e) (added-here w n (omega (arith, H .long)) b)) (λ q. P .has k c (omega (arith, getD-set-other (plainMarks x) n k 1 0 q)));
+        most = P .most;
+        has = λ k c p. dite (ℕ-discrete k n) (λ q. rw q s) (λ q. P .has k c (omega (arith, getD-set-other (plainMarks x) n k 1 0 q)));
       })
 
   pub holds-opened : (t : List ℕ) {y : List ℕ} → length x ≡ 4160 → y ≡ allOpened t x → Holds w y
@@ -53,28 +59,28 @@ module _ {w x : List ℕ} (H : Holds w x) where
 -- ---- every pair beyond
 module _ {w x : List ℕ} (H : HoldsBeyond w x) where
   pub beyond-opened : {t y : List ℕ} {n : ℕ} → length x ≡ 4160 → Opened t x n y → HoldsBeyond w y
-  beyond-opened {t} l o = record { long = H .long; has = λ k b p. H .has k b (⊎-elim (λ s. sym s ∙ p) (λ s. s .0) (opened-at t l o k)) }
+  beyond-opened {t} l o = record { most = H .most; has = λ k b p. H .has k b (⊎-elim (λ s. sym s ∙ p) (λ s. s .0) (opened-at t l o k)) }
 
   module _ {t y : List ℕ} {i r : ℕ} (T : Tried t x i r y) where
     pub beyond-same : r ≡ 0 → HoldsBeyond w y
     beyond-same e = rw (T .else-not e .0) H
 
-    pub beyond-out : {v : List ℕ} → i < 4096 → (r ≡ 0 → ⊥) → v ≡ removed w i → length x ≡ 4160 → HoldsBeyond v y
+    pub beyond-out : {v : List ℕ} → i < 64 * length w → (r ≡ 0 → ⊥) → v ≡ removed w i → length x ≡ 4160 → HoldsBeyond v y
     beyond-out b h e l =
         rw (e, T .here h)
         (record {
-          long = length-removed w i ∙ H .long;
-          has = λ k c p. dite (ℕ-discrete k i) (λ q. absurd (omega (arith, rw q at p, getD-set-same x i 1 0 (omega arith))))
-              (λ q. removed-other w i (omega (arith, H .long)) b k c q (H .has k c (sym (getD-set-other x i k 1 0 q) ∙ p)));
+          most = omega (arith, length-removed w i, H .most);
+          has = λ k c p. dite (ℕ-discrete k i) (λ q. absurd (omega (arith, rw q at p, getD-set-same x i 1 0 (omega (arith, H .most)))))
+              (λ q. removed-other w i (omega arith) k q (H .has k c (sym (getD-set-other x i k 1 0 q) ∙ p)));
         })
 
 -- ---- a copy, word by word: the first i are those of w
 abbrev pub Copying : List ℕ → List ℕ → List ℕ → ℕ → Type 0
 Copying w d₀ d i = Passing (λ j x. getD w j 0) d₀ d i
 
-module _ (w : List ℕ) {d₀ d : List ℕ} {i : ℕ} (C : Copying w d₀ d i) (l : length d₀ ≡ 64) where
-  pub copy-more : i < 64 → Copying w d₀ (set d i (getD w i 0)) (i + 1)
+module _ (w : List ℕ) {d₀ d : List ℕ} {i : ℕ} (C : Copying w d₀ d i) (l : length d₀ ≡ length w) where
+  pub copy-more : i < length w → Copying w d₀ (set d i (getD w i 0)) (i + 1)
   copy-more b = passing-more (λ j x. getD w j 0) C (omega (arith, C .long)) refl
 
-  pub copy-end : length w ≡ 64 → 64 ≤ i → d ≡ w
-  copy-end m h = ext-getD 0 d w (omega (arith, C .long)) (λ j k. C .before j (omega (arith, C .long)))
+  pub copy-end : length w ≤ i → d ≡ w
+  copy-end h = ext-getD 0 d w (omega (arith, C .long)) (λ j k. C .before j (omega (arith, C .long)))

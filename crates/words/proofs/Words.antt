@@ -53,10 +53,6 @@ module _ (w : List ℕ) (n : ℕ) where
     unfolding added
     here-added = getD-set-same w (n / 64) _ 0 (omega arith)
 
-    here-removed : getD (removed w n) (n / 64) 0 ≡ without (getD w (n / 64) 0) (n % 64)
-    unfolding removed
-    here-removed = getD-set-same w (n / 64) _ 0 (omega arith)
-
     -- the pair is a member now
     pub added-here : Member (added w n) n
     added-here = rw here-added (with-here (n % 64) (getD w (n / 64) 0) (n % 64))
@@ -68,9 +64,14 @@ module _ (w : List ℕ) (n : ℕ) where
         (λ e. rw (e, here-added) (with-old (i % 64) (getD w (n / 64) 0) (n % 64) (rw e at m)))
         (λ f. rw (else-added (i / 64) f) m)
 
+  module _ (l : n / 64 < length w) where
+    here-removed : getD (removed w n) (n / 64) 0 ≡ without (getD w (n / 64) 0) (n % 64)
+    unfolding removed
+    here-removed = getD-set-same w (n / 64) _ 0 l
+
     -- whoever else was a member still is one
-    pub removed-other : (i : ℕ) → i < 4096 → (i ≡ n → ⊥) → Member w i → Member (removed w n) i
-    removed-other i c f m =
+    pub removed-other : (i : ℕ) → (i ≡ n → ⊥) → Member w i → Member (removed w n) i
+    removed-other i f m =
         dite (ℕ-discrete (i / 64) (n / 64))
         (λ e. rw (e, here-removed) (without-kept (i % 64) (getD w (n / 64) 0) (n % 64) (omega arith) (omega arith) (λ h. f (omega arith)) (rw e at m)))
         (λ g. rw (else-removed (i / 64) g) m)
@@ -107,7 +108,7 @@ module _ (w : List ℕ) (n : ℕ) where
 
     -- whoever else was in a list still is when the pair has left its word: the last word stays
     pub unlisted-other : (i : ℕ) → i < 4096 → (i ≡ n → ⊥) → Listed w i → Listed (removed w n) i
-    unlisted-other i c f m = (removed-other w n (omega arith) b i c f (m .0), rw (else-removed w n 64 (λ e. omega arith)) (m .1))
+    unlisted-other i c f m = (removed-other w n (omega arith) i f (m .0), rw (else-removed w n 64 (λ e. omega arith)) (m .1))
 
 -- ---- whether a pair is a member, as a test
 module _ (y q : ℕ) {x : ℕ} {b : Bool} (l : y < 2 ^ 64) (a : x ≡ alone q) (e : b ≡ meets y x) where

@@ -2,7 +2,7 @@
 ghost use mathlib.Core.Path.{_≡_};
 ghost use mathlib.Core.List.{map};
 ghost use Prim.Native.Nat.{ℕ, _+_, _*_, _≤_, _<_};
-ghost use lib.ListN.{length, getD, drop};
+ghost use lib.ListN.{length, getD, take, drop};
 ghost use Rattle.base.specs.Walks.{count};
 ghost use Rattle.align.specs.Sets.{bit};
 ghost use Rattle.checker.specs.Records.{index};
@@ -58,12 +58,12 @@ fn redirect_word(marks: &[u8], targets: &mut [u16], p: usize, word: u64)
 
 // Those of every pair that was seen.
 fn redirect_all(marks: &[u8], targets: &mut [u16], seen: &[u64])
-    requires { ⌜ (length (now marks) ≡ 4160) × (length (now targets) ≡ 8192) × (length (now seen) ≡ 64) ⌝ }
+    requires { ⌜ (length (now marks) ≡ 4160) × (length (now targets) ≡ 8192) × (length (now seen) ≤ 64) ⌝ }
     requires { ⌜ ((i r : ℕ) → i < 4096 → r < 2 → (getD (now targets) (index i r) 0 ≡ 65535 → ⊥) → Member (now seen) i) ⌝ }
     ensures { λ _. ⌜ now (targets .exit) ≡ map (redirected (now (marks .entry))) (now (targets .entry)) ⌝ }
 {
     let mut p = 0;
-    while p < 64 {
+    while p < seen.len() {
         redirect_word(marks, targets, p, seen[p]);
         p += 1;
     }
@@ -71,7 +71,7 @@ fn redirect_all(marks: &[u8], targets: &mut [u16], seen: &[u64])
 
 // The same. Where no place is kept, which is soon seen, no target is redirected.
 fn redirect_kept(marks: &[u8], targets: &mut [u16], seen: &[u64])
-    requires { ⌜ (length (now marks) ≡ 4160) × (length (now targets) ≡ 8192) × (length (now seen) ≡ 64) ⌝ }
+    requires { ⌜ (length (now marks) ≡ 4160) × (length (now targets) ≡ 8192) × (length (now seen) ≤ 64) ⌝ }
     requires { ⌜ ((i r : ℕ) → i < 4096 → r < 2 → (getD (now targets) (index i r) 0 ≡ 65535 → ⊥) → Member (now seen) i) ⌝ }
     ensures { λ _. ⌜ now (targets .exit) ≡ map (redirected (now (marks .entry))) (now (targets .entry)) ⌝ }
 {
@@ -79,6 +79,20 @@ fn redirect_kept(marks: &[u8], targets: &mut [u16], seen: &[u64])
         return;
     }
     redirect_all(marks, targets, seen);
+}
+
+// So many words from the first on have all members: those behind the last that is not 0 have none.
+fn used(seen: &[u64]) -> usize
+    ensures { λ r. ⌜ (r ≤ length (now (seen .entry))) × ((n : ℕ) → Member (now (seen .entry)) n → Member (take r (now (seen .entry))) n) ⌝ }
+{
+    let mut n = seen.len();
+    while 0 < n {
+        if seen[n - 1] != 0 {
+            return n;
+        }
+        n -= 1;
+    }
+    n
 }
 
 // Whether the new start is kept, or is the new alarm without the old one being the old alarm.
@@ -136,7 +150,7 @@ fn count_row(marks: &[u8], i: usize, v: u8) -> usize
 }
 
 // The final contents of the buffers, where no pair waits, and the start with the counts of marks 1, 2 and 3. Only pairs that were seen are looked
-// at; whoever has buffers as found hands over a set with all pairs.
+// at, up to the last word that has one; whoever has buffers as found hands over a set with all pairs.
 pub fn finish(
     old: Head,
     new: Head,
@@ -162,8 +176,11 @@ pub fn finish(
         };
     }
     let first = first_pair(old, new);
-    redirect_kept(&*marks, targets, &*seen);
-    let counts = rank(marks, &*targets, first, seen);
+    members::add(seen, first);
+    let top = used(&*seen);
+    let cut = &seen[..top];
+    redirect_kept(&*marks, targets, cut);
+    let counts = rank(marks, &*targets, first, cut);
     Summary {
         start: first,
         opened: counts.opened,

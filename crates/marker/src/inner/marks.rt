@@ -3,6 +3,7 @@ ghost use mathlib.Core.Path.{_≡_};
 ghost use Prim.Native.Nat.{_+_, _*_, _≤_, _<_};
 ghost use lib.ListN.{length, getD, drop};
 ghost use Rattle.base.specs.Walks.{count};
+ghost use Rattle.words.specs.Words.{Member};
 ghost use Rattle.marker.specs.Spans.{remade, each};
 ghost use Rattle.marker.specs.Seen.{Holds, HoldsBeyond};
 ghost use Rattle.marker.specs.Marks.{plainAs, plainMarks, inQ, opening, Tried, Swept, allOpened};
@@ -42,7 +43,7 @@ fn plain(marks: &mut [u8], seen: &[u64])
     ensures { λ _. ⌜ now (marks .exit) ≡ plainMarks (now (marks .entry)) ⌝ }
 {
     let mut p = 0;
-    while p < 64 {
+    while p < seen.len() {
         if seen[p] != 0 {
             plain_row(marks, 64 * p, 4);
         }
@@ -92,7 +93,7 @@ pub fn open_if(marks: &mut [u8], targets: &[u16], i: usize) -> usize
 
 // The same; a pair that was opened leaves rest, the pairs that may still be.
 fn open_out(marks: &mut [u8], targets: &[u16], rest: &mut [u64], i: usize) -> usize
-    requires { ⌜ (length (now marks) ≡ 4160) × (length (now targets) ≡ 8192) × (i < 4096) × HoldsBeyond (now rest) (now marks) ⌝ }
+    requires { ⌜ (length (now marks) ≡ 4160) × (length (now targets) ≡ 8192) × (i < 64 * length (now rest)) × HoldsBeyond (now rest) (now marks) ⌝ }
     ensures { λ r. ⌜ Tried (now (targets .entry)) (now (marks .entry)) i r (now (marks .exit)) × HoldsBeyond (now (rest .exit)) (now (marks .exit)) ⌝ }
 {
     let n = open_if(marks, targets, i);
@@ -106,7 +107,7 @@ fn open_out(marks: &mut [u8], targets: &[u16], rest: &mut [u64], i: usize) -> us
 // Opens every pair of word p that is to be opened when its turn comes, from the highest down, and says how many that were. It goes through those
 // that are in rest when it begins: what is opened leaves rest, and none comes in.
 fn sweep_word_down(marks: &mut [u8], targets: &[u16], rest: &mut [u64], p: usize) -> usize
-    requires { ⌜ (length (now marks) ≡ 4160) × (length (now targets) ≡ 8192) × (p < 64) × HoldsBeyond (now rest) (now marks) ⌝ }
+    requires { ⌜ (length (now marks) ≡ 4160) × (length (now targets) ≡ 8192) × (p < length (now rest)) × HoldsBeyond (now rest) (now marks) ⌝ }
     ensures { λ r. ⌜ Swept (now (targets .entry)) (now (marks .entry)) (64 * p) (64 * p + 64) r (now (marks .exit)) × HoldsBeyond (now (rest .exit)) (now (marks .exit)) ⌝ }
 {
     let mut n = 0;
@@ -121,7 +122,7 @@ fn sweep_word_down(marks: &mut [u8], targets: &[u16], rest: &mut [u64], p: usize
 
 // The same from the lowest up.
 fn sweep_word_up(marks: &mut [u8], targets: &[u16], rest: &mut [u64], p: usize) -> usize
-    requires { ⌜ (length (now marks) ≡ 4160) × (length (now targets) ≡ 8192) × (p < 64) × HoldsBeyond (now rest) (now marks) ⌝ }
+    requires { ⌜ (length (now marks) ≡ 4160) × (length (now targets) ≡ 8192) × (p < length (now rest)) × HoldsBeyond (now rest) (now marks) ⌝ }
     ensures { λ r. ⌜ Swept (now (targets .entry)) (now (marks .entry)) (64 * p) (64 * p + 64) r (now (marks .exit)) × HoldsBeyond (now (rest .exit)) (now (marks .exit)) ⌝ }
 {
     let mut n = 0;
@@ -141,7 +142,7 @@ fn sweep_down(marks: &mut [u8], targets: &[u16], rest: &mut [u64]) -> usize
     ensures { λ r. ⌜ Swept (now (targets .entry)) (now (marks .entry)) 0 4096 r (now (marks .exit)) × HoldsBeyond (now (rest .exit)) (now (marks .exit)) ⌝ }
 {
     let mut n = 0;
-    let mut p = 64;
+    let mut p = rest.len();
     while 0 < p {
         p -= 1;
         n += sweep_word_down(marks, targets, rest, p);
@@ -156,7 +157,7 @@ fn sweep_up(marks: &mut [u8], targets: &[u16], rest: &mut [u64]) -> usize
 {
     let mut n = 0;
     let mut p = 0;
-    while p < 64 {
+    while p < rest.len() {
         n += sweep_word_up(marks, targets, rest, p);
         p += 1;
     }
@@ -193,11 +194,11 @@ fn open_rest(marks: &mut [u8], targets: &[u16], rest: &mut [u64])
 }
 
 fn copy(from: &[u64], to: &mut [u64])
-    requires { ⌜ (length (now from) ≡ 64) × (length (now to) ≡ 64) ⌝ }
+    requires { ⌜ length (now to) ≡ length (now from) ⌝ }
     ensures { λ _. ⌜ now (to .exit) ≡ now (from .entry) ⌝ }
 {
     let mut p = 0;
-    while p < 64 {
+    while p < from.len() {
         to[p] = from[p];
         p += 1;
     }
@@ -208,9 +209,10 @@ fn open_all(marks: &mut [u8], targets: &[u16], seen: &[u64])
     requires { ⌜ (length (now marks) ≡ 4160) × (length (now targets) ≡ 8192) × Holds (now seen) (now marks) ⌝ }
     ensures { λ _. ⌜ (now (marks .exit) ≡ allOpened (now (targets .entry)) (now (marks .entry))) × Holds (now (seen .entry)) (now (marks .exit)) ⌝ }
 {
-    let mut rest = [0u64; 64];
-    copy(seen, &mut rest);
-    open_rest(marks, targets, &mut rest);
+    let mut words = [0u64; 64];
+    let rest = &mut words[..seen.len()];
+    copy(seen, rest);
+    open_rest(marks, targets, rest);
 }
 
 // How many pairs are open, and how many became covered.
@@ -246,7 +248,7 @@ fn cover_from(marks: &mut [u8], targets: &[u16], i: usize) -> usize
 
 // The same of the open pairs of word p, which are counted too, from `so` on. Those not seen have no mark, and are not open.
 fn cover_word(marks: &mut [u8], targets: &[u16], seen: &[u64], p: usize, so: Counts) -> Counts
-    requires { ⌜ (length (now marks) ≡ 4160) × (length (now targets) ≡ 8192) × (p < 64) × Holds (now seen) (now marks) ⌝ }
+    requires { ⌜ (length (now marks) ≡ 4160) × (length (now targets) ≡ 8192) × (p < length (now seen)) × Holds (now seen) (now marks) ⌝ }
     requires { ⌜ (so .opened ≤ 4160) × (so .covered ≤ 4160) ⌝ }
     ensures { λ r. ⌜ (now (marks .exit) ≡ each (coverFrom (now (targets .entry))) (64 * p) 64 (now (marks .entry)))
         × Counted (now (marks .entry)) (now (marks .exit)) (64 * p) (64 * p + 64) so r ⌝ }
@@ -277,22 +279,21 @@ fn cover_all(marks: &mut [u8], targets: &[u16], seen: &[u64]) -> Counts
         covered: 0,
     };
     let mut p = 0;
-    while p < 64 {
+    while p < seen.len() {
         c = cover_word(marks, targets, seen, p, c);
         p += 1;
     }
     c
 }
 
-// All of it, from the start pair n, and the counts of marks 1 and 3. The pairs seen have every pair with a mark.
-pub fn rank(marks: &mut [u8], targets: &[u16], n: usize, seen: &mut [u64]) -> Counts
-    requires { ⌜ (length (now marks) ≡ 4160) × (length (now targets) ≡ 8192) × (n < 4096) × Holds (now seen) (now marks) ⌝ }
+// All of it, from the start pair n, and the counts of marks 1 and 3. The pairs seen have every pair with a mark, and the start pair.
+pub fn rank(marks: &mut [u8], targets: &[u16], n: usize, seen: &[u64]) -> Counts
+    requires { ⌜ (length (now marks) ≡ 4160) × (length (now targets) ≡ 8192) × (n < 4096) × Holds (now seen) (now marks) × Member (now seen) n ⌝ }
     ensures { λ r. ⌜ (now (marks .exit) ≡ finalMarks n (now (targets .entry)) (now (marks .entry)))
         × (r .opened ≡ count 1 (now (marks .exit))) × (r .covered ≡ count 3 (now (marks .exit))) ⌝ }
 {
-    members::add(seen, n);
-    plain(marks, &*seen);
+    plain(marks, seen);
     buffers::put8(marks, n, 1);
-    open_all(marks, targets, &*seen);
-    cover_all(marks, targets, &*seen)
+    open_all(marks, targets, seen);
+    cover_all(marks, targets, seen)
 }

@@ -38,7 +38,7 @@ fn lead_from(marks: &[u8], targets: &[u16], leads: &mut [u64], i: usize)
 
 // Likewise the pairs of word p. All of these that are beyond are members of rest.
 fn lead_word(marks: &[u8], targets: &[u16], rest: &[u64], leads: &mut [u64], p: usize)
-    requires { ⌜ (length (now marks) ≡ 4160) × (length (now targets) ≡ 8192) × HoldsBeyond (now rest) (now marks) × (length (now leads) ≡ 64) × (p < 64) ⌝ }
+    requires { ⌜ (length (now marks) ≡ 4160) × (length (now targets) ≡ 8192) × HoldsBeyond (now rest) (now marks) × (length (now leads) ≡ 64) × (p < length (now rest)) ⌝ }
     ensures { λ _. ⌜ now (leads .exit) ≡ each (ledFrom (now (targets .entry)) (now (marks .entry))) (64 * p) 64 (now (leads .entry)) ⌝ }
 {
     let mut word = rest[p];
@@ -55,7 +55,7 @@ fn lead_all(marks: &[u8], targets: &[u16], rest: &[u64], leads: &mut [u64])
     ensures { λ _. ⌜ now (leads .exit) ≡ each (ledFrom (now (targets .entry)) (now (marks .entry))) 0 4096 (now (leads .entry)) ⌝ }
 {
     let mut p = 0;
-    while p < 64 {
+    while p < rest.len() {
         lead_word(marks, targets, rest, leads, p);
         p += 1;
     }

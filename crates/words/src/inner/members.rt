@@ -2,7 +2,7 @@
 ghost use mathlib.Core.Path.{_≡_};
 ghost use mathlib.Core.Bool.{true};
 ghost use mathlib.Core.Logic.{_↔_};
-ghost use Prim.Native.Nat.{_+_, _*_, _≤_, _<_};
+ghost use Prim.Native.Nat.{_+_, _*_, _/_, _≤_, _<_};
 ghost use lib.ListN.{length};
 ghost use Rattle.words.specs.Words.{Member, added, removed, listed, LowestFrom, HighestBefore};
 use align::inner::sets::alone;
@@ -19,7 +19,7 @@ pub fn add(words: &mut [u64], n: usize)
 }
 
 pub fn remove(words: &mut [u64], n: usize)
-    requires { ⌜ (64 ≤ length (now words)) × (n < 4096) ⌝ }
+    requires { ⌜ n / 64 < length (now words) ⌝ }
     ensures { λ _. ⌜ now (words .exit) ≡ removed (now (words .entry)) n ⌝ }
 {
     let p = n / 64;

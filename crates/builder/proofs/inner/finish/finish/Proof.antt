@@ -1,5 +1,8 @@
 -- `builder::inner::finish::finish` meets its contract. Assumes nothing.
-use Rattle.builder.proofs.Finishing.{finish-alone, finish-joint, summed-alone, summed-joint}
+use mathlib.Core.Path.{sym, _∙_}
+use lib.Seq.{length-take-le}
+use Rattle.builder.proofs.Finishing.{used-most, used-targets, used-holds, used-here, finish-alone, finish-joint, summed-alone, summed-joint}
+use native.Mathlib.Omega.{arith}
 use borrow.Author.Needs.{needs}
 use Rattle.builder.proofs.inner.finish.finish.Statement.{statement}
 use Rattle.builder.proofs.inner.finish.finish.Tie as tie
@@ -31,11 +34,23 @@ returns c = (search finish-alone, summed-alone _ _ _ (c .before .before .before 
 first-pair-requires : tie.Need-first-pair-requires
 first-pair-requires c κs = search needs
 
+add-requires : tie.Need-add-requires
+add-requires c κs = search needs
+
+used-requires : tie.Need-used-requires
+used-requires c κs = search needs
+
+slice-reshare-prefix-cut : tie.Need-slice-reshare-prefix-cut
+slice-reshare-prefix-cut c = search needs
+
+slice-aggregate-cut : tie.Need-slice-aggregate-cut
+slice-aggregate-cut c = sym (length-take-le _ _ (c .before .used .ensures .0))
+
 redirect-kept-requires : tie.Need-redirect-kept-requires
-redirect-kept-requires c κs = search needs
+redirect-kept-requires c κs = ((search needs, search needs, used-most (c .before .before .before .before .before .before .before .before .before .before .before .before .before .before .before .before .before .before .pre .1) (omega arith) (c .before .before .before .before .before .before .before .add .ensures) (c .before .before .before .used .ensures)), used-targets (c .before .before .before .before .before .before .before .before .before .before .before .before .before .before .before .before .before .before .pre .1) (omega arith) (c .before .before .before .before .before .before .before .add .ensures) (c .before .before .before .used .ensures))
 
 rank-requires : tie.Need-rank-requires
-rank-requires c κs = search needs
+rank-requires c κs = (search needs, search needs, search needs, used-holds (c .before .before .before .before .before .before .before .before .before .before .before .before .before .before .before .before .before .before .before .before .before .before .before .pre .1) (omega arith) (c .before .before .before .before .before .before .before .before .before .before .before .before .add .ensures) (c .before .before .before .before .before .before .before .before .used .ensures), used-here (c .before .before .before .before .before .before .before .before .before .before .before .before .before .before .before .before .before .before .before .before .before .before .before .pre .1) (omega arith) (c .before .before .before .before .before .before .before .before .before .before .before .before .add .ensures) (c .before .before .before .before .before .before .before .before .used .ensures))
 
 count-row-requires : tie.Need-count-row-requires
 count-row-requires c κs = search needs
@@ -50,7 +65,7 @@ same-length-7 : tie.Need-same-length-7
 same-length-7 c = search needs
 
 returns-2 : tie.Need-returns-2
-returns-2 c = (search finish-joint, summed-joint _ _ _ (c .before .before .before .before .before .before .before .before .before .before .before .before .before .before .before .before .before .before .is-alone .ensures) _ _ (c .before .before .before .before .before .before .before .before .before .before .before .before .before .before .before .before .before .if1 .left) (c .before .before .before .before .before .before .before .before .before .before .before .before .before .before .before .before .first-pair .ensures) (c .before .before .before .before .before .before .before .before .before .before .before .before .before .before .before .before .before .before .before .before .before .before .before .before .before .pre .0 .marks) (search needs) (c .before .before .before .before .before .before .rank .ensures) (c .count-row .ensures))
+returns-2 c = (search finish-joint, summed-joint _ _ _ (c .before .before .before .before .before .before .before .before .before .before .before .before .before .before .before .before .before .before .before .before .before .is-alone .ensures) _ _ (c .before .before .before .before .before .before .before .before .before .before .before .before .before .before .before .before .before .before .before .before .if1 .left) (c .before .before .before .before .before .before .before .before .before .before .before .before .before .before .before .before .before .before .before .first-pair .ensures) (c .before .before .before .before .before .before .before .before .before .before .before .before .before .before .before .before .before .before .before .before .before .before .before .before .before .before .before .before .pre .0 .marks) (c .before .before .before .before .before .before .before .before .before .redirect-kept .kept .1 .0 ∙ c .before .before .before .before .before .before .before .before .before .before .before .before .before .before .before .before .before .before .before .before .before .before .before .before .before .before .before .before .pre .0 .targets) (c .before .before .before .before .rank .ensures) (c .count-row .ensures))
 
 pub finish-spec : {M : Type 1} → statement M
 finish-spec =
@@ -65,6 +80,10 @@ finish-spec =
     same-length-4
     returns
     first-pair-requires
+    add-requires
+    used-requires
+    slice-reshare-prefix-cut
+    slice-aggregate-cut
     redirect-kept-requires
     rank-requires
     count-row-requires

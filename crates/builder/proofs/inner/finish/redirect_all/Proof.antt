@@ -1,6 +1,6 @@
 -- `builder::inner::finish::redirect_all` meets its contract. Assumes nothing.
 use Prim.Native.Nat.{_-_}
-use native.Mathlib.Omega.{arith}
+use lib.ListN.{length}
 use Rattle.builder.proofs.Finishing.{Through, all-start, all-asks, all-again, all-end}
 use borrow.Author.Needs.{needs}
 use native.Mathlib.Omega.{arith}
@@ -11,7 +11,7 @@ abbrev Inv-loop : tie.InvT-loop
 Inv-loop marks targets₀ seen p₀ targets p = Through marks targets₀ targets p
 
 abbrev μ-loop : tie.MeasureT-loop
-μ-loop marks targets₀ seen p₀ targets p = 64 - p
+μ-loop marks targets₀ seen p₀ targets p = length seen - p
 
 loop-holds : tie.Need-loop-holds Inv-loop μ-loop
 loop-holds c = search all-start
@@ -32,13 +32,13 @@ loop-less : tie.Need-loop-less Inv-loop μ-loop
 loop-less c = search needs
 
 loop-again : tie.Need-loop-again Inv-loop μ-loop
-loop-again c = search all-again
+loop-again c = all-again _ _ (c .before .before .before .before .before .before .loop .inv) (omega arith) (c .before .before .redirect-word .ensures)
 
 same-length : tie.Need-same-length Inv-loop μ-loop
 same-length c = search needs
 
 returns : tie.Need-returns Inv-loop μ-loop
-returns c = all-end _ _ (c .before .loop .inv) (omega arith)
+returns c = all-end _ _ (c .before .loop .inv) (c .before .before .before .before .before .args .seen .now) (c .before .before .before .before .before .pre .1) (omega arith)
 
 pub redirect-all-spec : {M : Type 1} → statement M
 redirect-all-spec =

@@ -1,5 +1,6 @@
 -- `marker::inner::marks::copy` meets its contract. Assumes nothing.
 use Prim.Native.Nat.{_-_}
+use lib.ListN.{length}
 use Rattle.graph.proofs.Stores.{passing-none}
 use Rattle.marker.proofs.Seen.{Copying, copy-more, copy-end}
 use borrow.Author.Needs.{needs}
@@ -10,7 +11,7 @@ abbrev Inv-loop : tie.InvT-loop
 Inv-loop from to₀ p₀ to p = Copying from to₀ to p
 
 abbrev μ-loop : tie.MeasureT-loop
-μ-loop from to₀ p₀ to p = 64 - p
+μ-loop from to₀ p₀ to p = length from - p
 
 loop-holds : tie.Need-loop-holds Inv-loop μ-loop
 loop-holds c = passing-none _ _

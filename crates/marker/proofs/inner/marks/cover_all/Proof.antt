@@ -1,5 +1,6 @@
 -- `marker::inner::marks::cover_all` meets its contract. Assumes nothing.
 use Prim.Native.Nat.{_-_}
+use lib.ListN.{length}
 use Rattle.marker.proofs.Covering.{CoveringAll, all-start, all-few, all-more, all-end}
 use borrow.Author.Needs.{needs}
 use native.Mathlib.Omega.{arith}
@@ -10,7 +11,7 @@ abbrev Inv-loop : tie.InvT-loop
 Inv-loop marks₀ targets seen c₀ p₀ marks c p = CoveringAll targets seen marks₀ marks p c
 
 abbrev μ-loop : tie.MeasureT-loop
-μ-loop marks₀ targets seen c₀ p₀ marks c p = 64 - p
+μ-loop marks₀ targets seen c₀ p₀ marks c p = length seen - p
 
 loop-holds : tie.Need-loop-holds Inv-loop μ-loop
 loop-holds c = search all-start

@@ -1,4 +1,6 @@
 -- `marker::inner::marks::open_rest` meets its contract. Assumes nothing.
+use mathlib.Core.Path.{_≡_}
+use lib.ListN.{length}
 use Rattle.marker.specs.Seen.{HoldsBeyond}
 use Rattle.marker.proofs.Marks.{fours}
 use Rattle.marker.proofs.Orders.{Sweeping, sweeping-start}
@@ -9,7 +11,7 @@ use Rattle.marker.proofs.inner.marks.open_rest.Statement.{statement}
 use Rattle.marker.proofs.inner.marks.open_rest.Tie as tie
 
 abbrev Inv-loop : tie.InvT-loop
-Inv-loop marks₀ targets rest₀ marks rest = Sweeping targets marks₀ marks × HoldsBeyond rest marks
+Inv-loop marks₀ targets rest₀ marks rest = Sweeping targets marks₀ marks × HoldsBeyond rest marks × (length rest ≡ length rest₀)
 
 abbrev μ-loop : tie.MeasureT-loop
 μ-loop marks₀ targets rest₀ marks rest = fours targets marks
@@ -18,7 +20,7 @@ sweep-down-requires : tie.Need-sweep-down-requires Inv-loop μ-loop
 sweep-down-requires c κs = search needs
 
 loop-holds : tie.Need-loop-holds Inv-loop μ-loop
-loop-holds c = (sweeping-start _ _ (omega arith), search needs)
+loop-holds c = (sweeping-start _ _ (omega arith), search needs, search needs)
 
 sweep-both-requires : tie.Need-sweep-both-requires Inv-loop μ-loop
 sweep-both-requires c κs = search needs
@@ -51,7 +53,7 @@ loop-less : tie.Need-loop-less Inv-loop μ-loop
 loop-less c = passes-less _ (c .before .before .before .before .before .before .before .before .before .before .before .before .before .before .before .before .before .before .before .before .before .loop .inv .0) (c .before .before .before .before .before .before .before .before .before .before .before .before .before .before .before .before .before .before .sweep-both .ensures .0) (c .before .before .before .before .before .before .before .before .before .before .sweep-both2 .ensures .0) (c .before .before .spread .ensures) (c .before .before .before .before .before .before .before .before .before .before .before .before .before .if1 .left)
 
 loop-again : tie.Need-loop-again Inv-loop μ-loop
-loop-again c = (passes-again _ (c .before .before .before .before .before .before .before .before .before .before .before .before .before .before .before .before .before .before .before .before .before .loop .inv .0) (c .before .before .before .before .before .before .before .before .before .before .before .before .before .before .before .before .before .before .sweep-both .ensures .0) (c .before .before .before .before .before .before .before .before .before .before .sweep-both2 .ensures .0) (c .before .before .spread .ensures), passes-rest _ (c .before .before .before .before .before .before .before .before .before .before .before .before .before .before .before .before .before .before .before .before .before .loop .inv .0) (c .before .before .before .before .before .before .before .before .before .before .before .before .before .before .before .before .before .before .sweep-both .ensures .0) (c .before .before .before .before .before .before .before .before .before .before .sweep-both2 .ensures .0) (c .before .before .spread .ensures) (c .before .before .before .before .before .before .before .before .before .before .sweep-both2 .ensures .1))
+loop-again c = (passes-again _ (c .before .before .before .before .before .before .before .before .before .before .before .before .before .before .before .before .before .before .before .before .before .loop .inv .0) (c .before .before .before .before .before .before .before .before .before .before .before .before .before .before .before .before .before .before .sweep-both .ensures .0) (c .before .before .before .before .before .before .before .before .before .before .sweep-both2 .ensures .0) (c .before .before .spread .ensures), passes-rest _ (c .before .before .before .before .before .before .before .before .before .before .before .before .before .before .before .before .before .before .before .before .before .loop .inv .0) (c .before .before .before .before .before .before .before .before .before .before .before .before .before .before .before .before .before .before .sweep-both .ensures .0) (c .before .before .before .before .before .before .before .before .before .before .sweep-both2 .ensures .0) (c .before .before .spread .ensures) (c .before .before .before .before .before .before .before .before .before .before .sweep-both2 .ensures .1), search needs)
 
 pub open-rest-spec : {M : Type 1} → statement M
 open-rest-spec =

@@ -1,5 +1,6 @@
 -- `marker::inner::marks::plain` meets its contract. Assumes nothing.
 use Prim.Native.Nat.{_-_}
+use lib.ListN.{length}
 use mathlib.Core.Path.{_∙_}
 use mathlib.Core.Logic.{⊎-elim}
 use Rattle.marker.proofs.Ranking.{Plain, plain-start, plain-more, plain-past, plain-end}
@@ -12,7 +13,7 @@ abbrev Inv-loop : tie.InvT-loop
 Inv-loop marks₀ seen p₀ marks p = Plain marks₀ marks p
 
 abbrev μ-loop : tie.MeasureT-loop
-μ-loop marks₀ seen p₀ marks p = 64 - p
+μ-loop marks₀ seen p₀ marks p = length seen - p
 
 loop-holds : tie.Need-loop-holds Inv-loop μ-loop
 loop-holds c = search plain-start
@@ -47,7 +48,7 @@ same-length : tie.Need-same-length Inv-loop μ-loop
 same-length c = search needs
 
 returns : tie.Need-returns Inv-loop μ-loop
-returns c = plain-end (c .before .before .before .before .before .loop .inv) (omega arith) (c .before .before .plain-row2 .ensures)
+returns c = plain-end (c .before .before .before .before .before .loop .inv) (c .before .before .before .before .before .before .before .before .pre .1) (omega arith) (c .before .before .plain-row2 .ensures)
 
 pub plain-spec : {M : Type 1} → statement M
 plain-spec =

@@ -1,15 +1,12 @@
 -- `marker::inner::marks::rank` meets its contract. Assumes nothing.
 use Rattle.marker.proofs.Ranking.{rank-is}
-use Rattle.marker.proofs.Seen.{holds-added, holds-started}
+use Rattle.marker.proofs.Seen.{holds-started}
 use borrow.Author.Needs.{needs}
 use Rattle.marker.proofs.inner.marks.rank.Statement.{statement}
 use Rattle.marker.proofs.inner.marks.rank.Tie as tie
 
-add-requires : tie.Need-add-requires
-add-requires c κs = search needs
-
 plain-requires : tie.Need-plain-requires
-plain-requires c κs = (search needs, search holds-added)
+plain-requires c κs = search needs
 
 put8-requires : tie.Need-put8-requires
 put8-requires c κs = search needs
@@ -23,23 +20,18 @@ cover-all-requires c κs = search needs
 same-length : tie.Need-same-length
 same-length c = search needs
 
-same-length-2 : tie.Need-same-length-2
-same-length-2 c = search needs
-
 returns : tie.Need-returns
 returns c =
-    let q = c .before .before .before .before .before .before .before .before .before .before .before .before .before .before .before .before .before .before .before .before .before .before .before .before .before .before .pre in
-    rank-is _ _ _ (q .0) (q .1) (q .2) (c .before .before .before .before .before .before .before .before .before .before .before .before .before .before .before .before .plain .ensures) (c .before .before .before .before .before .before .before .before .before .before .before .before .put8 .ensures) (c .before .before .before .before .before .before .before .open-all .ensures .0) (c .before .before .cover-all .ensures)
+    let q = c .before .before .before .before .before .before .before .before .before .before .before .before .before .before .before .before .before .before .before .pre in
+    rank-is _ _ _ (q .0) (q .1) (q .2) (c .before .before .before .before .before .before .before .before .before .before .before .before .before .before .plain .ensures) (c .before .before .before .before .before .before .before .before .before .before .put8 .ensures) (c .before .before .before .before .before .before .open-all .ensures .0) (c .before .before .cover-all .ensures)
 
 pub rank-spec : {M : Type 1} → statement M
 rank-spec =
     tie.close
     (tie.spec
-    add-requires
     plain-requires
     put8-requires
     open-all-requires
     cover-all-requires
     same-length
-    same-length-2
     returns)

@@ -1,5 +1,7 @@
 -- `marker::inner::marks::sweep_up` meets its contract. Assumes nothing.
+use mathlib.Core.Path.{_≡_}
 use Prim.Native.Nat.{_*_, _-_, _≤_}
+use lib.ListN.{length}
 use Rattle.marker.specs.Seen.{HoldsBeyond}
 use Rattle.marker.specs.Marks.{Swept}
 use Rattle.marker.proofs.Orders.{swept-start}
@@ -9,13 +11,14 @@ use Rattle.marker.proofs.inner.marks.sweep_up.Statement.{statement}
 use Rattle.marker.proofs.inner.marks.sweep_up.Tie as tie
 
 abbrev Inv-loop : tie.InvT-loop
-Inv-loop marks₀ targets rest₀ n₀ p₀ marks rest n p = Swept targets marks₀ 0 (64 * p) n marks × (p ≤ 64) × HoldsBeyond rest marks
+Inv-loop marks₀ targets rest₀ n₀ p₀ marks rest n p =
+    Swept targets marks₀ 0 (64 * p) n marks × (p ≤ length rest) × HoldsBeyond rest marks × (length rest ≡ length rest₀)
 
 abbrev μ-loop : tie.MeasureT-loop
-μ-loop marks₀ targets rest₀ n₀ p₀ marks rest n p = 64 - p
+μ-loop marks₀ targets rest₀ n₀ p₀ marks rest n p = length rest₀ - p
 
 loop-holds : tie.Need-loop-holds Inv-loop μ-loop
-loop-holds c = (search swept-start, search needs, search needs)
+loop-holds c = (search swept-start, search needs, search needs, search needs)
 
 sweep-word-up-requires : tie.Need-sweep-word-up-requires Inv-loop μ-loop
 sweep-word-up-requires c κs = search needs
@@ -30,7 +33,7 @@ loop-less : tie.Need-loop-less Inv-loop μ-loop
 loop-less c = search needs
 
 loop-again : tie.Need-loop-again Inv-loop μ-loop
-loop-again c = (search up-more, search needs, search needs)
+loop-again c = (search up-more, search needs, search needs, search needs)
 
 same-length : tie.Need-same-length Inv-loop μ-loop
 same-length c = search needs

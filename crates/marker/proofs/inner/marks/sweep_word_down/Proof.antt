@@ -1,4 +1,6 @@
 -- `marker::inner::marks::sweep_word_down` meets its contract. Assumes nothing.
+use mathlib.Core.Path.{_≡_}
+use lib.ListN.{length}
 use Rattle.marker.specs.Seen.{HoldsBeyond}
 use Rattle.marker.proofs.Sweeps.{Downwards, downwards-start, downwards-less, downwards-more, downwards-end}
 use borrow.Author.Needs.{needs}
@@ -7,7 +9,8 @@ use Rattle.marker.proofs.inner.marks.sweep_word_down.Statement.{stateme
 use Rattle.marker.proofs.inner.marks.sweep_word_down.Tie as tie
 
 abbrev Inv-loop : tie.InvT-loop
-Inv-loop marks₀ targets rest₀ p n₀ word₀ marks rest n word = Downwards targets rest₀ p marks₀ marks n word × HoldsBeyond rest marks
+Inv-loop marks₀ targets rest₀ p n₀ word₀ marks rest n word =
+    Downwards targets rest₀ p marks₀ marks n word × HoldsBeyond rest marks × (length rest ≡ length rest₀)
 
 abbrev μ-loop : tie.MeasureT-loop
 μ-loop marks₀ targets rest₀ p n₀ word₀ marks rest n word = word
@@ -19,7 +22,7 @@ slice-read-word : tie.Need-slice-read-word Inv-loop μ-loop
 slice-read-word c = search needs
 
 loop-holds : tie.Need-loop-holds Inv-loop μ-loop
-loop-holds c = (search downwards-start, search needs)
+loop-holds c = (search downwards-start, search needs, search needs)
 
 highest-requires : tie.Need-highest-requires Inv-loop μ-loop
 highest-requires c κs = search needs
@@ -49,7 +52,7 @@ loop-less : tie.Need-loop-less Inv-loop μ-loop
 loop-less c = search downwards-less
 
 loop-again : tie.Need-loop-again Inv-loop μ-loop
-loop-again c = (search downwards-more, search needs)
+loop-again c = (search downwards-more, search needs, search needs)
 
 same-length : tie.Need-same-length Inv-loop μ-loop
 same-length c = search needs

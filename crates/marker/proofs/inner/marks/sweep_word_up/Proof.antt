@@ -1,5 +1,7 @@
 -- `marker::inner::marks::sweep_word_up` meets its contract. Assumes nothing.
 use Rattle.words.proofs.Rests.{coming-less}
+use mathlib.Core.Path.{_≡_}
+use lib.ListN.{length}
 use Rattle.marker.specs.Seen.{HoldsBeyond}
 use Rattle.marker.proofs.Sweeps.{Upwards, upwards-start, upwards-more, upwards-end}
 use borrow.Author.Needs.{needs}
@@ -7,7 +9,8 @@ use Rattle.marker.proofs.inner.marks.sweep_word_up.Statement.{statement
 use Rattle.marker.proofs.inner.marks.sweep_word_up.Tie as tie
 
 abbrev Inv-loop : tie.InvT-loop
-Inv-loop marks₀ targets rest₀ p n₀ word₀ marks rest n word = Upwards targets rest₀ p marks₀ marks n word × HoldsBeyond rest marks
+Inv-loop marks₀ targets rest₀ p n₀ word₀ marks rest n word =
+    Upwards targets rest₀ p marks₀ marks n word × HoldsBeyond rest marks × (length rest ≡ length rest₀)
 
 abbrev μ-loop : tie.MeasureT-loop
 μ-loop marks₀ targets rest₀ p n₀ word₀ marks rest n word = word
@@ -19,7 +22,7 @@ slice-read-word : tie.Need-slice-read-word Inv-loop μ-loop
 slice-read-word c = search needs
 
 loop-holds : tie.Need-loop-holds Inv-loop μ-loop
-loop-holds c = (search upwards-start, search needs)
+loop-holds c = (search upwards-start, search needs, search needs)
 
 lowest-requires : tie.Need-lowest-requires Inv-loop μ-loop
 lowest-requires c κs = search needs
@@ -46,7 +49,7 @@ loop-less : tie.Need-loop-less Inv-loop μ-loop
 loop-less c = search coming-less
 
 loop-again : tie.Need-loop-again Inv-loop μ-loop
-loop-again c = (search upwards-more, search needs)
+loop-again c = (search upwards-more, search needs, search needs)
 
 same-length : tie.Need-same-length Inv-loop μ-loop
 same-length c = search needs

@@ -1,5 +1,6 @@
 -- `marker::inner::spread::lead_all` meets its contract. Assumes nothing.
 use Prim.Native.Nat.{_-_}
+use lib.ListN.{length}
 use Rattle.marker.proofs.Leads.{Led, led-start, led-more, led-end}
 use borrow.Author.Needs.{needs}
 use Rattle.marker.proofs.inner.spread.lead_all.Statement.{statement}
@@ -9,7 +10,7 @@ abbrev Inv-loop : tie.InvT-loop
 Inv-loop marks targets rest leads₀ p₀ leads p = Led targets marks leads₀ leads p
 
 abbrev μ-loop : tie.MeasureT-loop
-μ-loop marks targets rest leads₀ p₀ leads p = 64 - p
+μ-loop marks targets rest leads₀ p₀ leads p = length rest - p
 
 loop-holds : tie.Need-loop-holds Inv-loop μ-loop
 loop-holds c = search led-start
