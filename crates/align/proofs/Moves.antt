@@ -1,5 +1,5 @@
 -- The aligned step branch by branch, as the code comes upon it. Assumes nothing.
-use mathlib.Core.Path.{_≡_, refl, sym, ap, _∙_}
+use mathlib.Core.Path.{_≡_, refl, sym, ap, subst, _∙_}
 use mathlib.Core.Bool.{Bool, true, false, _&&_, _||_, not}
 use mathlib.Core.List.{List}
 use mathlib.Core.Option.{Option, none, some}
@@ -7,6 +7,7 @@ use Prim.Native.Nat.{ℕ, zero, suc, _-_, _^_, _<_, _≤_}
 use native.Mathlib.Omega.{arith}
 use Rattle.base.specs.Options.{orElse}
 use Rattle.base.specs.Says.{bool}
+use Rattle.base.proofs.Tests.{and-true}
 use Rattle.base.proofs.Picks.{pick-true, pick-false, pick-none, pick-some}
 use Rattle.base.proofs.Maybe.{All, All-none, All-some, All-map, All-when, All-orElse}
 use Rattle.chart.specs.declared.operations.Operation.{Operation}
@@ -14,12 +15,12 @@ use Rattle.chart.specs.declared.places.OldPlace.{OldPlace}
 use Rattle.chart.specs.declared.places.NewPlace.{NewPlace}
 use Rattle.chart.specs.Charts.{Chart, size, to, operation, leaving}
 use Rattle.chart.specs.Faultless.{FaultlessChart}
-use Rattle.chart.specs.Operations.{same, isAssignment, isAssumption}
+use Rattle.chart.specs.Operations.{isAssignment, isAssumption, same}
 use Rattle.chart.specs.Trials.{implication}
 use Rattle.align.specs.declared.spots.Spot.{Spot}
 use Rattle.align.specs.Sets.{alone, joined, with, without, meets, readSet}
 use Rattle.align.specs.Steps.{find, isImplied, along, matching, matched, rewritten, rowsAt, atAlarm, assigned, onward, follow, followed, counterpart, assumed, moved, fair, arrived, step}
-use Rattle.align.proofs.Onto.{further, picked, Among, found}
+use Rattle.align.proofs.Onto.{same→eq, further, picked, Among, found}
 use Rattle.align.proofs.Parts.{row-of, row-same}
 
 -- ---- lines 7 and 8
@@ -51,6 +52,16 @@ matching-there rows o = All-orElse (found rows (λ o′. same o′ o) (λ o t. t
 
 pub matching-inside : (rows : List ℕ) (o : Operation) (k : ℕ) → some k ≡ matching rows o → k < size rows
 matching-inside rows o k e = matching-there rows o .of k (sym e) .inside
+
+-- what is matched with an assumption is one too
+matching-assumes : (rows : List ℕ) (o : Operation) → isAssumption o ≡ true → All (Among rows (λ o. isAssumption o ≡ true)) (matching rows o)
+unfolding matching
+matching-assumes rows o t =
+    All-orElse (found rows (λ o′. same o′ o) (λ o′ e. subst (λ (x : Operation). isAssumption x ≡ true) (sym (same→eq o′ o e)) t))
+    (found rows (λ o′. isAssumption o′ && isImplied (implication o o′)) (λ o′ e. and-true (isAssumption o′) _ e .0))
+
+pub matched-assumes : (rows : List ℕ) (o : Operation) (k : ℕ) → isAssumption o ≡ true → some k ≡ matching rows o → isAssumption (operation rows k) ≡ true
+matched-assumes rows o k t e = matching-assumes rows o t .of k (sym e) .fits
 
 -- ---- lines 6 to 10
 module _ (old : Chart) (h : Spot) (o : Operation) {rows : List ℕ} {x : Option ℕ} (r : rows ≡ rowsAt old (h .place)) (e : x ≡ find rows (λ o′. same o′ o)) where

@@ -13,7 +13,7 @@ use Rattle.base.proofs.Options.{first-at, none-at, none-all, none-everywhere}
 use Rattle.chart.specs.declared.operations.Operation.{Operation}
 use Rattle.chart.specs.Charts.{Chart, size, operation, leaving}
 use Rattle.chart.specs.Faultless.{FaultlessChart}
-use Rattle.chart.specs.Operations.{isAssignment, isAssumption, operandsFit}
+use Rattle.chart.specs.Operations.{isKnown, isAssignment, isAssumption, operandsFit}
 use Rattle.chart.specs.Trials.{never, implies, implication}
 use Rattle.chart.specs.declared.assumptions.Implication.the-variants.{Implied, NotImplied}
 use Rattle.align.specs.Steps.{find, isImplied}
@@ -75,11 +75,12 @@ met-implies o o2 n = rw n (go (implies o o2))
     go false = refl
 
 -- ---- the rows of a place of a faultless chart
--- the operands of a row of a place of a faultless chart fit
-pub part-fits : (C : Chart) (p k : ℕ) → FaultlessChart C → k < size (leaving (C .table) p) → operandsFit (operation (leaving (C .table) p) k) ≡ true
-part-fits C p k F l =
+-- the code of a row of a place of a faultless chart is known, and its operands fit
+pub part-right : (C : Chart) (p k : ℕ) → FaultlessChart C → k < size (leaving (C .table) p)
+    → (isKnown (operation (leaving (C .table) p) k) ≡ true) × (operandsFit (operation (leaving (C .table) p) k) ≡ true)
+part-right C p k F l =
     let (i, r) = row-of (C .table) p k l in
-    subst (λ (o : Operation). operandsFit o ≡ true) (sym (row-same (C .table) p r .operation-same)) (F .rows i (r .inside) .fit)
+    subst (λ (o : Operation). (isKnown o ≡ true) × (operandsFit o ≡ true)) (sym (row-same (C .table) p r .operation-same)) (F .rows i (r .inside) .known, F .rows i (r .inside) .fit)
 
 -- a row after the first of its place is no assignment: both are assumptions
 pub later-row : (C : Chart) (p k : ℕ) → FaultlessChart C → 0 < k → k < size (leaving (C .table) p) → isAssignment (operation (leaving (C .table) p) k) ≡ false

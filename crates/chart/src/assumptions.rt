@@ -61,7 +61,7 @@ fn holds(f: Operation, s: Seats, x: u32, y: u32) -> bool
 }
 
 // The second variable that f compares, if any, else the first.
-fn partner(f: Operation) -> u32
+pub fn partner(f: Operation) -> u32
     ensures { λ r. ⌜ r ≡ partner f ⌝ }
 {
     if with_constant(f) { f.a } else { f.b }

@@ -21,13 +21,13 @@ use Rattle.chart.specs.declared.places.OldPlace.{OldPlace}
 use Rattle.chart.specs.declared.places.NewPlace.{NewPlace}
 use Rattle.chart.specs.Charts.{Chart, size, to, operation, leaving}
 use Rattle.chart.specs.Faultless.{FaultlessChart}
-use Rattle.chart.specs.Operations.{operandsFit}
+use Rattle.chart.specs.Operations.{isKnown, operandsFit}
 use Rattle.chart.specs.Places.{pairNumber, keptNumber, oldOf, newOf}
 use Rattle.align.specs.declared.spots.Spot.{Spot}
 use Rattle.align.specs.Sets.{holdsAll}
 use Rattle.align.specs.Steps.{step}
 use Rattle.align.proofs.Moves.{part-below, step-below}
-use Rattle.align.proofs.Seek.{part-fits}
+use Rattle.align.proofs.Seek.{part-right}
 use Rattle.checker.specs.Records.{Graph, mark, setAt, spot, target, index}
 use Rattle.checker.specs.Rules.{targetFits, keeps, joins, joinsStep, restsAt, ranked, leads, rowFits}
 use Rattle.checker.specs.Checks.{targetFault, rowsFault, pairFault}
@@ -105,8 +105,8 @@ module _ (marks : List ℕ) (m t : ℕ) {r : Bool} (some : t ≡ 65535 → ⊥) 
 -- ---- the aligned step
 -- a row of the part that leaves a new place
 module _ (new : Chart) (F : FaultlessChart new) {rows : List ℕ} (p k : ℕ) (e : rows ≡ leaving (new .table) p) (l : k < size rows) where
-  pub row-operands : operandsFit (operation rows k) ≡ true
-  row-operands = subst (λ (rows : List ℕ). operandsFit (operation rows k) ≡ true) (sym e) (part-fits new p k F (subst (λ (rows : List ℕ). k < size rows) e l))
+  pub row-right : (isKnown (operation rows k) ≡ true) × (operandsFit (operation rows k) ≡ true)
+  row-right = subst (λ (rows : List ℕ). (isKnown (operation rows k) ≡ true) × (operandsFit (operation rows k) ≡ true)) (sym e) (part-right new p k F (subst (λ (rows : List ℕ). k < size rows) e l))
 
   pub row-below : {q : NewPlace} → q .0 ≡ to rows k → q .0 < 64
   row-below z = subst (λ (x : ℕ). x < 64) (sym (z ∙ ap (λ (rows : List ℕ). to rows k) e)) (part-below new F p k (subst (λ (rows : List ℕ). k < size rows) e l))

@@ -7,17 +7,16 @@ use Prim.Native.Nat.{ℕ, zero, suc, _+_, _/_, _%_, _^_, _≤_, _<_}
 use native.Mathlib.Omega.{arith}
 use borrow.Author.Tests.{lt-ltb, le-ltb}
 use lib.ListN.{length, getD, set, length-set}
-use Rattle.chart.specs.declared.operations.Operation.{Operation}
 use Rattle.chart.specs.declared.places.OldPlace.{OldPlace}
 use Rattle.chart.specs.declared.places.NewPlace.{NewPlace}
 use Rattle.chart.specs.Charts.{Chart, size, to, operation, leaving}
 use Rattle.chart.specs.Faultless.{FaultlessChart}
-use Rattle.chart.specs.Operations.{operandsFit}
+use Rattle.chart.specs.Operations.{isKnown, operandsFit}
 use Rattle.chart.specs.Places.{oldOf, newOf}
 use Rattle.align.specs.declared.spots.Spot.{Spot}
 use Rattle.align.specs.declared.spots.Aligned.{Aligned}
 use Rattle.align.specs.Steps.{told, step}
-use Rattle.align.proofs.Parts.{row-of, row-same}
+use Rattle.align.proofs.Seek.{part-right}
 use Rattle.words.specs.Words.{removed}
 use Rattle.graph.specs.Graphs.{Graph, graph, Sized, Tracks, marked, unwait}
 use Rattle.detector.specs.Turns.{rowsOf, leadsTo, setNow, stepOf, processed, rowDone, secondDone, taken}
@@ -33,11 +32,9 @@ module _ (new : Chart) (n r : ℕ) {q′ : NewPlace} {part : List ℕ} (a : q′
   pub part-there : r < length part / 6 → r < size (rowsOf new n)
   part-there l = subst (λ (x : List ℕ). r < length x / 6) part-is l
 
-  pub part-fit : FaultlessChart new → r < length part / 6 → operandsFit (operation part r) ≡ true
-  part-fit G l =
-      let (i, z) = row-of (new .table) (n % 64) r (part-there l) in
-      let e = row-same (new .table) (n % 64) z .operation-same in
-      subst (λ (x : List ℕ). operandsFit (operation x r) ≡ true) (sym part-is) (subst (λ (o : Operation). operandsFit o ≡ true) (sym e) (G .rows i (z .inside) .fit))
+  pub row-right : FaultlessChart new → r < length part / 6 → (isKnown (operation part r) ≡ true) × (operandsFit (operation part r) ≡ true)
+  row-right G l =
+      subst (λ (x : List ℕ). (isKnown (operation x r) ≡ true) × (operandsFit (operation x r) ≡ true)) (sym part-is) (part-right new (n % 64) r G (part-there l))
 
   part-leads : (q : NewPlace) → q .0 ≡ to part r → q ≡ leadsTo new n r
   part-leads q e = let z : q .0 ≡ to (rowsOf new n) r = e ∙ ap (λ (x : List ℕ). to x r) part-is in λ i. record { 0 = z i }

@@ -2,10 +2,10 @@
 ghost use mathlib.Core.Path.{_≡_};
 ghost use mathlib.Core.Bool.{true};
 ghost use Prim.Native.Nat.{_<_};
-ghost use Rattle.chart.specs.Operations.{operandB, operandC, fits, ifVariable, operandsFit};
+ghost use Rattle.chart.specs.Operations.{isAssignment, isAssumption, fits, ifVariable, operandsFit};
 ghost use Rattle.align.specs.Sets.{alone, joined, with, without, meets, holdsAll, setOf, readSet};
+use chart::assumptions::partner;
 use chart::operations;
-use chart::operations::Kind;
 use chart::operations::Operand;
 use chart::operations::Operation;
 
@@ -63,10 +63,10 @@ fn if_variable(operand: Operand, x: u32) -> u64
     }
 }
 
-// The variables on the right of an assignment.
+// The variables that an assignment reads: those on its right.
 fn right(o: Operation) -> u64
-    requires { ⌜ operandsFit o ≡ true ⌝ }
-    ensures { λ r. ⌜ r ≡ joined (setOf (ifVariable (operandB o) (o .b))) (setOf (ifVariable (operandC o) (o .c))) ⌝ }
+    requires { ⌜ (isAssignment o ≡ true) × (operandsFit o ≡ true) ⌝ }
+    ensures { λ r. ⌜ r ≡ readSet o ⌝ }
 {
     joined(
         if_variable(operations::operand_b(o), o.b),
@@ -74,26 +74,22 @@ fn right(o: Operation) -> u64
     )
 }
 
-// The variables that an operation reads: by its kind, told once.
-pub fn reads(o: Operation) -> u64
-    requires { ⌜ operandsFit o ≡ true ⌝ }
-    ensures { λ r. ⌜ r ≡ readSet o ⌝ }
-{
-    match operations::kind_of(o.code) {
-        Kind::Assignment => right(o),
-        Kind::ConstantComparison => alone(o.a),
-        Kind::VariableComparison => joined(alone(o.a), alone(o.b)),
-        Kind::Unknown => 0,
-    }
-}
-
-// Whether some variable that an operation reads is in s. Nothing is in an empty set, as most are.
-pub fn meets_reads(s: u64, o: Operation) -> bool
-    requires { ⌜ operandsFit o ≡ true ⌝ }
+// Whether some variable that an assignment reads is in s. Nothing is in an empty set, as most are.
+pub fn meets_right(s: u64, o: Operation) -> bool
+    requires { ⌜ (isAssignment o ≡ true) × (operandsFit o ≡ true) ⌝ }
     ensures { λ r. ⌜ r ≡ meets s (readSet o) ⌝ }
 {
     if s == 0 {
         return false;
     }
-    meets(s, reads(o))
+    meets(s, right(o))
+}
+
+// Whether some variable that an assumption compares is in s. One that compares with a constant has its variable for both, so that no
+// jump tells the kinds apart.
+pub fn meets_compared(s: u64, o: Operation) -> bool
+    requires { ⌜ (isAssumption o ≡ true) × (operandsFit o ≡ true) ⌝ }
+    ensures { λ r. ⌜ r ≡ meets s (readSet o) ⌝ }
+{
+    meets(s, joined(alone(o.a), alone(partner(o))))
 }

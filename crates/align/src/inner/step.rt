@@ -6,7 +6,7 @@ ghost use Rattle.base.specs.Says.{bool};
 ghost use Rattle.chart.specs.Charts.{charted, size, to, operation};
 ghost use Rattle.chart.specs.Faultless.{FaultlessChart};
 ghost use Rattle.chart.specs.Lookup.{Indexed};
-ghost use Rattle.chart.specs.Operations.{same, operandsFit};
+ghost use Rattle.chart.specs.Operations.{isKnown, isAssignment, isAssumption, same, operandsFit};
 ghost use Rattle.align.specs.Steps.{told, find, rewritten, assigned, matched, counterpart, assumed, moved, fair, arrived, rowsAt, step};
 use crate::inner::follow::follow;
 use crate::inner::seek;
@@ -28,10 +28,10 @@ use chart::places::Place;
 
 // The set after an assignment that both charts take.
 fn rewritten(set: u64, o: Operation) -> u64
-    requires { ⌜ operandsFit o ≡ true ⌝ }
+    requires { ⌜ (isAssignment o ≡ true) × (operandsFit o ≡ true) ⌝ }
     ensures { λ r. ⌜ r ≡ rewritten set o ⌝ }
 {
-    if sets::meets_reads(set, o) {
+    if sets::meets_right(set, o) {
         return sets::with(set, o.a);
     }
     sets::without(set, o.a)
@@ -50,7 +50,7 @@ fn assigned<'a>(
     requires { ⌜ FaultlessChart (charted old (now «old_rows»)) ⌝ }
     requires { ⌜ Indexed (now «old_rows») (now «new_rows») (now index) ⌝ }
     requires { ⌜ h .place .0 < 64 ⌝ }
-    requires { ⌜ (j < size (now part)) × (operandsFit (operation (now part) j) ≡ true) ⌝ }
+    requires { ⌜ (j < size (now part)) × (isAssignment (operation (now part) j) ≡ true) × (operandsFit (operation (now part) j) ≡ true) ⌝ }
     ensures { λ r. ⌜ r ≡ assigned (charted old (now («old_rows» .entry))) h (operation (now (part .entry)) j) (find (rowsAt (charted old (now («old_rows» .entry))) (h .place)) (λ o. same o (operation (now (part .entry)) j))) ⌝ }
 {
     let p = h.place;
@@ -70,13 +70,14 @@ fn assigned<'a>(
 
 // By an assumption and row k of the old place, which is matched with it.
 fn matched(set: u64, rows: &[u32], k: usize, o: Operation) -> Aligned
-    requires { ⌜ (k < size (now rows)) × (operandsFit (operation (now rows) k) ≡ true) × (operandsFit o ≡ true) ⌝ }
+    requires { ⌜ (k < size (now rows)) × (isAssumption (operation (now rows) k) ≡ true) × (operandsFit (operation (now rows) k) ≡ true) ⌝ }
+    requires { ⌜ (isAssumption o ≡ true) × (operandsFit o ≡ true) ⌝ }
     ensures { λ r. ⌜ told r ≡ matched set (now (rows .entry)) k o ⌝ }
 {
-    if sets::meets_reads(set, o) {
+    if sets::meets_compared(set, o) {
         return Aligned::Failed;
     }
-    if sets::meets_reads(set, operation_at(rows, k)) {
+    if sets::meets_compared(set, operation_at(rows, k)) {
         return Aligned::Failed;
     }
     Aligned::To(Spot {
@@ -98,7 +99,7 @@ fn assumed<'a>(
     requires { ⌜ FaultlessChart (charted old (now «old_rows»)) ⌝ }
     requires { ⌜ Indexed (now «old_rows») (now «new_rows») (now index) ⌝ }
     requires { ⌜ h .place .0 < 64 ⌝ }
-    requires { ⌜ (j < size (now part)) × (operandsFit (operation (now part) j) ≡ true) ⌝ }
+    requires { ⌜ (j < size (now part)) × (isAssumption (operation (now part) j) ≡ true) × (operandsFit (operation (now part) j) ≡ true) ⌝ }
     ensures { λ r. ⌜ told r ≡ assumed (charted old (now («old_rows» .entry))) h (operation (now (part .entry)) j) (counterpart (charted old (now («old_rows» .entry))) (h .place) (operation (now (part .entry)) j)) ⌝ }
 {
     let p = h.place;
@@ -125,7 +126,7 @@ fn moved<'a>(
     requires { ⌜ FaultlessChart (charted old (now «old_rows»)) ⌝ }
     requires { ⌜ Indexed (now «old_rows») (now «new_rows») (now index) ⌝ }
     requires { ⌜ h .place .0 < 64 ⌝ }
-    requires { ⌜ (j < size (now part)) × (operandsFit (operation (now part) j) ≡ true) ⌝ }
+    requires { ⌜ (j < size (now part)) × (isKnown (operation (now part) j) ≡ true) × (operandsFit (operation (now part) j) ≡ true) ⌝ }
     ensures { λ r. ⌜ told r ≡ moved (charted old (now («old_rows» .entry))) h (operation (now (part .entry)) j) ⌝ }
 {
     if operations::is_assignment(operation_at(part, j)) {
@@ -177,7 +178,7 @@ pub fn step<'a>(
     requires { ⌜ FaultlessChart (charted old (now «old_rows»)) ⌝ }
     requires { ⌜ Indexed (now «old_rows») (now «new_rows») (now index) ⌝ }
     requires { ⌜ p .0 < 64 ⌝ }
-    requires { ⌜ (j < size (now part)) × (operandsFit (operation (now part) j) ≡ true) ⌝ }
+    requires { ⌜ (j < size (now part)) × (isKnown (operation (now part) j) ≡ true) × (operandsFit (operation (now part) j) ≡ true) ⌝ }
     ensures { λ r. ⌜ told r ≡ step (charted old (now («old_rows» .entry))) (charted new (now («new_rows» .entry))) (record { place = p; set = set }) (operation (now (part .entry)) j) (record { 0 = to (now (part .entry)) j }) ⌝ }
 {
     let h = Spot { place: p, set };

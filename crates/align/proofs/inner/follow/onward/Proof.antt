@@ -2,7 +2,7 @@
 use mathlib.Core.Path.{_≡_, sym, ap, subst, _∙_}
 use Rattle.align.proofs.Moves.{onward-ends, onward-by}
 use Rattle.align.specs.Steps.{toldFound, along}
-use Rattle.align.proofs.Seek.{found-inside, part-fits, later-row}
+use Rattle.align.proofs.Seek.{found-inside, part-right, later-row}
 use Rattle.chart.specs.Charts.{size, operation}
 use Rattle.chart.specs.Operations.{isAssignment, operandsFit}
 use Rattle.chart.proofs.Faultless.{ascends, no-refusal}
@@ -29,7 +29,7 @@ enum-known-k : tie.Need-enum-known-k
 enum-known-k c = search needs
 
 along-requires : tie.Need-along-requires
-along-requires c κs = let l = found-inside _ _ _ (sym (ap toldFound (c .before .k .given .1)) ∙ c .before .before .before .assignment .ensures) in let e = c .before .before .before .before .rows-of .ensures in (l, subst (λ (rows : List ℕ). operandsFit (operation rows (c .before .k .given .0 .0)) ≡ true) (sym e) (part-fits _ _ _ (c .before .before .before .before .before .before .before .before .before .before .pre .0) (subst (λ (rows : List ℕ). c .before .k .given .0 .0 < size rows) e l)))
+along-requires c κs = let l = found-inside _ _ _ (sym (ap toldFound (c .before .k .given .1)) ∙ c .before .before .before .assignment .ensures) in let e = c .before .before .before .before .rows-of .ensures in (l, subst (λ (rows : List ℕ). operandsFit (operation rows (c .before .k .given .0 .0)) ≡ true) (sym e) (part-right _ _ _ (c .before .before .before .before .before .before .before .before .before .before .pre .0) (subst (λ (rows : List ℕ). c .before .k .given .0 .0 < size rows) e l) .1))
 
 enum-told : tie.Need-enum-told
 enum-told c = search needs

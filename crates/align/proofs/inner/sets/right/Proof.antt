@@ -1,7 +1,7 @@
 -- `align::inner::sets::right` meets its contract: from its operands. Assumes nothing.
 use mathlib.Core.Path.{ap₂, _∙_}
 use Rattle.align.specs.Sets.{joined}
-use Rattle.align.proofs.ReadSets.{fits-b, fits-c}
+use Rattle.align.proofs.ReadSets.{reads-assignment, fits-b, fits-c}
 use borrow.Author.Needs.{needs}
 use Rattle.align.proofs.inner.sets.right.Statement.{statement}
 use Rattle.align.proofs.inner.sets.right.Tie as tie
@@ -10,19 +10,19 @@ operand-b-requires : tie.Need-operand-b-requires
 operand-b-requires c κs = search needs
 
 if-variable-requires : tie.Need-if-variable-requires
-if-variable-requires c κs = rw (c .operand-b .ensures) (fits-b _ (c .before .pre))
+if-variable-requires c κs = rw (c .operand-b .ensures) (fits-b _ (c .before .pre .1))
 
 operand-c-requires : tie.Need-operand-c-requires
 operand-c-requires c κs = search needs
 
 if-variable-requires-2 : tie.Need-if-variable-requires-2
-if-variable-requires-2 c κs = rw (c .operand-c .ensures) (fits-c _ (c .before .before .before .pre))
+if-variable-requires-2 c κs = rw (c .operand-c .ensures) (fits-c _ (c .before .before .before .pre .1))
 
 joined-requires : tie.Need-joined-requires
 joined-requires c κs = search needs
 
 returns : tie.Need-returns
-returns c = c .joined .ensures ∙ ap₂ joined (rw (c .before .before .before .before .operand-b .ensures) at (c .before .before .before .if-variable .ensures)) (rw (c .before .before .operand-c .ensures) at (c .before .if-variable2 .ensures))
+returns c = reads-assignment _ (c .before .before .before .before .before .pre .0) (c .joined .ensures ∙ ap₂ joined (rw (c .before .before .before .before .operand-b .ensures) at (c .before .before .before .if-variable .ensures)) (rw (c .before .before .operand-c .ensures) at (c .before .if-variable2 .ensures)))
 
 pub right-spec : {M : Type 1} → statement M
 right-spec =

@@ -4,7 +4,7 @@ use Rattle.align.proofs.Moves.{assigned-equal, assigned-alone}
 use Rattle.align.specs.Steps.{toldFound}
 use Rattle.align.proofs.Seek.{found-inside}
 use Rattle.chart.specs.declared.operations.Operation.{Operation}
-use Rattle.chart.specs.Operations.{operandsFit}
+use Rattle.chart.specs.Operations.{isAssignment, operandsFit}
 use Rattle.chart.proofs.Faultless.{ascends, no-refusal}
 use mathlib.Core.Bool.{true}
 use Prim.Native.Nat.{_<_}
@@ -29,13 +29,13 @@ old-to-requires : tie.Need-old-to-requires
 old-to-requires c κs = found-inside _ _ _ (sym (ap toldFound (c .before .k .given .1)) ∙ c .before .before .before .same .ensures)
 
 rewritten-requires : tie.Need-rewritten-requires
-rewritten-requires c κs = subst (λ (o : Operation). operandsFit o ≡ true) (sym (c .before .before .before .before .before .operation-at .ensures)) (c .before .before .before .before .before .before .before .before .before .before .before .pre .1 .1 .1 .1)
+rewritten-requires c κs = subst (λ (o : Operation). (isAssignment o ≡ true) × (operandsFit o ≡ true)) (sym (c .before .before .before .before .before .operation-at .ensures)) (c .before .before .before .before .before .before .before .before .before .before .before .pre .1 .1 .1 .1, c .before .before .before .before .before .before .before .before .before .before .before .pre .1 .1 .1 .2)
 
 enum-told : tie.Need-enum-told
 enum-told c = search needs
 
 with-requires : tie.Need-with-requires
-with-requires c κs = subst (λ (o : Operation). o .a < 64) (sym (c .before .before .before .operation-at .ensures)) (fit-a _ (c .before .before .before .before .before .before .before .before .before .pre .1 .1 .1 .1))
+with-requires c κs = subst (λ (o : Operation). o .a < 64) (sym (c .before .before .before .operation-at .ensures)) (fit-a _ (c .before .before .before .before .before .before .before .before .before .pre .1 .1 .1 .2))
 
 returns : tie.Need-returns
 returns c = assigned-equal _ _ _ (c .before .before .before .before .before .before .before .rows-of .ensures) (c .before .before .before .before .before .same .ensures) (ap toldFound (c .before .before .before .k .given .1)) (c .before .old-to .ensures) (c .before .before .before .before .before .before .operation-at .ensures) (c .rewritten .ensures)

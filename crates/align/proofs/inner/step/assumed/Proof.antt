@@ -1,17 +1,14 @@
 -- `align::inner::step::assumed` meets its contract: at the alarm, matched, or not found. Assumes nothing.
 use mathlib.Core.Path.{_≡_, refl, sym, ap, subst, _∙_}
-use Rattle.align.proofs.Moves.{counterpart-none, counterpart-by, matching-inside, assumed-on, assumed-by}
+use Rattle.align.proofs.Moves.{counterpart-none, counterpart-by, matching-inside, matched-assumes, assumed-on, assumed-by}
 use Rattle.align.specs.Steps.{toldFound, matching, matched}
-use Rattle.align.proofs.Seek.{part-fits}
+use Rattle.align.proofs.Seek.{part-right}
 use Rattle.chart.specs.Charts.{size, operation}
 use Rattle.chart.specs.declared.operations.Operation.{Operation}
-use Rattle.chart.specs.Operations.{operandsFit}
+use Rattle.chart.specs.Operations.{isAssumption, operandsFit}
 use mathlib.Core.Bool.{true}
 use mathlib.Core.List.{List}
 use Prim.Native.Nat.{ℕ, _<_}
-use mathlib.Core.Path.{refl, sym, ap, _∙_}
-use Rattle.align.proofs.Moves.{counterpart-none, counterpart-by, assumed-on}
-use Rattle.align.specs.Steps.{toldFound, matching}
 use Rattle.chart.proofs.Faultless.{ascends, no-refusal}
 use borrow.Author.Needs.{needs}
 use Rattle.align.proofs.inner.step.assumed.Statement.{statement}
@@ -36,7 +33,12 @@ operation-at-requires : tie.Need-operation-at-requires
 operation-at-requires c κs = search needs
 
 matched-requires : tie.Need-matched-requires
-matched-requires c κs = let l = matching-inside _ _ _ (sym (ap toldFound (c .before .before .k .given .1)) ∙ c .before .before .before .before .matching .ensures) in let e = c .before .before .before .before .before .rows-of .ensures in (l, subst (λ (rows : List ℕ). operandsFit (operation rows (c .before .before .k .given .0 .0)) ≡ true) (sym e) (part-fits _ _ _ (c .before .before .before .before .before .before .before .before .before .before .before .before .pre .0) (subst (λ (rows : List ℕ). c .before .before .k .given .0 .0 < size rows) e l)), subst (λ (o : Operation). operandsFit o ≡ true) (sym (c .operation-at .ensures)) (c .before .before .before .before .before .before .before .before .before .before .before .before .pre .1 .1 .1 .1))
+matched-requires c κs =
+    let m = sym (ap toldFound (c .before .before .k .given .1)) ∙ c .before .before .before .before .matching .ensures in
+    let l = matching-inside _ _ _ m in
+    let e = c .before .before .before .before .before .rows-of .ensures in
+    let p = c .before .before .before .before .before .before .before .before .before .before .before .before .pre in
+    ((l, matched-assumes _ _ _ (p .1 .1 .1 .1) m, subst (λ (rows : List ℕ). operandsFit (operation rows (c .before .before .k .given .0 .0)) ≡ true) (sym e) (part-right _ _ _ (p .0) (subst (λ (rows : List ℕ). c .before .before .k .given .0 .0 < size rows) e l) .1)), subst (λ (o : Operation). (isAssumption o ≡ true) × (operandsFit o ≡ true)) (sym (c .operation-at .ensures)) (p .1 .1 .1 .1, p .1 .1 .1 .2))
 
 enum-told : tie.Need-enum-told
 enum-told c = search needs

@@ -3,8 +3,8 @@ use mathlib.Core.Path.{_≡_, sym, ap, subst, _∙_}
 use Rattle.align.proofs.Moves.{followed-below, moved-assigned, moved-twice, moved-assumed}
 use Rattle.align.specs.Steps.{toldFollowed}
 use Rattle.chart.specs.declared.operations.Operation.{Operation}
-use mathlib.Core.Bool.{true}
-use Rattle.chart.specs.Operations.{isAssignment}
+use Rattle.align.proofs.ReadSets.{assuming}
+use Rattle.chart.specs.Operations.{isKnown, isAssignment, isAssumption}
 use mathlib.Core.Bool.{true, false}
 use borrow.Author.Needs.{needs}
 use Rattle.align.proofs.inner.step.moved.Statement.{statement}
@@ -17,7 +17,9 @@ is-assignment-requires : tie.Need-is-assignment-requires
 is-assignment-requires c κs = search needs
 
 assigned-requires : tie.Need-assigned-requires
-assigned-requires c κs = search needs
+assigned-requires c κs =
+    let p = c .before .before .before .before .before .before .pre in
+    (p .0, (p .1 .0, (p .1 .1 .0, (p .1 .1 .1 .0, subst (λ (o : Operation). isAssignment o ≡ true) (c .before .before .operation-at .ensures) (sym (c .before .is-assignment .ensures) ∙ c .if1 .taken), p .1 .1 .1 .2))))
 
 returns : tie.Need-returns
 returns c = moved-assigned _ _ _ (subst (λ (o : Operation). isAssignment o ≡ true) (c .before .before .before .operation-at .ensures) (sym (c .before .before .is-assignment .ensures) ∙ c .before .if1 .taken)) (c .assigned .ensures)
@@ -29,7 +31,12 @@ enum-known-next : tie.Need-enum-known-next
 enum-known-next c = search needs
 
 assumed-requires : tie.Need-assumed-requires
-assumed-requires c κs = (search needs, (search needs, (followed-below _ (c .before .before .before .before .before .before .before .before .before .before .pre .0) _ (c .before .before .before .before .before .before .before .before .before .before .pre .1 .1 .0) .of _ (sym (c .before .before .before .follow .ensures) ∙ ap toldFollowed (c .before .next .given .1)), search needs)))
+assumed-requires c κs =
+    let p = c .before .before .before .before .before .before .before .before .before .before .pre in
+    let o = c .before .before .before .before .before .before .operation-at in
+    let n = sym (c .before .before .before .before .before .is-assignment .ensures) ∙ c .before .before .before .before .if1 .left in
+    let t = subst (λ (o : Operation). isAssumption o ≡ true) (o .ensures) (assuming (o .result) (subst (λ (o : Operation). isKnown o ≡ true) (sym (o .ensures)) (p .1 .1 .1 .1)) n) in
+    (p .0, (p .1 .0, (followed-below _ (p .0) _ (p .1 .1 .0) .of _ (sym (c .before .before .before .follow .ensures) ∙ ap toldFollowed (c .before .next .given .1)), (p .1 .1 .1 .0, t, p .1 .1 .1 .2))))
 
 enum-told : tie.Need-enum-told
 enum-told c = search needs

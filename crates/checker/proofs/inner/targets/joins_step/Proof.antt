@@ -1,6 +1,6 @@
 -- `checker::inner::targets::joins_step` meets its contract: by what the step comes to. Assumes nothing.
 use mathlib.Core.Path.{ap}
-use Rattle.checker.proofs.Targets.{row-operands, row-below, pair-below, stepped-below, joins-failed, joins-stepped}
+use Rattle.checker.proofs.Targets.{row-right, row-below, pair-below, stepped-below, joins-failed, joins-stepped}
 use Rattle.checker.specs.Records.{graphOf}
 use Rattle.align.specs.Steps.{told as stepTold}
 use Prim.Native.Nat.{_-_}
@@ -18,7 +18,10 @@ shared-slice-read-step : tie.Need-shared-slice-read-step
 shared-slice-read-step c = search needs
 
 step-requires : tie.Need-step-requires
-step-requires c κs = (c .before .before .before .before .before .before .before .before .pre .0 .old-faultless, (c .before .before .before .before .before .before .before .before .pre .1 .0, (pair-below _ (c .before .old-of .ensures) (c .before .before .before .before .before .before .before .before .pre .1 .1 .0), (c .before .before .before .before .before .before .before .before .pre .1 .1 .2, row-operands _ (c .before .before .before .before .before .before .before .before .pre .0 .new-faultless) _ _ (c .before .before .before .before .before .before .before .before .pre .1 .1 .1) (c .before .before .before .before .before .before .before .before .pre .1 .1 .2)))))
+step-requires c κs =
+    let p = c .before .before .before .before .before .before .before .before .pre in
+    let o = row-right _ (p .0 .new-faultless) _ _ (p .1 .1 .1) (p .1 .1 .2) in
+    (p .0 .old-faultless, (p .1 .0, (pair-below _ (c .before .old-of .ensures) (p .1 .1 .0), (p .1 .1 .2, o .0, o .1))))
 
 enum-known-h : tie.Need-enum-known-h
 enum-known-h c = search needs

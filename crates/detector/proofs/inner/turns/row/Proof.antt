@@ -3,7 +3,7 @@ use mathlib.Core.Path.{ap}
 use Rattle.chart.specs.declared.places.OldPlace.{OldPlace}
 use Rattle.chart.specs.declared.places.NewPlace.{NewPlace}
 use Rattle.chart.proofs.Faultless.{ascends, no-refusal}
-use Rattle.detector.proofs.Rows.{part-fit, part-below, came-fits, row-there, row-spare}
+use Rattle.detector.proofs.Rows.{row-right, part-below, came-fits, row-there, row-spare}
 use native.Mathlib.Omega.{arith}
 use borrow.Author.Needs.{needs}
 use Rattle.detector.proofs.inner.turns.row.Statement.{statement}
@@ -19,7 +19,10 @@ old-of-requires : tie.Need-old-of-requires
 old-of-requires c κs = search needs
 
 step-requires : tie.Need-step-requires
-step-requires c κs = (c .before .before .before .before .before .before .before .before .before .before .before .before .pre .0, (c .before .before .before .before .before .before .before .before .before .before .before .before .pre .1 .1 .0, ((let e = ap (λ (p : OldPlace). p .0) (c .old-of .ensures) in omega arith), (c .before .if1 .taken, part-fit _ _ _ (c .before .before .before .new-of .ensures) (c .before .before .rows-of .ensures) (c .before .before .before .before .before .before .before .before .before .before .before .before .pre .1 .0) (c .before .if1 .taken)))))
+step-requires c κs =
+    let p = c .before .before .before .before .before .before .before .before .before .before .before .before .pre in
+    let o = row-right _ _ _ (c .before .before .before .new-of .ensures) (c .before .before .rows-of .ensures) (p .1 .0) (c .before .if1 .taken) in
+    (p .0, (p .1 .1 .0, ((let e = ap (λ (p : OldPlace). p .0) (c .old-of .ensures) in omega arith), (c .before .if1 .taken, o .0, o .1))))
 
 new-to-requires : tie.Need-new-to-requires
 new-to-requires c κs = search needs
