@@ -7,10 +7,8 @@ use native.Mathlib.Omega.{arith}
 use native.Mathlib.Decide.{ℕ-discrete}
 use lib.ListN.{length, getD, set, List·getD-eq-default}
 use lib.Seq.{getD-set-same, getD-set-other, ext-getD}
-use Rattle.align.specs.Sets.{bit}
-use Rattle.align.proofs.Sets.{bit-none}
 use Rattle.words.specs.Words.{Member, removed}
-use Rattle.words.proofs.Words.{length-removed, removed-other, not-at}
+use Rattle.words.proofs.Words.{length-removed, removed-other, none-in}
 use Rattle.graph.proofs.Stores.{Passing, passing-more}
 use Rattle.marker.specs.Seen.{Holds, HoldsBeyond}
 use Rattle.marker.specs.Marks.{plainMarks, allOpened, Opened, Tried}
@@ -19,9 +17,7 @@ use Rattle.marker.proofs.Orders.{opened-at, some-opened}
 
 -- words that are not there have no members
 pub none-past : (w : List ℕ) (k : ℕ) → 64 * length w ≤ k → Member w k → ⊥
-none-past w k l m =
-    let e : getD w (k / 64) 0 ≡ 0 = List·getD-eq-default w 0 {n = k / 64} (omega arith) in
-    not-at w (k / 64) k refl (ap (λ (n : ℕ). bit n (k % 64)) e ∙ bit-none (k % 64)) m
+none-past w k l = none-in w k (List·getD-eq-default w 0 {n = k / 64} (omega arith))
 
 -- ---- every pair with a mark
 -- where what has no mark gets none
@@ -34,8 +30,7 @@ module _ {w x : List ℕ} (H : Holds w x) where
   pub none-seen : (p : ℕ) → p < 64 → getD w p 0 ≡ 0 → (k : ℕ) → 64 * p ≤ k → k < 64 * p + 64 → getD x k 0 ≡ 0
   none-seen p l e k a b =
       let y : k / 64 ≡ p = omega arith in
-      let z : bit (getD w p 0) (k % 64) ≡ 0 = ap (λ (n : ℕ). bit n (k % 64)) e ∙ bit-none (k % 64) in
-      dite (ℕ-discrete (getD x k 0) 0) (λ f. f) (λ f. absurd (omega (arith, z, rw y at (H .has k (omega arith) (omega arith)))))
+      dite (ℕ-discrete (getD x k 0) 0) (λ f. f) (λ f. absurd (none-in w k (rw y e) (H .has k (omega arith) (omega arith))))
 
   pub unmarked-past : (k : ℕ) → 64 * length w ≤ k → k < 4096 → getD x k 0 ≡ 0
   unmarked-past k a b = dite (ℕ-discrete (getD x k 0) 0) (λ f. f) (λ f. absurd (none-past w k a (H .has k b (omega arith))))

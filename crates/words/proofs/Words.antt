@@ -11,7 +11,7 @@ use lib.Pow.{pow-lt}
 use lib.ListN.{length, getD, set, length-set}
 use lib.Seq.{set-getD, getD-set-same, getD-set-other}
 use Rattle.align.specs.Sets.{bit, alone, joined, with, without, meets, holdsAll}
-use Rattle.align.proofs.Sets.{alone-here, alone-only, with-here, with-old, without-kept, meet-some, meet-none, holds-all}
+use Rattle.align.proofs.Sets.{bit-none, alone-here, alone-only, with-here, with-old, without-kept, meet-some, meet-none, holds-all}
 use Rattle.words.specs.Words.{Member, added, removed, Listed, listed}
 
 -- ---- added and removed
@@ -132,3 +132,7 @@ has-is w p q k l a e =
 -- ---- a bit that its word lacks is no member
 pub not-at : (w : List ℕ) (p i : ℕ) → i / 64 ≡ p → bit (getD w p 0) (i % 64) ≡ 0 → Member w i → ⊥
 not-at w p i e z m = let y : bit (getD w (i / 64) 0) (i % 64) ≡ 0 = ap (λ (q : ℕ). bit (getD w q 0) (i % 64)) e ∙ z in omega (arith, m, y)
+
+-- a word that is 0 has none
+pub none-in : (w : List ℕ) (i : ℕ) → getD w (i / 64) 0 ≡ 0 → Member w i → ⊥
+none-in w i e = not-at w (i / 64) i refl (ap (λ (n : ℕ). bit n (i % 64)) e ∙ bit-none (i % 64))
