@@ -1,5 +1,5 @@
 -- The end of a build, in the form in which the code meets it. Assumes nothing.
-use mathlib.Core.Path.{_≡_, refl, sym, ap, _∙_}
+use mathlib.Core.Path.{_≡_, refl, sym, ap, subst, _∙_}
 use mathlib.Core.Bool.{Bool, true, false, _&&_, not}
 use mathlib.Core.List.{List, [], _∷_, map}
 use mathlib.Core.Logic.{dite}
@@ -23,9 +23,8 @@ use Rattle.align.specs.Sets.{bit, without}
 use Rattle.align.specs.Steps.{fair}
 use Rattle.checker.specs.Records.{index}
 use Rattle.checker.specs.Rules.{startPair, startKept}
-use Rattle.align.proofs.Sets.{bit-none}
-use Rattle.words.specs.Words.{Member, added, LowestFrom}
-use Rattle.words.proofs.Words.{length-added, added-here, added-old, not-at}
+use Rattle.words.specs.Words.{Member, LowestFrom}
+use Rattle.words.proofs.Words.{none-in}
 use Rattle.words.proofs.Rests.{Coming, coming-start, coming-next, coming-more, coming-less, coming-end}
 use Rattle.graph.specs.Graphs.{Graph, graph, Sized, Covers, marked}
 use Rattle.marker.specs.Spans.{remade}
@@ -178,27 +177,21 @@ module _ (w : List ℕ) where
       record { most = omega (arith, E .most); none = λ p q. dite (ℕ-discrete p (n - 1)) (λ z. rw z e) (λ z. E .none p (omega arith)) }
 
   pub used-all : {n : ℕ} → Ends w n → Used w n
-  used-all {n} E = (E .most, λ k m. dite (decLt (k / 64) n) (λ l. rw (getD-take n w (k / 64) 0 l) m) (λ l. absurd (past k (omega arith) m)))
-    where
-      past : (k : ℕ) → n ≤ k / 64 → Member w k → ⊥
-      past k l m = not-at w (k / 64) k refl (ap (λ (x : ℕ). bit x (k % 64)) (E .none (k / 64) l) ∙ bit-none (k % 64)) m
+  used-all {n} E = (E .most, λ k m. dite (decLt (k / 64) n) (λ l. rw (getD-take n w (k / 64) 0 l) m) (λ l. absurd (none-in w k (E .none (k / 64) (omega arith)) m)))
 
--- with the start pair n they have all pairs seen
-module _ {w v : List ℕ} {n r : ℕ} {g : Graph} (C : Covers w g) (b : n < 4096) (e : v ≡ added w n) (U : Used v r) where
-  old : (k : ℕ) → Member w k → Member (take r v) k
-  old k m = U .1 k (rw e (added-old w n (omega (arith, C .long)) b k m))
+-- they have all pairs seen
+module _ {w : List ℕ} {r : ℕ} {g : Graph} (C : Covers w g) (U : Used w r) where
+  pub used-most : length (take r w) ≤ 64
+  used-most = omega (arith, length-take-le r w (U .0), U .0, C .long)
 
-  pub used-most : length (take r v) ≤ 64
-  used-most = let z : length v ≡ 64 = ap length e ∙ length-added w n ∙ C .long in omega (arith, length-take-le r v (U .0), U .0)
+  pub used-targets : (i s : ℕ) → i < 4096 → s < 2 → (getD (g .targets) (index i s) 0 ≡ 65535 → ⊥) → Member (take r w) i
+  used-targets i s a c f = U .1 i (C .targets i s a c f)
 
-  pub used-targets : (i s : ℕ) → i < 4096 → s < 2 → (getD (g .targets) (index i s) 0 ≡ 65535 → ⊥) → Member (take r v) i
-  used-targets i s a c f = old i (C .targets i s a c f)
+  pub used-holds : Holds (take r w) (g .marks)
+  used-holds = record { most = used-most; has = λ k c p. U .1 k (C .marks k c p) }
 
-  pub used-holds : Holds (take r v) (g .marks)
-  used-holds = record { most = used-most; has = λ k c p. old k (C .marks k c p) }
-
-  pub used-here : Member (take r v) n
-  used-here = U .1 n (rw e (added-here w n (omega (arith, C .long)) b))
+  pub used-here : {n k : ℕ} → n ≡ k → Member w k → Member (take r w) n
+  used-here {k = k} q m = subst (Member (take r w)) (sym q) (U .1 k m)
 
 -- no place is kept
 module _ (m : List ℕ) {b : Bool} (e : b ≡ bool (each 64 (λ j. eq (getD m (4096 + j) 0) 0))) (y : b ≡ true) where

@@ -22,7 +22,9 @@ use chart::charts::Judged;
 use chart::inner::faults::fault;
 use chart::inner::rows;
 use detector::inner::explore::explore;
+use detector::inner::explore::first_pair;
 use inner::finish::finish;
+use words::inner::members;
 
 pub mod answers; // answers.rt: what a build answers
 pub mod inner; // inner.rt: what a build is made of
@@ -147,7 +149,8 @@ fn complete<'a>(
         waiting,
         &mut seen,
     );
-    finish(old, new, marks, targets, sets, waiting, &mut seen)
+    members::add(&mut seen, first_pair(old, new));
+    finish(old, new, marks, targets, sets, waiting, &seen)
 }
 
 // A build, or the refusal that is due, which writes nothing. What a build leaves, with the start it answers, the check passes.

@@ -6,6 +6,7 @@ ghost use lib.ListN.{length, getD, take, drop};
 ghost use Rattle.base.specs.Walks.{count};
 ghost use Rattle.align.specs.Sets.{bit};
 ghost use Rattle.checker.specs.Records.{index};
+ghost use Rattle.checker.specs.Rules.{startPair};
 ghost use Rattle.words.specs.Words.{Member};
 ghost use Rattle.graph.specs.Graphs.{graph, Sized, Covers};
 ghost use Rattle.marker.specs.Spans.{remade};
@@ -150,7 +151,8 @@ fn count_row(marks: &[u8], i: usize, v: u8) -> usize
 }
 
 // The final contents of the buffers, where no pair waits, and the start with the counts of marks 1, 2 and 3. Only pairs that were seen are looked
-// at, up to the last word that has one; whoever has buffers as found hands over a set with all pairs.
+// at, up to the last word that has one: the start pair and all that have something in a buffer. Whoever has buffers as found hands over a set
+// with all pairs.
 pub fn finish(
     old: Head,
     new: Head,
@@ -158,10 +160,10 @@ pub fn finish(
     targets: &mut [u16],
     sets: &mut [u64],
     waiting: &mut [u8],
-    seen: &mut [u64],
+    seen: &[u64],
 ) -> Summary
     requires { ⌜ Sized (graph (now marks) (now targets) (now sets) (now waiting)) ⌝ }
-    requires { ⌜ Covers (now seen) (graph (now marks) (now targets) (now sets) (now waiting)) ⌝ }
+    requires { ⌜ Covers (now seen) (graph (now marks) (now targets) (now sets) (now waiting)) × Member (now seen) (startPair old new) ⌝ }
     ensures { λ r. ⌜ (graph (now (marks .exit)) (now (targets .exit)) (now (sets .exit)) (now (waiting .exit))
         ≡ finished old new (graph (now (marks .entry)) (now (targets .entry)) (now (sets .entry)) (now (waiting .entry))))
         × (r ≡ summary (startOf old new (now (marks .entry))) (now (marks .exit))) ⌝ }
@@ -176,8 +178,7 @@ pub fn finish(
         };
     }
     let first = first_pair(old, new);
-    members::add(seen, first);
-    let top = used(&*seen);
+    let top = used(seen);
     let cut = &seen[..top];
     redirect_kept(&*marks, targets, cut);
     let counts = rank(marks, &*targets, first, cut);

@@ -2,7 +2,6 @@
 use mathlib.Core.Path.{sym, _∙_}
 use lib.Seq.{length-take-le}
 use Rattle.builder.proofs.Finishing.{used-most, used-targets, used-holds, used-here, finish-alone, finish-joint, summed-alone, summed-joint}
-use native.Mathlib.Omega.{arith}
 use borrow.Author.Needs.{needs}
 use Rattle.builder.proofs.inner.finish.finish.Statement.{statement}
 use Rattle.builder.proofs.inner.finish.finish.Tie as tie
@@ -34,23 +33,23 @@ returns c = (search finish-alone, summed-alone _ _ _ (c .before .before .before 
 first-pair-requires : tie.Need-first-pair-requires
 first-pair-requires c κs = search needs
 
-add-requires : tie.Need-add-requires
-add-requires c κs = search needs
-
 used-requires : tie.Need-used-requires
 used-requires c κs = search needs
-
-slice-reshare-prefix-cut : tie.Need-slice-reshare-prefix-cut
-slice-reshare-prefix-cut c = search needs
 
 slice-aggregate-cut : tie.Need-slice-aggregate-cut
 slice-aggregate-cut c = sym (length-take-le _ _ (c .before .used .ensures .0))
 
 redirect-kept-requires : tie.Need-redirect-kept-requires
-redirect-kept-requires c κs = ((search needs, search needs, used-most (c .before .before .before .before .before .before .before .before .before .before .before .before .before .before .before .before .before .before .pre .1) (omega arith) (c .before .before .before .before .before .before .before .add .ensures) (c .before .before .before .used .ensures)), used-targets (c .before .before .before .before .before .before .before .before .before .before .before .before .before .before .before .before .before .before .pre .1) (omega arith) (c .before .before .before .before .before .before .before .add .ensures) (c .before .before .before .used .ensures))
+redirect-kept-requires c κs =
+    let C = c .before .before .before .before .before .before .before .before .before .before .before .before .before .pre .1 .0 in
+    let U = c .before .before .before .used .ensures in
+    ((search needs, search needs, used-most C U), used-targets C U)
 
 rank-requires : tie.Need-rank-requires
-rank-requires c κs = (search needs, search needs, search needs, used-holds (c .before .before .before .before .before .before .before .before .before .before .before .before .before .before .before .before .before .before .before .before .before .before .before .pre .1) (omega arith) (c .before .before .before .before .before .before .before .before .before .before .before .before .add .ensures) (c .before .before .before .before .before .before .before .before .used .ensures), used-here (c .before .before .before .before .before .before .before .before .before .before .before .before .before .before .before .before .before .before .before .before .before .before .before .pre .1) (omega arith) (c .before .before .before .before .before .before .before .before .before .before .before .before .add .ensures) (c .before .before .before .before .before .before .before .before .used .ensures))
+rank-requires c κs =
+    let p = c .before .before .before .before .before .before .before .before .before .before .before .before .before .before .before .before .before .before .pre .1 in
+    let U = c .before .before .before .before .before .before .before .before .used .ensures in
+    (search needs, search needs, search needs, used-holds (p .0) U, used-here (p .0) U (c .before .before .before .before .before .before .before .before .before .first-pair .ensures) (p .1))
 
 count-row-requires : tie.Need-count-row-requires
 count-row-requires c κs = search needs
@@ -61,11 +60,8 @@ same-length-5 c = search needs
 same-length-6 : tie.Need-same-length-6
 same-length-6 c = search needs
 
-same-length-7 : tie.Need-same-length-7
-same-length-7 c = search needs
-
 returns-2 : tie.Need-returns-2
-returns-2 c = (search finish-joint, summed-joint _ _ _ (c .before .before .before .before .before .before .before .before .before .before .before .before .before .before .before .before .before .before .before .before .before .is-alone .ensures) _ _ (c .before .before .before .before .before .before .before .before .before .before .before .before .before .before .before .before .before .before .before .before .if1 .left) (c .before .before .before .before .before .before .before .before .before .before .before .before .before .before .before .before .before .before .before .first-pair .ensures) (c .before .before .before .before .before .before .before .before .before .before .before .before .before .before .before .before .before .before .before .before .before .before .before .before .before .before .before .before .pre .0 .marks) (c .before .before .before .before .before .before .before .before .before .redirect-kept .kept .1 .0 ∙ c .before .before .before .before .before .before .before .before .before .before .before .before .before .before .before .before .before .before .before .before .before .before .before .before .before .before .before .before .pre .0 .targets) (c .before .before .before .before .rank .ensures) (c .count-row .ensures))
+returns-2 c = (search finish-joint, summed-joint _ _ _ (c .before .before .before .before .before .before .before .before .before .before .before .before .before .before .before .before .is-alone .ensures) _ _ (c .before .before .before .before .before .before .before .before .before .before .before .before .before .before .before .if1 .left) (c .before .before .before .before .before .before .before .before .before .before .before .before .before .before .first-pair .ensures) (c .before .before .before .before .before .before .before .before .before .before .before .before .before .before .before .before .before .before .before .before .before .before .before .pre .0 .marks) (c .before .before .before .before .before .before .before .before .before .redirect-kept .kept .1 .0 ∙ c .before .before .before .before .before .before .before .before .before .before .before .before .before .before .before .before .before .before .before .before .before .before .before .pre .0 .targets) (c .before .before .before .before .rank .ensures) (c .count-row .ensures))
 
 pub finish-spec : {M : Type 1} → statement M
 finish-spec =
@@ -80,14 +76,11 @@ finish-spec =
     same-length-4
     returns
     first-pair-requires
-    add-requires
     used-requires
-    slice-reshare-prefix-cut
     slice-aggregate-cut
     redirect-kept-requires
     rank-requires
     count-row-requires
     same-length-5
     same-length-6
-    same-length-7
     returns-2)
