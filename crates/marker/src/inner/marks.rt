@@ -176,7 +176,7 @@ fn sweep_both(marks: &mut [u8], targets: &[u16], rest: &mut [u64]) -> usize
 }
 
 // All pairs from which an open or kept node is a target. Where two passes each way still open pairs, they stand on chains that go up and down,
-// which rounds over few new places follow with less work than passes. Small charts have no such chains.
+// which rounds over few new places follow with less work than passes. Few small charts have such chains.
 fn open_rest(marks: &mut [u8], targets: &[u16], rest: &mut [u64])
     requires { ⌜ (length (now marks) ≡ 4160) × (length (now targets) ≡ 8192) × HoldsBeyond (now rest) (now marks) ⌝ }
     ensures { λ _. ⌜ now (marks .exit) ≡ allOpened (now (targets .entry)) (now (marks .entry)) ⌝ }
