@@ -61,7 +61,7 @@ module _ (t : List ℕ) where
     pub rounds-done : Spread t x 0 z
     rounds-done = record { count = W .count + S .count; did = opened-then t (W .did) (S .did); long = S .long ∙ W .same; some = λ h. absurd (h refl) }
 
-  -- ---- a pass up and one down
+  -- ---- a pass down and one up
   module _ {x y : List ℕ} {r : ℕ} (S : Swept t x 0 4096 r y) (l : length x ≡ 4160) where
     spread-swept : Spread t x r y
     spread-swept = record { count = r; did = S .did; long = S .long; some = λ h. omega arith }
@@ -76,13 +76,13 @@ module _ (t : List ℕ) where
           rests = λ e. swept-rests t (S .long ∙ l) (rw e at R);
         }
 
-  -- ---- the loop of passes, with rounds between them: o became x by the pass before it
-  pub passes-done : {o x y z : List ℕ} {q r : ℕ} → length o ≡ 4160 → Swept t o 0 4096 q x → Sweeping t x y → Passed t y r z → r ≡ 0 → z ≡ allOpened t o
-  passes-done l F W P e = any-order t l (opened-then t (F .did) (opened-then t (W .did) (P .spread .did))) (P .rests e)
+  -- ---- the loop of passes, with rounds between them
+  pub passes-done : {x y z : List ℕ} {r : ℕ} → Sweeping t x y → Passed t y r z → r ≡ 0 → z ≡ allOpened t x
+  passes-done W P e = any-order t (W .long) (opened-then t (W .did) (P .spread .did)) (P .rests e)
 
   module _ {x y z w : List ℕ} {r s : ℕ} (W : Sweeping t x y) (P : Passed t y r z) (R : Passed t z s w) where
-    pub passes-end : {o : List ℕ} {q : ℕ} → length o ≡ 4160 → Swept t o 0 4096 q x → s ≡ 0 → w ≡ allOpened t o
-    passes-end l F e = passes-done l F (rounds-again W (P .spread)) R e
+    pub passes-end : s ≡ 0 → w ≡ allOpened t x
+    passes-end e = passes-done (rounds-again W (P .spread)) R e
 
     two : Sweeping t x w
     two = rounds-again (rounds-again W (P .spread)) (R .spread)

@@ -164,15 +164,15 @@ fn sweep_up(marks: &mut [u8], targets: &[u16], rest: &mut [u64]) -> usize
     n
 }
 
-// A pass up and, if it opens pairs, one down: 0, if the last of them opened none, which shows that none is left.
+// A pass down and, if it opens pairs, one up: 0, if the last of them opened none, which shows that none is left.
 fn sweep_both(marks: &mut [u8], targets: &[u16], rest: &mut [u64]) -> usize
     requires { ⌜ (length (now marks) ≡ 4160) × (length (now targets) ≡ 8192) × HoldsBeyond (now rest) (now marks) ⌝ }
     ensures { λ r. ⌜ Passed (now (targets .entry)) (now (marks .entry)) r (now (marks .exit)) × HoldsBeyond (now (rest .exit)) (now (marks .exit)) ⌝ }
 {
-    if sweep_up(marks, targets, rest) == 0 {
+    if sweep_down(marks, targets, rest) == 0 {
         return 0;
     }
-    sweep_down(marks, targets, rest)
+    sweep_up(marks, targets, rest)
 }
 
 // All pairs from which an open or kept node is a target. Where two passes each way still open pairs, they stand on chains that go up and down,
@@ -181,7 +181,6 @@ fn open_rest(marks: &mut [u8], targets: &[u16], rest: &mut [u64])
     requires { ⌜ (length (now marks) ≡ 4160) × (length (now targets) ≡ 8192) × HoldsBeyond (now rest) (now marks) ⌝ }
     ensures { λ _. ⌜ now (marks .exit) ≡ allOpened (now (targets .entry)) (now (marks .entry)) ⌝ }
 {
-    sweep_down(marks, targets, rest);
     loop {
         if sweep_both(marks, targets, rest) == 0 {
             return;

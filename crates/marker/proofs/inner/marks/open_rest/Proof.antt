@@ -16,9 +16,6 @@ Inv-loop marks₀ targets rest₀ marks rest = Sweeping targets marks₀ marks �
 abbrev μ-loop : tie.MeasureT-loop
 μ-loop marks₀ targets rest₀ marks rest = fours targets marks
 
-sweep-down-requires : tie.Need-sweep-down-requires Inv-loop μ-loop
-sweep-down-requires c κs = search needs
-
 loop-holds : tie.Need-loop-holds Inv-loop μ-loop
 loop-holds c = (sweeping-start _ _ (omega arith), search needs, search needs)
 
@@ -61,7 +58,6 @@ open-rest-spec =
     (tie.spec
     Inv-loop
     μ-loop
-    sweep-down-requires
     loop-holds
     sweep-both-requires
     same-length

@@ -4,8 +4,8 @@ use borrow.Author.Needs.{needs}
 use Rattle.marker.proofs.inner.marks.sweep_both.Statement.{statement}
 use Rattle.marker.proofs.inner.marks.sweep_both.Tie as tie
 
-sweep-up-requires : tie.Need-sweep-up-requires
-sweep-up-requires c κs = search needs
+sweep-down-requires : tie.Need-sweep-down-requires
+sweep-down-requires c κs = search needs
 
 same-length : tie.Need-same-length
 same-length c = search needs
@@ -16,8 +16,8 @@ same-length-2 c = search needs
 returns : tie.Need-returns
 returns c = (search passed-one, search needs)
 
-sweep-down-requires : tie.Need-sweep-down-requires
-sweep-down-requires c κs = search needs
+sweep-up-requires : tie.Need-sweep-up-requires
+sweep-up-requires c κs = search needs
 
 same-length-3 : tie.Need-same-length-3
 same-length-3 c = search needs
@@ -32,11 +32,11 @@ pub sweep-both-spec : {M : Type 1} → statement M
 sweep-both-spec =
     tie.close
     (tie.spec
-    sweep-up-requires
+    sweep-down-requires
     same-length
     same-length-2
     returns
-    sweep-down-requires
+    sweep-up-requires
     same-length-3
     same-length-4
     returns-2)
