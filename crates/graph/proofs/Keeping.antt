@@ -1,5 +1,5 @@
 -- A new place becomes kept: its pairs leave the buffers, one old place after another. Assumes nothing.
-use mathlib.Core.Path.{_≡_, refl, sym, ap, _∙_}
+use mathlib.Core.Path.{_≡_, refl, sym, ap, subst, _∙_}
 use mathlib.Core.Bool.{Bool, true, false}
 use mathlib.Core.List.{List}
 use mathlib.Core.Logic.{_↔_, dite}
@@ -14,7 +14,10 @@ use Rattle.base.proofs.Walks.{pass-is}
 use Rattle.chart.specs.declared.places.NewPlace.{NewPlace}
 use Rattle.chart.specs.Places.{keptNumber}
 use Rattle.checker.specs.Records.{index}
-use Rattle.words.specs.Words.{Member}
+use Rattle.align.specs.Sets.{alone, meets}
+use Rattle.align.proofs.Sets.{alone-here, meet-none}
+use Rattle.words.specs.Words.{Member, gathered}
+use Rattle.words.proofs.Words.{gathered-has}
 use Rattle.graph.specs.Graphs.{Graph, graph, Sized, Covers, gone, cleared, untargeted, keep}
 use Rattle.graph.proofs.Graphs.{gone-here, gone-other, gone-past}
 use Rattle.graph.proofs.Parts.{graph-eq}
@@ -33,6 +36,16 @@ module _ (of : ℕ → ℕ) (v : ℕ) (q : NewPlace) {d₀ : List ℕ} where
   clearing-all {d} C =
       pass-is (λ j x. gone q v (of j) x) d₀ d (C .long)
       (λ j k. dite (decLt (of j) 4096) (C .before j) (λ f. C .after j (omega arith) ∙ sym (gone-past q v (of j) (getD d₀ j 0) (omega arith))))
+
+  -- all pairs of the place had v from the first
+  clearing-nothing : ((j : ℕ) → of j < 4096 → of j % 64 ≡ q .0 → getD d₀ j 0 ≡ v) → Clearing of v q d₀ d₀ 64
+  clearing-nothing h =
+      record {
+        long = refl;
+        before = λ j l. dite (ℕ-discrete (of j % 64) (q .0)) (λ e. h j (omega arith) e ∙ sym (gone-here q v (of j) (getD d₀ j 0) (omega arith) e))
+            (λ e. sym (gone-other q v (of j) (getD d₀ j 0) e));
+        after = λ j l. refl;
+      }
 
   module _ {d : List ℕ} {p : ℕ} (C : Clearing of v q d₀ d p) (b : p < 64) (l : q .0 < 64) where
     -- the next pair has v now, and all others have what they had
@@ -72,6 +85,16 @@ module _ {v : ℕ} {q : NewPlace} {d₀ d : List ℕ} {p n : ℕ} (b : p < 64) (
 -- the two targets of a pair
 pub both-targets : (t : List ℕ) (n : ℕ) → set (set t (2 * n) 65535) (2 * n + 1) 65535 ≡ set (set t (index n 0) 65535) (index n 1) 65535
 both-targets t n = ap (λ (x : ℕ). set (set t x 65535) (index n 1) 65535) (omega arith)
+
+-- ---- what a buffer has of pairs that were not seen
+module _ {seen : List ℕ} {g : Graph} (C : Covers seen g) (i : ℕ) (l : i < 4096) (u : Member seen i → ⊥) where
+  unseen : (d : List ℕ) → (0 < getD d i 0 → Member seen i) → getD d i 0 ≡ 0
+  unseen d h = dite (ℕ-discrete (getD d i 0) 0) (λ z. z) (λ z. absurd (u (h (omega arith))))
+
+  untargeted-yet : (j : ℕ) → j / 2 ≡ i → getD (g .targets) j 0 ≡ 65535
+  untargeted-yet j f =
+      dite (ℕ-discrete (getD (g .targets) j 0) 65535) (λ z. z)
+      (λ z. absurd (u (let y : index i (j % 2) ≡ j = omega arith in C .targets i (j % 2) l (omega arith) (rw y z))))
 
 -- ---- the four buffers
 pub record Going (q : NewPlace) (g g′ : Graph) (p : ℕ) : Type 0 where
@@ -124,32 +147,57 @@ module _ {q : NewPlace} {g g′ : Graph} {p : ℕ} (G : Going q g g′ p) where
       u : Member seen n → ⊥
       u m = T-true (sym f ∙ h .1 m)
 
-      nothing : (d : List ℕ) → ((i : ℕ) → i < 4096 → 0 < getD d i 0 → Member seen i) → (j : ℕ) → j ≡ 64 * p + q .0 → getD d j 0 ≡ 0
-      nothing d h j f =
-          dite (ℕ-discrete (getD d j 0) 0) (λ z. z) (λ z. absurd (u (let y : n ≡ j = e ∙ sym f in rw y (h j (omega arith) (omega arith)))))
-
-      no-targets : (j : ℕ) → j / 2 ≡ 64 * p + q .0 → getD (g .targets) j 0 ≡ 65535
-      no-targets j f =
-          dite (ℕ-discrete (getD (g .targets) j 0) 65535) (λ z. z)
-          (λ z. absurd (u (let y : n ≡ j / 2 = e ∙ sym f in let i : index (j / 2) (j % 2) ≡ j = omega arith in
-          rw y (C .targets (j / 2) (j % 2) (omega arith) (omega arith) (rw i z)))))
+      had : (d : List ℕ) → ((i : ℕ) → i < 4096 → 0 < getD d i 0 → Member seen i) → (j : ℕ) → j ≡ 64 * p + q .0 → getD d j 0 ≡ 0
+      had d a j z = let y : j ≡ n = z ∙ sym e in rw y (unseen C n (omega arith) u d (a n (omega arith)))
 
       pub going-unseen : Going q g g′ (p + 1)
       going-unseen =
           record {
             most = omega arith;
-            marks = clearing-had (λ j. j) 0 q (G .marks) b l (nothing (g .marks) (C .marks));
-            targets = clearing-had (λ j. j / 2) 65535 q (G .targets) b l no-targets;
-            sets = clearing-had (λ j. j) 0 q (G .sets) b l (nothing (g .sets) (C .sets));
-            waiting = clearing-had (λ j. j) 0 q (G .waiting) b l (nothing (g .waiting) (C .waiting));
+            marks = clearing-had (λ j. j) 0 q (G .marks) b l (had (g .marks) (C .marks));
+            targets = clearing-had (λ j. j / 2) 65535 q (G .targets) b l (λ j z. untargeted-yet C n (omega arith) u j (z ∙ sym e));
+            sets = clearing-had (λ j. j) 0 q (G .sets) b l (had (g .sets) (C .sets));
+            waiting = clearing-had (λ j. j) 0 q (G .waiting) b l (had (g .waiting) (C .waiting));
           }
 
--- all have left
-pub keep-is : (m t s w : List ℕ) (q : NewPlace) {m₁ m₂ t′ s′ w′ : List ℕ} {p k : ℕ} → Going q (graph m t s w) (graph m₁ t′ s′ w′) p → 64 ≤ p
-    → k ≡ keptNumber q → m₂ ≡ set m₁ k 1 → graph m₂ t′ s′ w′ ≡ keep (graph m t s w) q
-unfolding keep cleared untargeted
-keep-is m t s w q {m₁} {m₂} {t′} {s′} {w′} {p} G l k e =
+-- ---- all have left
+abbrev Left : NewPlace → Graph → Graph → Type 0
+Left q g g′ =
+    (g′ .marks ≡ cleared q (g .marks)) × (g′ .targets ≡ untargeted q (g .targets)) × (g′ .sets ≡ cleared q (g .sets)) × (g′ .waiting ≡ cleared q (g .waiting))
+
+pub left-all : {q : NewPlace} {g g′ : Graph} {k p : ℕ} → k ≡ q .0 → Going (record { 0 = k }) g g′ p → 64 ≤ p → Left q g g′
+unfolding cleared untargeted
+left-all {q} {g} {g′} {k} {p} e G l =
     let z : p ≡ 64 = omega (arith, G .most) in
-    let H : Going q (graph m t s w) (graph m₁ t′ s′ w′) 64 = rw z at G in
-    graph-eq (e ∙ (λ i. set (clearing-all (λ j. j) 0 q (H .marks) i) (k i) 1)) (clearing-all (λ j. j / 2) 65535 q (H .targets))
-    (clearing-all (λ j. j) 0 q (H .sets)) (clearing-all (λ j. j) 0 q (H .waiting))
+    let H : Going q g g′ 64 = subst (λ (k : ℕ). Going (record { 0 = k }) g g′ 64) e (rw z at G) in (
+      clearing-all (λ j. j) 0 q (H .marks),
+      clearing-all (λ j. j / 2) 65535 q (H .targets),
+      clearing-all (λ j. j) 0 q (H .sets),
+      clearing-all (λ j. j) 0 q (H .waiting),
+    )
+
+-- none had anything: no word of those seen has the bit of the place
+module _ {q : NewPlace} {g : Graph} {seen : List ℕ} {k all a : ℕ} {b : Bool} (C : Covers seen g) (e : k ≡ q .0) (c : all ≡ gathered seen (length seen))
+    (d : a ≡ alone k) (m : b ≡ meets all a) (n : b ≡ false) where
+  absent : (i : ℕ) → i < 4096 → i % 64 ≡ q .0 → Member seen i → ⊥
+  absent i l h M =
+      let z : i % 64 ≡ k = h ∙ sym e in
+      meet-none all a k (sym m ∙ n) (rw (c, sym z) (gathered-has seen (length seen) i (omega (arith, C .long)) M)) (rw d (alone-here k))
+
+  had-none : (d : List ℕ) → ((i : ℕ) → i < 4096 → 0 < getD d i 0 → Member seen i) → d ≡ cleared q d
+  unfolding cleared
+  had-none d h = clearing-all (λ j. j) 0 q (clearing-nothing (λ j. j) 0 q (λ i l z. unseen C i l (absent i l z) d (h i l)))
+
+  pub left-none : Left q g g
+  unfolding untargeted
+  left-none = (
+    had-none (g .marks) (C .marks),
+    clearing-all (λ j. j / 2) 65535 q (clearing-nothing (λ j. j / 2) 65535 q (λ j l z. untargeted-yet C (j / 2) l (absent (j / 2) l z) j refl)),
+    had-none (g .sets) (C .sets),
+    had-none (g .waiting) (C .waiting),
+  )
+
+pub keep-is : (m t s w : List ℕ) (q : NewPlace) {m₁ m₂ t′ s′ w′ : List ℕ} {k : ℕ} → Left q (graph m t s w) (graph m₁ t′ s′ w′)
+    → k ≡ keptNumber q → m₂ ≡ set m₁ k 1 → graph m₂ t′ s′ w′ ≡ keep (graph m t s w) q
+unfolding keep
+keep-is m t s w q L k e = graph-eq (e ∙ (λ i. set (L .0 i) (k i) 1)) (L .1) (L .2) (L .3)

@@ -3,7 +3,7 @@ use mathlib.Core.Path.{_≡_, refl, ap, _∙_}
 use mathlib.Core.Bool.{Bool, true, false}
 use mathlib.Core.Logic.{_↔_, dite}
 use mathlib.Core.List.{List}
-use Prim.Native.Nat.{ℕ, _+_, _*_, _/_, _%_, _^_, _≤_, _<_}
+use Prim.Native.Nat.{ℕ, zero, suc, _+_, _*_, _/_, _%_, _^_, _≤_, _<_}
 use native.Mathlib.Decide.{ℕ-discrete}
 use native.Mathlib.Omega.{arith}
 use borrow.Author.Tests.{eqb-true}
@@ -11,8 +11,8 @@ use lib.Pow.{pow-lt}
 use lib.ListN.{length, getD, set, length-set}
 use lib.Seq.{set-getD, getD-set-same, getD-set-other}
 use Rattle.align.specs.Sets.{bit, alone, joined, with, without, meets, holdsAll}
-use Rattle.align.proofs.Sets.{bit-none, alone-here, alone-only, with-here, with-old, without-kept, meet-some, meet-none, holds-all}
-use Rattle.words.specs.Words.{Member, added, removed, Listed, listed}
+use Rattle.align.proofs.Sets.{bit-none, joined-left, joined-right, alone-here, alone-only, with-here, with-old, without-kept, meet-some, meet-none, holds-all}
+use Rattle.words.specs.Words.{Member, added, removed, gathered, Listed, listed}
 
 -- ---- added and removed
 module _ (w : List ℕ) (n : ℕ) where
@@ -128,6 +128,32 @@ has-is w p q k l a e =
     let i : (64 * p + q) / 64 ≡ p = omega arith in
     let j : (64 * p + q) % 64 ≡ q = omega arith in
     rw (i, j) (bit-is (getD w p 0) q l a e)
+
+-- ---- the bits that some word has
+-- those of the first p words are in all
+pub record Gathering (w : List ℕ) (all p : ℕ) : Type 0 where
+  pub most : p ≤ length w
+  pub is : all ≡ gathered w p
+
+pub gathering-none : (w : List ℕ) → Gathering w 0 0
+unfolding gathered
+gathering-none w = record { most = omega arith; is = refl }
+
+module _ {w : List ℕ} {all p : ℕ} (G : Gathering w all p) where
+  pub gathering-more : {x : ℕ} → p < length w → x ≡ joined all (getD w p 0) → Gathering w x (p + 1)
+  unfolding gathered
+  gathering-more l e = let z : suc p ≡ p + 1 = omega arith in record { most = omega arith; is = e ∙ ap (λ (n : ℕ). joined n (getD w p 0)) (G .is) ∙ ap (gathered w) z }
+
+  pub gathering-all : length w ≤ p → all ≡ gathered w (length w)
+  gathering-all l = G .is ∙ ap (gathered w) (omega (arith, G .most))
+
+-- a member's is one
+pub gathered-has : (w : List ℕ) (n i : ℕ) → i / 64 < n → Member w i → bit (gathered w n) (i % 64) ≡ 1
+unfolding gathered
+gathered-has w zero i l m = absurd (omega arith)
+gathered-has w (suc n) i l m =
+    dite (ℕ-discrete (i / 64) n) (λ e. joined-right (i % 64) (gathered w n) (getD w n 0) (rw e at m))
+    (λ e. joined-left (i % 64) (gathered w n) (getD w n 0) (gathered-has w n i (omega arith) m))
 
 -- ---- a bit that its word lacks is no member
 pub not-at : (w : List ℕ) (p i : ℕ) → i / 64 ≡ p → bit (getD w p 0) (i % 64) ≡ 0 → Member w i → ⊥

@@ -1,9 +1,9 @@
 -- Sets of pairs as bits of words: 64, or 65 in a list. They only say where to look: no rule of document 01 speaks of them.
 use mathlib.Core.Path.{_≡_}
 use mathlib.Core.List.{List}
-use Prim.Native.Nat.{ℕ, _-_, _/_, _%_, _≤_, _<_}
+use Prim.Native.Nat.{ℕ, zero, suc, _-_, _/_, _%_, _≤_, _<_}
 use lib.ListN.{getD, set}
-use Rattle.align.specs.Sets.{bit, with, without}
+use Rattle.align.specs.Sets.{bit, joined, with, without}
 
 -- pair n is a member
 abbrev pub Member : List ℕ → ℕ → Type 0
@@ -14,6 +14,11 @@ added w n = set w (n / 64) (with (getD w (n / 64) 0) (n % 64))
 
 unfoldable pub removed : List ℕ → ℕ → List ℕ
 removed w n = set w (n / 64) (without (getD w (n / 64) 0) (n % 64))
+
+-- the bits that some of the first n words have: the new places of their members
+unfoldable pub gathered : List ℕ → ℕ → ℕ
+gathered w zero = 0
+gathered w (suc n) = joined (gathered w n) (getD w n 0)
 
 -- ---- 65 words: the last has a bit for each of the others that may have one, so that the first of these is found at once
 abbrev pub Listed : List ℕ → ℕ → Type 0

@@ -6,10 +6,12 @@ ghost use lib.ListN.{length, set, getD};
 ghost use Rattle.align.specs.Sets.{joined};
 ghost use Rattle.checker.specs.Records.{index};
 ghost use Rattle.words.specs.Words.{Member, added};
-ghost use Rattle.graph.specs.Graphs.{graph, Sized, Covers, marked, keep, aim, due, join, listedIf};
+ghost use Rattle.graph.specs.Graphs.{graph, Sized, Covers, marked, cleared, untargeted, keep, aim, due, join, listedIf};
 use crate::inner::buffers;
+use align::inner::sets::alone;
 use align::inner::sets::holds_all;
 use align::inner::sets::joined;
+use align::inner::sets::meets;
 use chart::charts::Head;
 use chart::inner::pairs::kept;
 use chart::inner::pairs::old_of;
@@ -42,7 +44,33 @@ fn leave(marks: &mut [u8], targets: &mut [u16], sets: &mut [u64], waiting: &mut 
     waiting[n] = 0;
 }
 
-// New place q becomes kept, and all pairs with it leave. Those not seen have nothing to leave.
+// All pairs with new place q leave. Those not seen have nothing to leave, and where none of them was seen, none is looked for.
+fn leave_all(
+    marks: &mut [u8],
+    targets: &mut [u16],
+    sets: &mut [u64],
+    waiting: &mut [u8],
+    seen: &[u64],
+    q: NewPlace,
+)
+    requires { ⌜ q .0 < 64 ⌝ }
+    requires { ⌜ Sized (graph (now marks) (now targets) (now sets) (now waiting)) ⌝ }
+    requires { ⌜ Covers (now seen) (graph (now marks) (now targets) (now sets) (now waiting)) ⌝ }
+    ensures { λ _. ⌜ (now (marks .exit) ≡ cleared q (now (marks .entry))) × (now (targets .exit) ≡ untargeted q (now (targets .entry)))
+        × (now (sets .exit) ≡ cleared q (now (sets .entry))) × (now (waiting .exit) ≡ cleared q (now (waiting .entry))) ⌝ }
+{
+    let k = pair(OldPlace(0), q);
+    if !meets(members::gathered(seen), alone(k as u32)) {
+        return;
+    }
+    for p in 0..64 {
+        if members::has(seen, p, k) {
+            leave(marks, targets, sets, waiting, 64 * p + k);
+        }
+    }
+}
+
+// New place q becomes kept, and all pairs with it leave.
 pub fn keep(
     marks: &mut [u8],
     targets: &mut [u16],
@@ -57,12 +85,7 @@ pub fn keep(
     ensures { λ _. ⌜ graph (now (marks .exit)) (now (targets .exit)) (now (sets .exit)) (now (waiting .exit))
         ≡ keep (graph (now (marks .entry)) (now (targets .entry)) (now (sets .entry)) (now (waiting .entry))) q ⌝ }
 {
-    let k = pair(OldPlace(0), q);
-    for p in 0..64 {
-        if members::has(seen, p, k) {
-            leave(marks, targets, sets, waiting, 64 * p + k);
-        }
-    }
+    leave_all(marks, targets, sets, waiting, seen, q);
     buffers::put8(marks, kept(q), 1);
 }
 

@@ -4,8 +4,9 @@ ghost use mathlib.Core.Bool.{true};
 ghost use mathlib.Core.Logic.{_↔_};
 ghost use Prim.Native.Nat.{_+_, _*_, _/_, _≤_, _<_};
 ghost use lib.ListN.{length};
-ghost use Rattle.words.specs.Words.{Member, added, removed, listed, LowestFrom, HighestBefore};
+ghost use Rattle.words.specs.Words.{Member, added, removed, gathered, listed, LowestFrom, HighestBefore};
 use align::inner::sets::alone;
+use align::inner::sets::joined;
 use align::inner::sets::meets;
 use align::inner::sets::with;
 use align::inner::sets::without;
@@ -32,6 +33,19 @@ pub fn has(words: &[u64], p: usize, q: usize) -> bool
     ensures { λ r. ⌜ (r ≡ true) ↔ Member (now (words .entry)) (64 * p + q) ⌝ }
 {
     meets(words[p], alone(q as u32))
+}
+
+// The bits that some word has. A loop without early end takes many words at once.
+pub fn gathered(words: &[u64]) -> u64
+    ensures { λ r. ⌜ r ≡ gathered (now (words .entry)) (length (now (words .entry))) ⌝ }
+{
+    let mut all = 0;
+    let mut p = 0;
+    while p < words.len() {
+        all = joined(all, words[p]);
+        p += 1;
+    }
+    all
 }
 
 // Adds pair n to a list of 65 words: also the last, of words that may have a bit, gains one.
