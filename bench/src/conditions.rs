@@ -52,15 +52,15 @@ fn ours(old: &Chart, new: &Chart, buffers: &mut Buffers) -> Option<[u64; 4]> {
 }
 
 fn over_the_same_buffers(old: &Chart, new: &Chart, b: &mut Buffers) -> Option<[u64; 4]> {
-    plain_build::build::<true>(old, new, &mut b.marks, &mut b.targets, &mut b.sets, &mut b.waiting).ok().map(|answer| answer.map(u64::from))
+    plain_build::build::<true>(old, new, b).ok().map(|answer| answer.map(u64::from))
 }
 
 fn with_sets(old: &Chart, new: &Chart, b: &mut Buffers) -> Option<[u64; 4]> {
-    plain_build::build::<false>(old, new, &mut b.marks, &mut b.targets, &mut b.sets, &mut b.waiting).ok().map(|answer| answer.map(u64::from))
+    plain_build::build::<false>(old, new, b).ok().map(|answer| answer.map(u64::from))
 }
 
 fn with_lists(old: &Chart, new: &Chart, b: &mut Buffers) -> Option<[u64; 4]> {
-    plain_build::build_with_lists(old, new, &mut b.marks, &mut b.targets, &mut b.sets, &mut b.waiting).ok().map(|answer| answer.map(u64::from))
+    plain_build::build_with_lists(old, new, b).ok().map(|answer| answer.map(u64::from))
 }
 
 /// Two lines: building and checking a list of pairs, per pair.

@@ -6,6 +6,7 @@
 //!   heap. The two others pass over the pairs that are not open yet, which needs no memory but the lent buffers and those words.
 
 use crate::plain::judge;
+use picker_tests::conditions::Buffers;
 use picker_tests::Chart;
 
 /// Number, chart and position.
@@ -215,14 +216,8 @@ struct Explored {
 }
 
 /// Algorithm 2. `KEPT_UP`: whether marks and waiting are kept up between turns.
-fn explore<const KEPT_UP: bool>(
-    old: &Chart,
-    new: &Chart,
-    marks: &mut [u8],
-    targets: &mut [u16],
-    sets: &mut [u64],
-    waiting: &mut [u8],
-) -> Result<Explored, Refusal> {
+fn explore<const KEPT_UP: bool>(old: &Chart, new: &Chart, b: &mut Buffers) -> Result<Explored, Refusal> {
+    let (marks, targets, sets, waiting) = (&mut b.marks[..], &mut b.targets[..], &mut b.sets[..], &mut b.waiting[..]);
     if marks.len() != 4160 || targets.len() != 8192 || sets.len() != 4096 || waiting.len() != 4096 {
         return Err((21, 0, 0));
     }
@@ -313,17 +308,17 @@ fn explore<const KEPT_UP: bool>(
 }
 
 /// The new start alone, kept: what the pairs had is taken back.
-fn leave_alone(present: &[u64; 64], marks: &mut [u8], targets: &mut [u16], sets: &mut [u64]) -> [u32; 4] {
+fn leave_alone(present: &[u64; 64], b: &mut Buffers) -> [u32; 4] {
     for p in 0..64 {
         for q in bits(present[p]) {
             let pair = 64 * p + q;
-            marks[pair] = 0;
-            sets[pair] = 0;
-            targets[2 * pair..2 * pair + 2].fill(65535);
+            b.marks[pair] = 0;
+            b.sets[pair] = 0;
+            b.targets[2 * pair..2 * pair + 2].fill(65535);
         }
     }
-    marks[4096..].fill(0);
-    marks[4096] = 2;
+    b.marks[4096..].fill(0);
+    b.marks[4096] = 2;
     [4096, 0, 1, 0]
 }
 
@@ -339,18 +334,12 @@ fn opens(marks: &mut [u8], targets: &[u16], pair: usize) -> bool {
 }
 
 /// Start and counts of marks 1, 2 and 3. Nothing but the buffers and a few words.
-pub fn build<const KEPT_UP: bool>(
-    old: &Chart,
-    new: &Chart,
-    marks: &mut [u8],
-    targets: &mut [u16],
-    sets: &mut [u64],
-    waiting: &mut [u8],
-) -> Result<[u32; 4], Refusal> {
-    let Explored { present, kept, alone } = explore::<KEPT_UP>(old, new, marks, targets, sets, waiting)?;
+pub fn build<const KEPT_UP: bool>(old: &Chart, new: &Chart, b: &mut Buffers) -> Result<[u32; 4], Refusal> {
+    let Explored { present, kept, alone } = explore::<KEPT_UP>(old, new, b)?;
     if alone {
-        return Ok(leave_alone(&present, marks, targets, sets));
+        return Ok(leave_alone(&present, b));
     }
+    let (marks, targets) = (&mut b.marks[..], &mut b.targets[..]);
     for q in bits(kept) {
         marks[4096 + q] = 2;
     }
@@ -383,6 +372,9 @@ pub fn build<const KEPT_UP: bool>(
                 }
             }
         }
+        if opened == before {
+            break;
+        }
         let between = opened;
         for p in 0..64 {
             for q in bits(rest[p]) {
@@ -392,7 +384,7 @@ pub fn build<const KEPT_UP: bool>(
                 }
             }
         }
-        if opened == between || opened == before {
+        if opened == between {
             break;
         }
     }
@@ -412,18 +404,12 @@ pub fn build<const KEPT_UP: bool>(
 }
 
 /// The same with lists of predecessors, marks and waiting not kept up.
-pub fn build_with_lists(
-    old: &Chart,
-    new: &Chart,
-    marks: &mut [u8],
-    targets: &mut [u16],
-    sets: &mut [u64],
-    waiting: &mut [u8],
-) -> Result<[u32; 4], Refusal> {
-    let Explored { present, kept, alone } = explore::<false>(old, new, marks, targets, sets, waiting)?;
+pub fn build_with_lists(old: &Chart, new: &Chart, b: &mut Buffers) -> Result<[u32; 4], Refusal> {
+    let Explored { present, kept, alone } = explore::<false>(old, new, b)?;
     if alone {
-        return Ok(leave_alone(&present, marks, targets, sets));
+        return Ok(leave_alone(&present, b));
     }
+    let (marks, targets) = (&mut b.marks[..], &mut b.targets[..]);
 
     // Targets that are kept by now, and who leads to whom: for each pair the last edge to it, for each edge its pair and the one before.
     let mut last = [0u16; 4096];
@@ -587,11 +573,11 @@ mod tests {
                 let (old, new) = drawn::pair(&mut random, sort);
                 let expected = algorithms::build(&old, &new);
                 for build in [build::<true>, build::<false>, build_with_lists] {
-                    let (mut marks, mut targets, mut sets, mut waiting) = (vec![9; 4160], vec![9; 8192], vec![9; 4096], vec![9; 4096]);
-                    let answer = build(&old, &new, &mut marks, &mut targets, &mut sets, &mut waiting);
+                    let mut b = Buffers { marks: vec![9; 4160], targets: vec![9; 8192], sets: vec![9; 4096], waiting: vec![9; 4096] };
+                    let answer = build(&old, &new, &mut b);
                     assert_eq!(answer, Ok([expected.start, expected.open, expected.kept, expected.covered]), "{old:?} {new:?}");
                     assert!(
-                        marks == expected.marks && targets == expected.targets && sets == expected.sets && waiting == expected.waiting,
+                        b.marks == expected.marks && b.targets == expected.targets && b.sets == expected.sets && b.waiting == expected.waiting,
                         "{old:?} {new:?}"
                     );
                 }
