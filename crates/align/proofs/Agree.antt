@@ -11,12 +11,13 @@ use lib.ListN.{length, set, length-set, List·getD-eq-default}
 use lib.Seq.{getD-set-same, getD-set-other, set-out}
 use Rattle.base.proofs.Lists.{has as among, All}
 use Rattle.base.proofs.Tests.{T-or-l, T-or-r, T-true}
-use Rattle.chart.specs.declared.operations.Operation.{Operation}
-use Rattle.chart.specs.declared.operations.Kind.{Kind}
-use Rattle.chart.specs.declared.operations.Kind.the-variants.{Assignment, ConstantComparison, VariableComparison, Unknown}
-use Rattle.chart.specs.Operations.{kind, byKind, isAssignment, isAssumption, reads, value, holds}
-use Rattle.chart.specs.Runs.{Values, var, lets, after}
-use Rattle.chart.proofs.Meaning.{Agree as SameOn, value-reads, value-small, holds-reads}
+use Rattle.operations.specs.declared.Operation.{Operation}
+use Rattle.operations.specs.declared.Kind.{Kind}
+use Rattle.operations.specs.declared.Kind.the-variants.{Assignment, ConstantComparison, VariableComparison, Unknown}
+use Rattle.operations.specs.Operations.{kind, byKind, isAssignment, isAssumption, reads, value, holds}
+use Rattle.operations.specs.Values.{Values, var}
+use Rattle.operations.proofs.Meaning.{Agree as SameOn, value-reads, value-small, holds-reads}
+use Rattle.chart.specs.Runs.{lets, after}
 use Rattle.align.specs.Sets.{with, without, meets, holdsAll, setOf, readSet}
 use Rattle.align.proofs.Sets.{In, with-old, without-kept, meet-none, holds-in, set-of-in}
 

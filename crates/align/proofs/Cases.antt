@@ -4,10 +4,10 @@ use mathlib.Core.List.{List, [], _∷_}
 use mathlib.Core.Option.{Option, none, some}
 use Prim.Native.Nat.{ℕ}
 use Rattle.base.specs.Options.{firstOf}
-use Rattle.chart.specs.declared.operations.Operation.{Operation}
+use Rattle.operations.specs.declared.Operation.{Operation}
+use Rattle.operations.specs.Operations.{kind, operandB, operandC, reads, same, related, holds}
+use Rattle.operations.specs.Trials.{seats, trial, shown, together}
 use Rattle.chart.specs.Charts.{Chart, leaving, leavingOf}
-use Rattle.chart.specs.Operations.{kind, operandB, operandC, reads, same, related, holds}
-use Rattle.chart.specs.Trials.{seats, trial, shown, together}
 use Rattle.align.specs.declared.spots.Spot.{Spot}
 use Rattle.align.specs.Sets.{alone, joined, with, without, meets, setOf, readSet}
 use Rattle.align.specs.Steps.{find, along, matching, matched, rewritten, assigned, onward, follow, followed, counterpart, assumed, moved, arrived, step}

@@ -11,18 +11,19 @@ use Rattle.base.specs.Says.{Says, bool}
 use Rattle.base.proofs.Tests.{T-and, T-true, is-true, and-true, or-false}
 use Rattle.base.proofs.Says.{says}
 use Rattle.base.proofs.Maybe.{All, All-none, All-some, All-map, All-when, All-orElse, All-firstOf}
-use Rattle.chart.specs.declared.operations.Operation.{Operation}
-use Rattle.chart.specs.declared.assumptions.Implication.{Implication}
-use Rattle.chart.specs.declared.assumptions.Implication.the-variants.{Never, Implied, NotImplied}
+use Rattle.operations.specs.declared.Operation.{Operation}
+use Rattle.operations.specs.declared.assumptions.Implication.{Implication}
+use Rattle.operations.specs.declared.assumptions.Implication.the-variants.{Never, Implied, NotImplied}
+use Rattle.operations.specs.Operations.{isAssignment, isAssumption, same, value, holds}
+use Rattle.operations.specs.Assumptions.{Operands, Implies, Means}
+use Rattle.operations.specs.Values.{Values, var}
+use Rattle.operations.specs.Trials.{implication}
+use Rattle.operations.proofs.Exact.{implication-means}
 use Rattle.chart.specs.declared.places.OldPlace.{OldPlace}
 use Rattle.chart.specs.declared.places.NewPlace.{NewPlace}
-use Rattle.chart.specs.Operations.{isAssignment, isAssumption, same, value, holds}
-use Rattle.chart.specs.Assumptions.{Operands, Implies, Means}
 use Rattle.chart.specs.Charts.{Chart, size, operation}
 use Rattle.chart.specs.Faultless.{FaultlessChart}
-use Rattle.chart.specs.Runs.{Values, var, lets, after}
-use Rattle.chart.specs.Trials.{implication}
-use Rattle.chart.proofs.Exact.{implication-means}
+use Rattle.chart.specs.Runs.{lets, after}
 use Rattle.align.specs.declared.spots.Spot.{Spot}
 use Rattle.align.specs.Sets.{alone, with, without, meets, readSet}
 use Rattle.align.specs.Steps.{find, isImplied, along, matching, matched, rewritten, rowsAt, atAlarm, assigned, onward, follow, followed, counterpart, assumed, moved, fair, arrived, step}

@@ -10,13 +10,13 @@ use borrow.Author.Tests.{eq-eqb, ne-eqb}
 use lib.ListN.{length, getD, take, drop, length-append, length-take, length-drop, List·getD-append}
 use lib.Seq.{getD-append-add, getD-drop, getD-take}
 use Rattle.base.proofs.Tests.{T-true, differ}
+use Rattle.operations.specs.Operations.{holds}
+use Rattle.operations.specs.Assumptions.{Operands}
+use Rattle.operations.specs.Values.{var}
+use Rattle.operations.proofs.Codes.{fit-a, fit-b}
+use Rattle.operations.proofs.Exact.{exclusive-exact}
 use Rattle.chart.specs.Charts.{Chart, size, from, to, operation, leavingOf, leaving}
-use Rattle.chart.specs.Operations.{holds}
-use Rattle.chart.specs.Assumptions.{Operands}
-use Rattle.chart.specs.Runs.{var}
 use Rattle.chart.specs.Faultless.{FaultlessChart}
-use Rattle.chart.proofs.Codes.{fit-a, fit-b}
-use Rattle.chart.proofs.Exact.{exclusive-exact}
 
 -- row k of one table is row i of another
 pub record SameRow (part : List ℕ) (k : ℕ) (t : List ℕ) (i : ℕ) : Type 0 where

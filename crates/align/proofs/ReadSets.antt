@@ -6,14 +6,14 @@ use Prim.Native.Nat.{ℕ, _<_}
 use lib.Bits.{bitOr, or-zero-l, or-zero-r, or-self}
 use Rattle.base.proofs.Tests.{and-true, T-true}
 use lib.Dec.{leb}
-use Rattle.chart.specs.declared.operations.Operation.{Operation}
-use Rattle.chart.specs.declared.operations.Kind.{Kind}
-use Rattle.chart.specs.declared.operations.Kind.the-variants.{Assignment, ConstantComparison, VariableComparison, Unknown}
-use Rattle.chart.specs.declared.operations.Operand.{Operand}
-use Rattle.chart.specs.declared.operations.Operand.the-variants.{Variable, Constant, Unused}
-use Rattle.chart.specs.Operations.{kind, byKind, isKnown, isAssignment, isAssumption, operandB, operandC, fits, operandsFit, ifVariable, reads, withConstant}
-use Rattle.chart.specs.Trials.{partner}
-use Rattle.chart.proofs.Codes.{fit-a, fit-b}
+use Rattle.operations.specs.declared.Operation.{Operation}
+use Rattle.operations.specs.declared.Kind.{Kind}
+use Rattle.operations.specs.declared.Kind.the-variants.{Assignment, ConstantComparison, VariableComparison, Unknown}
+use Rattle.operations.specs.declared.Operand.{Operand}
+use Rattle.operations.specs.declared.Operand.the-variants.{Variable, Constant, Unused}
+use Rattle.operations.specs.Operations.{kind, byKind, isKnown, isAssignment, isAssumption, operandB, operandC, fits, operandsFit, ifVariable, reads, withConstant}
+use Rattle.operations.specs.Trials.{partner}
+use Rattle.operations.proofs.Codes.{fit-a, fit-b}
 use Rattle.align.specs.Sets.{alone, joined, setOf, readSet}
 
 -- a list of one variable or none before others

@@ -10,12 +10,12 @@ use native.Mathlib.Omega.{arith}
 use Rattle.base.specs.Options.{when, missing, firstOf}
 use Rattle.base.proofs.Tests.{and-false}
 use Rattle.base.proofs.Options.{first-at, none-at, none-all, none-everywhere}
-use Rattle.chart.specs.declared.operations.Operation.{Operation}
+use Rattle.operations.specs.declared.Operation.{Operation}
+use Rattle.operations.specs.Operations.{isKnown, isAssignment, isAssumption, operandsFit}
+use Rattle.operations.specs.Trials.{never, implies, implication}
+use Rattle.operations.specs.declared.assumptions.Implication.the-variants.{Implied, NotImplied}
 use Rattle.chart.specs.Charts.{Chart, size, operation, leaving}
 use Rattle.chart.specs.Faultless.{FaultlessChart}
-use Rattle.chart.specs.Operations.{isKnown, isAssignment, isAssumption, operandsFit}
-use Rattle.chart.specs.Trials.{never, implies, implication}
-use Rattle.chart.specs.declared.assumptions.Implication.the-variants.{Implied, NotImplied}
 use Rattle.align.specs.Steps.{find, isImplied}
 use Rattle.align.proofs.Onto.{found}
 use Rattle.align.proofs.Agree.{not-assignment}

@@ -4,8 +4,8 @@ use mathlib.Core.List.{List, [], _∷_}
 use Prim.Native.Nat.{ℕ, _-_, _/_, _%_, _^_}
 use lib.Dec.{eqb}
 use lib.Bits.{bitAnd, bitOr}
-use Rattle.chart.specs.declared.operations.Operation.{Operation}
-use Rattle.chart.specs.Operations.{reads}
+use Rattle.operations.specs.declared.Operation.{Operation}
+use Rattle.operations.specs.Operations.{reads}
 
 -- "bit i for vi"
 abbrev pub bit : ℕ → ℕ → ℕ

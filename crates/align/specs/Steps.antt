@@ -6,14 +6,14 @@ use Prim.Native.Nat.{ℕ, zero, suc}
 use lib.Dec.{eqb}
 use Rattle.base.specs.Options.{when, orElse, firstOf}
 use Rattle.base.specs.Says.{Test, eq, ne, _or_, bool}
-use Rattle.chart.specs.declared.operations.Operation.{Operation}
-use Rattle.chart.specs.declared.assumptions.Implication.{Implication}
-use Rattle.chart.specs.declared.assumptions.Implication.the-variants.{Never, Implied, NotImplied}
+use Rattle.operations.specs.declared.Operation.{Operation}
+use Rattle.operations.specs.declared.assumptions.Implication.{Implication}
+use Rattle.operations.specs.declared.assumptions.Implication.the-variants.{Never, Implied, NotImplied}
+use Rattle.operations.specs.Operations.{isAssignment, isAssumption, same}
+use Rattle.operations.specs.Trials.{implication}
 use Rattle.chart.specs.declared.places.OldPlace.{OldPlace}
 use Rattle.chart.specs.declared.places.NewPlace.{NewPlace}
-use Rattle.chart.specs.Operations.{isAssignment, isAssumption, same}
 use Rattle.chart.specs.Charts.{Chart, size, to, operation, leaving}
-use Rattle.chart.specs.Trials.{implication}
 use Rattle.align.specs.declared.spots.Spot.{Spot}
 use Rattle.align.specs.declared.spots.Found.{Found}
 use Rattle.align.specs.declared.spots.Found.the-variants as founds

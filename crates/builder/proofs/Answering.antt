@@ -10,7 +10,7 @@ use lib.Dec.{eqb}
 use lib.ListN.{length}
 use Rattle.base.specs.Answers.{given, refused}
 use Rattle.base.specs.Options.{orElse, missing}
-use Rattle.base.specs.Refusals.{refusedIf}
+use Rattle.base.specs.Refusals.{refusedIf, Fault}
 use Rattle.base.specs.Says.{bool}
 use Rattle.base.proofs.Options.{both-missing, not-due, first-there, first-missing}
 use Rattle.base.proofs.Says.{says}
@@ -18,7 +18,7 @@ use Rattle.base.proofs.Tests.{T-true}
 use Rattle.chart.specs.declared.charts.Head.{Head}
 use Rattle.chart.specs.declared.charts.Judged.{Judged}
 use Rattle.chart.specs.Charts.{Chart, charted}
-use Rattle.chart.specs.Faults.{Fault, fault, told as chartTold, refusal as chartRefusal}
+use Rattle.chart.specs.Faults.{fault, told as chartTold, refusal as chartRefusal}
 use Rattle.chart.specs.Faultless.{FaultlessChart}
 use Rattle.chart.proofs.Faultless.{faultless}
 use Rattle.checker.specs.Records.{recordOf}

@@ -4,9 +4,8 @@ use mathlib.Core.Bool.{Bool}
 use mathlib.Core.Option.{Option, none, some}
 use Prim.Native.Nat.{ℕ, _≤_}
 use native.Mathlib.Omega.{arith}
-use Rattle.base.specs.Refusals.{Refusal, refusedIf}
+use Rattle.base.specs.Refusals.{Refusal, refusedIf, Fault}
 use Rattle.base.proofs.OnSome.{OnSome, when-on}
-use Rattle.chart.specs.Faults.{Fault}
 use Rattle.chart.proofs.Bounds.{Slight}
 use Rattle.checker.specs.Checks.{inChart}
 

@@ -9,12 +9,13 @@ use lib.Dec.{eqb, leb, ltb}
 use lib.ListN.{length}
 use Rattle.base.specs.Options.{orElse, firstOf}
 use Rattle.base.specs.Tests.{someBelow}
+use Rattle.base.specs.Refusals.{Fault, due}
 use Rattle.base.proofs.OnSome.{OnSome, when-on, or-on, first-on}
 use Rattle.base.proofs.Options.{both-missing, not-due}
 use Rattle.base.proofs.Tests.{or-false}
-use Rattle.chart.specs.Operations.{isKnown, operandsFit}
+use Rattle.operations.specs.Operations.{isKnown, operandsFit}
 use Rattle.chart.specs.Charts.{Chart, size, from, to, operation}
-use Rattle.chart.specs.Faults.{Fault, due, countFault, alarmFault, fromBefore, rowFault, clash, conflictFault, rowsFault, fault, refusal}
+use Rattle.chart.specs.Faults.{countFault, alarmFault, fromBefore, rowFault, clash, conflictFault, rowsFault, fault, refusal}
 
 -- a fault's number and position
 pub record Slight (f : Fault) : Type 0 where

@@ -13,12 +13,13 @@ use lib.Dec.{eqb, leb, ltb}
 use lib.ListN.{length}
 use Rattle.base.specs.Options.{when, orElse, missing, firstOf}
 use Rattle.base.specs.Tests.{someBelow}
+use Rattle.base.specs.Refusals.{Fault, due}
 use Rattle.base.proofs.Options.{missing-none, both-missing, not-due, none-of, none-if, none-everywhere}
 use Rattle.base.proofs.Tests.{and-true, or-false, not-both, none-below, none-below-at}
-use Rattle.chart.specs.Operations.{isKnown, isAssumption, operandsFit}
+use Rattle.operations.specs.Operations.{isKnown, isAssumption, operandsFit}
+use Rattle.operations.specs.Trials.{exclusive}
 use Rattle.chart.specs.Charts.{Chart, size, from, to, operation}
-use Rattle.chart.specs.Trials.{exclusive}
-use Rattle.chart.specs.Faults.{Fault, due, countFault, alarmFault, fromBefore, rowFault, clash, conflictFault, rowsFault, fault, refusal}
+use Rattle.chart.specs.Faults.{countFault, alarmFault, fromBefore, rowFault, clash, conflictFault, rowsFault, fault, refusal}
 use Rattle.chart.specs.Faultless.{FaultlessRow, Apart, FaultlessChart}
 use Rattle.chart.specs.Lookup.{openTo, Ascending, Indexable}
 

@@ -1,4 +1,4 @@
--- The faults one by one, as the code comes upon them, and the refusals of one operation. Assumes nothing.
+-- The faults one by one, as the code comes upon them. Assumes nothing.
 use mathlib.Core.Path.{_≡_, refl, sym, ap, ap₂, _∙_}
 use mathlib.Core.Bool.{Bool, true, false, _&&_, _||_, not}
 use mathlib.Core.List.{List}
@@ -9,19 +9,18 @@ use native.Mathlib.Omega.{arith}
 use mathlib.Core.Logic.{dite}
 use borrow.Author.Tests.{eq-eqb, ne-eqb, le-ltb, le-leb, lt-leb, leb-true, eqb-false, not-true, not-false}
 use lib.Dec.{eqb, leb, ltb}
-use lib.ListN.{length}
-use Rattle.base.specs.Answers.{given, refused}
 use Rattle.base.specs.Options.{missing}
 use Rattle.base.specs.Tests.{someBelow}
+use Rattle.base.specs.Refusals.{Fault, due}
 use Rattle.base.proofs.Tests.{T-true, and-true, None-since, none-here, none-left}
-use Rattle.chart.specs.declared.operations.Operation.{Operation}
-use Rattle.chart.specs.Operations.{isKnown, isAssumption, operandsFit}
+use Rattle.operations.specs.declared.Operation.{Operation}
+use Rattle.operations.specs.Operations.{isKnown, isAssumption, operandsFit}
+use Rattle.operations.specs.Assumptions.{Opposed}
+use Rattle.operations.specs.Trials.{exclusive}
+use Rattle.operations.proofs.Opposed.{opposed-one}
 use Rattle.chart.specs.Charts.{Chart, size, from, to, operation}
-use Rattle.chart.specs.Faults.{Fault, due, fromBefore, rowFault, clash, conflictFault, operationFault, unless}
-use Rattle.chart.specs.Assumptions.{Opposed}
-use Rattle.chart.specs.Trials.{exclusive}
+use Rattle.chart.specs.Faults.{fromBefore, rowFault, clash, conflictFault}
 use Rattle.chart.specs.Lookup.{Ascending}
-use Rattle.chart.proofs.Opposed.{opposed-one}
 
 -- ---- fault 5
 module _ (t : List ℕ) (i : ℕ) where
@@ -133,21 +132,3 @@ module _ (t : List ℕ) (i : ℕ) where
   pub no-conflict : {r : Bool} → r ≡ someBelow i (clash t i) → r ≡ false → missing (conflictFault t i) ≡ true
   unfolding conflictFault
   no-conflict e t = rw (← e, t)
-
--- ---- the refusals of one operation
-module _ {A : Type 0} (sort : Bool) (o : Operation) (v : List ℕ) (x : A) where
-  pub other-length : (length v ≡ 64 → ⊥) → refused 21 0 0 ≡ unless (operationFault sort o v) x
-  unfolding operationFault
-  other-length n = rw (ne-eqb (length v) 64 n)
-
-  pub other-sort : length v ≡ 64 → sort ≡ false → refused 6 0 0 ≡ unless (operationFault sort o v) x
-  unfolding operationFault
-  other-sort l s = rw (eq-eqb (length v) 64 l, s)
-
-  pub unfit : length v ≡ 64 → sort ≡ true → operandsFit o ≡ false → refused 7 0 0 ≡ unless (operationFault sort o v) x
-  unfolding operationFault
-  unfit l s h = rw (eq-eqb (length v) 64 l, s, h)
-
-  pub answered : length v ≡ 64 → sort ≡ true → operandsFit o ≡ true → given x ≡ unless (operationFault sort o v) x
-  unfolding operationFault
-  answered l s h = rw (eq-eqb (length v) 64 l, s, h)

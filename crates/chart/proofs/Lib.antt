@@ -1,15 +1,6 @@
 -- Laws that several proofs cite.
 pub mod Comparisons
-pub mod Codes
-pub mod Order
-pub mod Trials
-pub mod Exact
-pub mod Fewer
-pub mod Independent
-pub mod Orders
-pub mod Opposed
 pub mod Rows
 pub mod Faults
 pub mod Faultless
-pub mod Meaning
 pub mod Bounds

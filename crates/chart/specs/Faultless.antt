@@ -4,10 +4,10 @@ use mathlib.Core.Path.{_≡_}
 use mathlib.Core.Bool.{true}
 use Prim.Native.Nat.{ℕ, suc, _%_, _≤_, _<_}
 use lib.ListN.{length}
-use Rattle.chart.specs.Operations.{isKnown, isAssumption, operandsFit}
+use Rattle.operations.specs.Operations.{isKnown, isAssumption, operandsFit}
+use Rattle.operations.specs.Trials.{exclusive}
 use Rattle.chart.specs.Charts.{Chart, size, from, to, operation}
 use Rattle.chart.specs.Faults.{fromBefore}
-use Rattle.chart.specs.Trials.{exclusive}
 
 -- row i has none of the faults 4 to 7
 pub record FaultlessRow (C : Chart) (i : ℕ) : Type 0 where

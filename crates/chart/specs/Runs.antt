@@ -1,23 +1,14 @@
 -- Runs of a chart from given values ("Charts and rows").
-use mathlib.Core.Path.{_≡_}
 use mathlib.Core.Bool.{Bool, true, false, _&&_, _||_}
 use mathlib.Core.List.{List, [], _∷_}
 use mathlib.Core.Option.{Option, none, some}
-use Prim.Native.Nat.{ℕ, _^_, _<_}
+use Prim.Native.Nat.{ℕ}
 use lib.Dec.{eqb, ltb}
-use lib.ListN.{length, getD, set}
-use Rattle.chart.specs.declared.operations.Operation.{Operation}
-use Rattle.chart.specs.Operations.{kind, byKind, value, holds}
+use lib.ListN.{set}
+use Rattle.operations.specs.declared.Operation.{Operation}
+use Rattle.operations.specs.Operations.{kind, byKind, value, holds}
+use Rattle.operations.specs.Values.{var}
 use Rattle.chart.specs.Charts.{Chart, Row, start, size, row}
-
--- "Variables v0 to v63 hold u32 values": 64 numbers below 2^32
-pub record Values (v : List ℕ) : Type 0 where
-  pub count : length v ≡ 64
-  pub small : (i : ℕ) → getD v i 0 < 2 ^ 32
-
--- the value of a variable, by its number
-abbrev pub var : List ℕ → ℕ → ℕ
-var v i = getD v i 0
 
 -- "an assumption must hold of the values": an assignment can always be taken, an unknown code never
 unfoldable pub lets : Operation → List ℕ → Bool

@@ -1,21 +1,15 @@
-// Charts: what a chart is, what its operations mean, when it is faulty. Here stand the entry points, which refuse bad input themselves;
+// Charts: what a chart is, and when it is faulty. Here stand the entry points, which refuse bad input themselves;
 // `inner` is what the crates above may call once a chart is known to be faultless.
 ghost use mathlib.Core.Path.{_≡_};
-ghost use mathlib.Core.Bool.{true, cond};
+ghost use mathlib.Core.Bool.{cond};
 ghost use mathlib.Core.List.{[]};
 ghost use Rattle.chart.specs.Charts.{charted, leaving};
-ghost use Rattle.chart.specs.Faults.{refusal, told, writtenBy, toldWritten, metBy, toldMet};
+ghost use Rattle.chart.specs.Faults.{refusal, told};
 ghost use Rattle.chart.specs.Lookup.{openTo, lookup};
-use assumptions::Implication;
 use charts::Head;
 use charts::Judged;
-use operations::Met;
-use operations::Operation;
-use operations::Written;
 
 pub mod places; // places.rt: places of the old and of the new chart
-pub mod operations; // operations.rt: kinds and operands of operations
-pub mod assumptions; // assumptions.rt: the exact test of two assumptions
 pub mod charts; // charts.rt: a chart's head, and what judging a chart answers
 pub mod inner; // inner.rt: for the crates above
 
@@ -68,40 +62,4 @@ pub fn lookup<'a>(
         return rows_open(new, new_rows, place);
     }
     &old_rows[0..0]
-}
-
-// The value that an assignment writes, from 64 lent values; refused: 21 other than 64 values, 6 no assignment, 7 an operand that does not fit.
-pub fn value_written(o: Operation, values: &[u32]) -> Written
-    ensures { λ r. ⌜ toldWritten r ≡ writtenBy o (now (values .entry)) ⌝ }
-{
-    if values.len() != 64 {
-        return Written::Refused(21);
-    }
-    if !operations::is_assignment(o) {
-        return Written::Refused(6);
-    }
-    if !operations::operands_fit(o) {
-        return Written::Refused(7);
-    }
-    Written::Value(inner::meaning::value(o, values))
-}
-
-// Whether 64 lent values meet an assumption; refused: 21 other than 64 values, 6 no assumption, 7 an operand that does not fit.
-pub fn meets(o: Operation, values: &[u32]) -> Met
-    ensures { λ r. ⌜ toldMet r ≡ metBy o (now (values .entry)) ⌝ }
-{
-    if values.len() != 64 {
-        return Met::Refused(21);
-    }
-    if !operations::is_assumption(o) {
-        return Met::Refused(6);
-    }
-    if !operations::operands_fit(o) {
-        return Met::Refused(7);
-    }
-    if inner::meaning::holds(o, values) {
-        Met::Yes
-    } else {
-        Met::No
-    }
 }

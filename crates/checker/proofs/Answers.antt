@@ -4,14 +4,14 @@ use mathlib.Core.Bool.{Bool, true, false}
 use mathlib.Core.Option.{Option, none, some}
 use lib.ListN.{length}
 use Rattle.base.specs.Options.{orElse, missing, firstOf}
-use Rattle.base.specs.Refusals.{Refusal}
+use Rattle.base.specs.Refusals.{Refusal, Fault}
 use Rattle.base.specs.Says.{bool, Says}
 use Rattle.base.proofs.Options.{gone, picked-first, picked-second}
 use Rattle.base.proofs.Says.{says}
 use Rattle.base.proofs.Tests.{T-true}
 use Rattle.chart.specs.Charts.{Chart}
 use Rattle.chart.specs.Faultless.{FaultlessChart}
-use Rattle.chart.specs.Faults.{Fault, fault}
+use Rattle.chart.specs.Faults.{fault}
 use Rattle.chart.proofs.Faultless.{faultless}
 use Rattle.checker.specs.Records.{Record}
 use Rattle.checker.specs.Rules.{headOf, shaped, startFits, Admitted}

@@ -14,11 +14,12 @@ use Rattle.base.specs.Says.{Says, bool}
 use Rattle.base.proofs.Maybe.{All}
 use Rattle.base.proofs.Says.{says}
 use Rattle.base.proofs.Tests.{T-and, T-or, T-true, is-true}
-use Rattle.chart.specs.declared.operations.Operation.{Operation}
+use Rattle.operations.specs.declared.Operation.{Operation}
+use Rattle.operations.specs.Values.{Values}
 use Rattle.chart.specs.declared.places.NewPlace.{NewPlace}
 use Rattle.chart.specs.Charts.{Chart, size, from, to, operation, row}
 use Rattle.chart.specs.Places.{oldOf, newOf}
-use Rattle.chart.specs.Runs.{State, Values, lets, after, taken, begin, ready}
+use Rattle.chart.specs.Runs.{State, lets, after, taken, begin, ready}
 use Rattle.align.specs.declared.spots.Spot.{Spot}
 use Rattle.align.specs.Steps.{fair, step}
 use Rattle.align.proofs.Agree.{agree-wider, agree-same-values, values-after}

@@ -11,13 +11,13 @@ use borrow.Author.Tests.{eq-eqb, ne-eqb, lt-ltb, not-false}
 use lib.Dec.{ltb}
 use lib.ListN.{length, List·getD-eq-default}
 use Rattle.base.specs.Options.{when, firstOf}
-use Rattle.base.specs.Refusals.{Refusal, refusedIf}
+use Rattle.base.specs.Refusals.{Refusal, refusedIf, Fault}
 use Rattle.base.specs.Says.{Test, bool, Says}
 use Rattle.base.proofs.Options.{both-missing, not-due, none-of}
 use Rattle.base.proofs.Says.{says}
 use Rattle.base.proofs.Tests.{T-true, not-both}
 use Rattle.chart.specs.Charts.{Chart, size, leaving}
-use Rattle.chart.specs.Faults.{Fault, fault, refusal as chartRefusal}
+use Rattle.chart.specs.Faults.{fault, refusal as chartRefusal}
 use Rattle.chart.specs.Faultless.{FaultlessChart}
 use Rattle.chart.specs.Places.{newOf}
 use Rattle.chart.proofs.Faultless.{faultless}

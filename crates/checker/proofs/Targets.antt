@@ -16,12 +16,12 @@ use Rattle.base.specs.Says.{bool, Says}
 use Rattle.base.specs.Tests.{within}
 use Rattle.base.proofs.Options.{missing-none, none-of, none-everywhere}
 use Rattle.base.proofs.Picks.{pick-true, pick-false}
-use Rattle.chart.specs.declared.operations.Operation.{Operation}
+use Rattle.operations.specs.declared.Operation.{Operation}
+use Rattle.operations.specs.Operations.{isKnown, operandsFit}
 use Rattle.chart.specs.declared.places.OldPlace.{OldPlace}
 use Rattle.chart.specs.declared.places.NewPlace.{NewPlace}
 use Rattle.chart.specs.Charts.{Chart, size, to, operation, leaving}
 use Rattle.chart.specs.Faultless.{FaultlessChart}
-use Rattle.chart.specs.Operations.{isKnown, operandsFit}
 use Rattle.chart.specs.Places.{pairNumber, keptNumber, oldOf, newOf}
 use Rattle.align.specs.declared.spots.Spot.{Spot}
 use Rattle.align.specs.Sets.{holdsAll}

@@ -6,10 +6,10 @@ use Prim.Native.Nat.{ℕ, _%_}
 use lib.Dec.{eqb, ltb}
 use lib.ListN.{length}
 use Rattle.base.specs.Options.{orElse, firstOf}
-use Rattle.base.specs.Refusals.{Refusal, refusedIf}
+use Rattle.base.specs.Refusals.{Refusal, refusedIf, Fault}
 use Rattle.base.specs.Says.{Test, eq, _and_, bool}
 use Rattle.chart.specs.Charts.{Chart, size, leaving}
-use Rattle.chart.specs.Faults.{Fault, fault}
+use Rattle.chart.specs.Faults.{fault}
 use Rattle.chart.specs.Places.{newOf}
 use Rattle.checker.specs.declared.records.Checked.{Checked}
 use Rattle.checker.specs.declared.records.Checked.the-variants.{Passed, Lengths, OldFault, NewFault, Shape, Start, Target}

@@ -6,8 +6,9 @@ use mathlib.Core.Bool.{true}
 use mathlib.Core.List.{List}
 use Prim.Native.Nat.{ℕ, _^_, _<_}
 use lib.ListN.{getD}
+use Rattle.operations.specs.Values.{Values}
 use Rattle.chart.specs.Charts.{Chart}
-use Rattle.chart.specs.Runs.{Values, reaches}
+use Rattle.chart.specs.Runs.{reaches}
 use Rattle.checker.specs.Records.{Record, covered}
 
 -- the entries of a lent table are u32

@@ -6,8 +6,8 @@ use mathlib.Core.Option.{Option, none, some}
 use Prim.Native.Nat.{ℕ}
 use lib.ListN.{length, getD}
 use Rattle.base.specs.Says.{Test, eq, ne, le, so, _and_, _or_, each, below, bool, Says}
+use Rattle.operations.specs.declared.Operation.{Operation}
 use Rattle.chart.specs.declared.charts.Head.{Head}
-use Rattle.chart.specs.declared.operations.Operation.{Operation}
 use Rattle.chart.specs.declared.places.OldPlace.{OldPlace}
 use Rattle.chart.specs.declared.places.NewPlace.{NewPlace}
 use Rattle.chart.specs.Charts.{Chart, charted, start, to, operation}

@@ -7,11 +7,11 @@ use Prim.Native.Nat.{ℕ, zero, suc, _+_, _/_, _%_, _^_, _≤_, _<_}
 use native.Mathlib.Omega.{arith}
 use borrow.Author.Tests.{lt-ltb, le-ltb}
 use lib.ListN.{length, getD, set, length-set}
+use Rattle.operations.specs.Operations.{isKnown, operandsFit}
 use Rattle.chart.specs.declared.places.OldPlace.{OldPlace}
 use Rattle.chart.specs.declared.places.NewPlace.{NewPlace}
 use Rattle.chart.specs.Charts.{Chart, size, to, operation, leaving}
 use Rattle.chart.specs.Faultless.{FaultlessChart}
-use Rattle.chart.specs.Operations.{isKnown, operandsFit}
 use Rattle.chart.specs.Places.{oldOf, newOf}
 use Rattle.align.specs.declared.spots.Spot.{Spot}
 use Rattle.align.specs.declared.spots.Aligned.{Aligned}

@@ -10,14 +10,14 @@ use lib.Bits.{or-lt, and-le-l}
 use lib.Pow.{pow-lt}
 use Rattle.base.specs.Says.{bool}
 use Rattle.base.proofs.Maybe.{All, All-none, All-some, All-map, All-when, All-orElse, All-firstOf}
-use Rattle.chart.specs.declared.operations.Operation.{Operation}
+use Rattle.operations.specs.declared.Operation.{Operation}
+use Rattle.operations.specs.Operations.{isAssignment, isAssumption, same}
+use Rattle.operations.specs.Trials.{implication}
+use Rattle.operations.proofs.Codes.{fit-a}
 use Rattle.chart.specs.declared.places.OldPlace.{OldPlace}
 use Rattle.chart.specs.declared.places.NewPlace.{NewPlace}
-use Rattle.chart.specs.Operations.{isAssignment, isAssumption, same}
 use Rattle.chart.specs.Charts.{Chart, size, to, operation, leaving}
 use Rattle.chart.specs.Faultless.{FaultlessChart}
-use Rattle.chart.specs.Trials.{implication}
-use Rattle.chart.proofs.Codes.{fit-a}
 use Rattle.align.specs.declared.spots.Spot.{Spot}
 use Rattle.align.specs.Sets.{alone, joined, with, without, meets, readSet}
 use Rattle.align.specs.Steps.{find, isImplied, along, matching, matched, rewritten, rowsAt, atAlarm, assigned, onward, follow, followed, counterpart, assumed, moved, fair, arrived, step}

@@ -14,18 +14,18 @@ use Rattle.base.specs.Options.{when, orElse}
 use Rattle.base.proofs.Options.{none-of, not-due, both-missing}
 use Rattle.base.proofs.Sums.{sum, sum-lt, sum-most}
 use Rattle.base.proofs.Tests.{T-true, and-true}
-use Rattle.chart.specs.declared.operations.Operation.{Operation}
-use Rattle.chart.specs.declared.operations.Kind.{Kind}
-use Rattle.chart.specs.declared.operations.Kind.the-variants.{Assignment, ConstantComparison, VariableComparison, Unknown}
-use Rattle.chart.specs.declared.assumptions.Implication.{Implication}
-use Rattle.chart.specs.declared.assumptions.Implication.the-variants.{Never, Implied, NotImplied}
+use Rattle.operations.specs.declared.Operation.{Operation}
+use Rattle.operations.specs.declared.Kind.{Kind}
+use Rattle.operations.specs.declared.Kind.the-variants.{Assignment, ConstantComparison, VariableComparison, Unknown}
+use Rattle.operations.specs.declared.assumptions.Implication.{Implication}
+use Rattle.operations.specs.declared.assumptions.Implication.the-variants.{Never, Implied, NotImplied}
+use Rattle.operations.specs.Assumptions.{NeverHolds, Implies, Means, Operands}
+use Rattle.operations.specs.Operations.{kind, byKind, isKnown, isAssignment, isAssumption, same}
+use Rattle.operations.specs.Trials.{implication}
+use Rattle.operations.proofs.Exact.{implication-means}
 use Rattle.chart.specs.declared.places.OldPlace.{OldPlace}
-use Rattle.chart.specs.Assumptions.{NeverHolds, Implies, Means, Operands}
 use Rattle.chart.specs.Charts.{Chart, size, from, to, operation}
 use Rattle.chart.specs.Faultless.{FaultlessChart}
-use Rattle.chart.specs.Operations.{kind, byKind, isKnown, isAssignment, isAssumption, same}
-use Rattle.chart.specs.Trials.{implication}
-use Rattle.chart.proofs.Exact.{implication-means}
 use Rattle.align.specs.declared.spots.Spot.{Spot}
 use Rattle.align.specs.Sets.{bit, alone, joined, with, without, meets, readSet}
 use Rattle.align.specs.Steps.{find, oldTo, isImplied, along, matching, matched, rewritten, rowsAt, atAlarm, assigned, onward, follow, followed, counterpart, assumed, moved}

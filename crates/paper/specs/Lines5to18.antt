@@ -8,12 +8,12 @@ use mathlib.Core.Logic.{_⊎_, _≢_, _↔_}
 use mathlib.Core.Option.{Option, none, some}
 use Prim.Native.Nat.{ℕ, _<_}
 use lib.Dec.{eqb}
-use Rattle.chart.specs.declared.operations.Operation.{Operation}
+use Rattle.operations.specs.declared.Operation.{Operation}
+use Rattle.operations.specs.Assumptions.{NeverHolds, Implies}
+use Rattle.operations.specs.Operations.{isAssignment}
 use Rattle.chart.specs.declared.places.OldPlace.{OldPlace}
-use Rattle.chart.specs.Assumptions.{NeverHolds, Implies}
 use Rattle.chart.specs.Charts.{Chart, size, from, operation}
 use Rattle.chart.specs.Charts as charts
-use Rattle.chart.specs.Operations.{isAssignment}
 use Rattle.align.specs.declared.spots.Spot.{Spot}
 use Rattle.align.specs.Sets.{bit, readSet}
 use Rattle.paper.specs.Nodes.{Set, _∈_, ∅, _∪_}

@@ -9,14 +9,14 @@ use native.Mathlib.Omega.{arith}
 use lib.Dec.{eqb}
 use lib.ListN.{length}
 use Rattle.base.specs.Answers.{Answer, given, refused}
-use Rattle.base.specs.Refusals.{Refusal, refusedIf}
+use Rattle.base.specs.Refusals.{Refusal, refusedIf, Fault}
 use Rattle.base.specs.Walks.{count}
 use Rattle.base.specs.Options.{orElse}
 use Rattle.base.specs.Says.{bool}
 use Rattle.base.proofs.Answers.{different}
 use Rattle.base.proofs.OnSome.{OnSome, when-on, or-on}
 use Rattle.chart.specs.Charts.{Chart}
-use Rattle.chart.specs.Faults.{Fault, fault}
+use Rattle.chart.specs.Faults.{fault}
 use Rattle.chart.proofs.Bounds.{Slight, fault-slight}
 use Rattle.checker.specs.Checks.{inChart}
 use Rattle.checker.specs.Rules.{headOf, startPair, startKept}

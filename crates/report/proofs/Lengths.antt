@@ -10,14 +10,14 @@ use lib.Dec.{eqb}
 use lib.ListN.{length, take}
 use lib.Seq.{take-all}
 use Rattle.base.specs.Answers.{Answer, given, refused}
-use Rattle.base.specs.Refusals.{refusedIf}
+use Rattle.base.specs.Refusals.{refusedIf, due}
 use Rattle.base.specs.Says.{bool}
 use Rattle.base.proofs.Answers.{different}
 use Rattle.base.proofs.Options.{both-missing, not-due}
 use Rattle.base.proofs.Says.{says}
 use Rattle.base.proofs.Tests.{T-true}
 use Rattle.chart.specs.Charts.{Chart, size}
-use Rattle.chart.specs.Faults.{due, fault, refusal}
+use Rattle.chart.specs.Faults.{fault, refusal}
 use Rattle.chart.proofs.Faultless.{faultless}
 use Rattle.text.specs.Texts.{readText}
 use Rattle.text.proofs.Theorems.{read-exactly}

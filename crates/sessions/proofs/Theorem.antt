@@ -5,11 +5,11 @@ use mathlib.Core.List.{List, [], _∷_}
 use Prim.Native.Nat.{ℕ, _^_}
 use lib.Dec.{T, T-not, eqb, ltb, eqb→eq, ltb→lt}
 use Rattle.base.proofs.Tests.{T-and, T-true}
-use Rattle.chart.specs.declared.operations.Operation.{Operation}
-use Rattle.chart.specs.Operations.{value, plus}
-use Rattle.chart.specs.Assumptions.{Operands}
-use Rattle.chart.specs.Trials.{never, implies}
-use Rattle.chart.proofs.Exact.{implies-exact, never-exact}
+use Rattle.operations.specs.declared.Operation.{Operation}
+use Rattle.operations.specs.Operations.{value, plus}
+use Rattle.operations.specs.Assumptions.{Operands}
+use Rattle.operations.specs.Trials.{never, implies}
+use Rattle.operations.proofs.Exact.{implies-exact, never-exact}
 use Rattle.report.specs.Printed.{printed}
 use Rattle.sessions.specs.Cases.{Case, prints, implied, notImplied, anything, sum, Says, adds, bytes, same, fit, test, tests, Every, none, one}
 use Rattle.sessions.specs.Worked.{worked}
@@ -17,10 +17,10 @@ use Rattle.base.specs.Options as base-options
 use Rattle.base.specs.Repeat as base-repeat
 use Rattle.base.specs.Walks as base-walks
 use Rattle.base.specs.Tests as base-tests
+use Rattle.operations.specs.Operations as operations-operations
+use Rattle.operations.specs.Trials as operations-trials
 use Rattle.chart.specs.Charts as chart-charts
 use Rattle.chart.specs.Faults as chart-faults
-use Rattle.chart.specs.Operations as chart-operations
-use Rattle.chart.specs.Trials as chart-trials
 use Rattle.text.specs.Fields as text-fields
 use Rattle.text.specs.Spans as text-spans
 use Rattle.text.specs.Texts as text-texts
@@ -78,7 +78,7 @@ all-show (c ∷ l) t = let (h, r) = T-and (test c) (tests l) t in one (shows c h
 
 -- every test passes, by computing with the definitions
 computed : tests worked ≡ true
-unfolding worked tests test same fit bytes base-options.firstOf base-repeat.repeated base-walks.pass base-walks.firstFrom base-walks.count base-tests.someBelow chart-charts.leavingOf chart-charts.leaving chart-faults.countFault chart-faults.alarmFault chart-faults.rowFault chart-faults.clash chart-faults.conflictFault chart-faults.rowsFault chart-faults.fault chart-operations.kind chart-operations.operandB chart-operations.assignedC chart-operations.operandC chart-operations.operandsFit chart-operations.reads chart-operations.same chart-operations.value chart-operations.related chart-operations.holds chart-trials.seats chart-trials.trial chart-trials.shown chart-trials.together text-fields.digitOf text-fields.digits text-fields.value text-fields.kind text-fields.judged text-fields.bounded text-fields.ended text-fields.numberOf text-fields.numberAt text-fields.followed text-fields.fieldAt text-fields.lineEnd text-fields.closed text-fields.missing text-fields.itemAt text-spans.fieldsAt text-texts.whole text-texts.rowsAt text-texts.parsed text-texts.readText text-written.digitsIn text-written.digitsOf text-written.decimal text-written.closing text-written.fieldsText align-sets.alone align-sets.joined align-sets.with align-sets.without align-sets.meets align-sets.holdsAll align-sets.setOf align-sets.readSet align-steps.find align-steps.along align-steps.matching align-steps.matched align-steps.rewritten align-steps.assigned align-steps.onward align-steps.follow align-steps.followed align-steps.counterpart align-steps.assumed align-steps.moved align-steps.arrived align-steps.step builder-graphs.marked builder-graphs.gone builder-graphs.cleared builder-graphs.untargeted builder-graphs.keep builder-graphs.aim builder-graphs.due builder-graphs.waits builder-graphs.join builder-graphs.unwait builder-turns.lowest builder-turns.next builder-turns.setNow builder-turns.begun builder-turns.stepOf builder-turns.arrived builder-turns.processed builder-turns.rowDone builder-turns.secondDone builder-turns.taken builder-turns.explored builder-marks.plainMark builder-marks.plainMarks builder-marks.inQ builder-marks.opening builder-marks.nextOpening builder-marks.allOpened builder-marks.transitions builder-marks.cover builder-marks.covered builder-marks.allCovered builder-marks.finalMarks builder-builds.redirected builder-builds.finalTargets builder-builds.alone builder-builds.lone builder-builds.finished builder-builds.built builder-builds.startOf builder-builds.recorded builder-answers.summary report-lines.line report-lines.refusalLine report-transitions.rowsBelow report-transitions.firstRow report-transitions.transition report-transitions.ofPair report-transitions.transitionsFrom report-transitions.remaining report-printed.bothOf report-printed.bothRead report-printed.summaryLine report-printed.transitions report-printed.condition report-printed.conditionOf report-printed.printed
+unfolding worked tests test same fit bytes base-options.firstOf base-repeat.repeated base-walks.pass base-walks.firstFrom base-walks.count base-tests.someBelow chart-charts.leavingOf chart-charts.leaving chart-faults.countFault chart-faults.alarmFault chart-faults.rowFault chart-faults.clash chart-faults.conflictFault chart-faults.rowsFault chart-faults.fault operations-operations.kind operations-operations.operandB operations-operations.assignedC operations-operations.operandC operations-operations.operandsFit operations-operations.reads operations-operations.same operations-operations.value operations-operations.related operations-operations.holds operations-trials.seats operations-trials.trial operations-trials.shown operations-trials.together text-fields.digitOf text-fields.digits text-fields.value text-fields.kind text-fields.judged text-fields.bounded text-fields.ended text-fields.numberOf text-fields.numberAt text-fields.followed text-fields.fieldAt text-fields.lineEnd text-fields.closed text-fields.missing text-fields.itemAt text-spans.fieldsAt text-texts.whole text-texts.rowsAt text-texts.parsed text-texts.readText text-written.digitsIn text-written.digitsOf text-written.decimal text-written.closing text-written.fieldsText align-sets.alone align-sets.joined align-sets.with align-sets.without align-sets.meets align-sets.holdsAll align-sets.setOf align-sets.readSet align-steps.find align-steps.along align-steps.matching align-steps.matched align-steps.rewritten align-steps.assigned align-steps.onward align-steps.follow align-steps.followed align-steps.counterpart align-steps.assumed align-steps.moved align-steps.arrived align-steps.step builder-graphs.marked builder-graphs.gone builder-graphs.cleared builder-graphs.untargeted builder-graphs.keep builder-graphs.aim builder-graphs.due builder-graphs.waits builder-graphs.join builder-graphs.unwait builder-turns.lowest builder-turns.next builder-turns.setNow builder-turns.begun builder-turns.stepOf builder-turns.arrived builder-turns.processed builder-turns.rowDone builder-turns.secondDone builder-turns.taken builder-turns.explored builder-marks.plainMark builder-marks.plainMarks builder-marks.inQ builder-marks.opening builder-marks.nextOpening builder-marks.allOpened builder-marks.transitions builder-marks.cover builder-marks.covered builder-marks.allCovered builder-marks.finalMarks builder-builds.redirected builder-builds.finalTargets builder-builds.alone builder-builds.lone builder-builds.finished builder-builds.built builder-builds.startOf builder-builds.recorded builder-answers.summary report-lines.line report-lines.refusalLine report-transitions.rowsBelow report-transitions.firstRow report-transitions.transition report-transitions.ofPair report-transitions.transitionsFrom report-transitions.remaining report-printed.bothOf report-printed.bothRead report-printed.summaryLine report-printed.transitions report-printed.condition report-printed.conditionOf report-printed.printed
 computed = refl
 
 pub worked-cases : Every worked

@@ -6,10 +6,10 @@ use Prim.Native.Nat.{ℕ, _+_, _^_}
 use Prim.Native.Char.{code}
 use Prim.Native.String.{String, [] as []ˢ, _∷_ as _∷ˢ_}
 use lib.Dec.{eqb, ltb}
-use Rattle.chart.specs.declared.operations.Operation.{Operation}
-use Rattle.chart.specs.Operations.{value}
-use Rattle.chart.specs.Assumptions.{Implies}
-use Rattle.chart.specs.Trials.{never, implies}
+use Rattle.operations.specs.declared.Operation.{Operation}
+use Rattle.operations.specs.Operations.{value}
+use Rattle.operations.specs.Assumptions.{Implies}
+use Rattle.operations.specs.Trials.{never, implies}
 use Rattle.report.specs.Printed.{printed}
 
 -- ---- texts and operations as document 01 writes them

@@ -1,12 +1,12 @@
--- Answers of the crate `chart` as one number each.
+-- Answers of the crates `operations` and `chart` as one number each.
 use mathlib.Core.Bool.{Bool, true, false}
 use mathlib.Core.Option.{Option, none, some}
 use Prim.Native.Nat.{ℕ, _+_}
 use Rattle.base.specs.Answers.{Answer, given, refused}
-use Rattle.chart.specs.declared.operations.Operation.{Operation}
-use Rattle.chart.specs.declared.assumptions.Implication.{Implication}
-use Rattle.chart.specs.declared.assumptions.Implication.the-variants.{Never, Implied, NotImplied}
-use Rattle.chart.specs.Faults.{Fault}
+use Rattle.base.specs.Refusals.{Fault}
+use Rattle.operations.specs.declared.Operation.{Operation}
+use Rattle.operations.specs.declared.assumptions.Implication.{Implication}
+use Rattle.operations.specs.declared.assumptions.Implication.the-variants.{Never, Implied, NotImplied}
 
 abbrev pub operation : ℕ → ℕ → ℕ → ℕ → Operation
 operation code a b c = record { code = code; a = a; b = b; c = c }

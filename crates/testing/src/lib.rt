@@ -1,15 +1,16 @@
-// What the tests outside Rattle call of the crate `chart`: numbers and slices in, one number out.
+// What the tests outside Rattle call of the crates `operations` and `chart`: numbers and slices in, one number out.
 ghost use mathlib.Core.Path.{_≡_};
+ghost use Rattle.operations.specs.Answers.{writtenBy, metBy};
+ghost use Rattle.operations.specs.Trials.{implication, exclusive};
 ghost use Rattle.chart.specs.Charts.{Chart};
-ghost use Rattle.chart.specs.Faults.{refusal, writtenBy, metBy};
-ghost use Rattle.chart.specs.Trials.{implication, exclusive};
+ghost use Rattle.chart.specs.Faults.{refusal};
 ghost use Rattle.testing.specs.Numbers.{operation, implicationNumber, bit, faultNumber, faultPosition, writtenNumber, metNumber};
-use chart::assumptions::Implication;
 use chart::charts::Head;
 use chart::charts::Judged;
-use chart::operations::Met;
-use chart::operations::Operation;
-use chart::operations::Written;
+use operations::Met;
+use operations::Operation;
+use operations::Written;
+use operations::assumptions::Implication;
 
 // 0 never, 1 implied, 2 not implied.
 #[no_mangle]
@@ -32,7 +33,7 @@ pub extern "C" fn testing_implies(
         b: b2,
         c: c2,
     };
-    match chart::assumptions::implies(f, g) {
+    match operations::assumptions::implies(f, g) {
         Implication::Never => 0,
         Implication::Implied => 1,
         Implication::NotImplied => 2,
@@ -60,7 +61,7 @@ pub extern "C" fn testing_exactly_one(
         b: b2,
         c: c2,
     };
-    if chart::assumptions::exactly_one(f, g) {
+    if operations::assumptions::exactly_one(f, g) {
         1
     } else {
         0
@@ -102,7 +103,7 @@ pub extern "C" fn testing_fault_position(places: u32, alarm: u32, rows: &[u32]) 
 pub extern "C" fn testing_written(code: u32, a: u32, b: u32, c: u32, values: &[u32]) -> u64
     ensures { λ r. ⌜ r ≡ writtenNumber (writtenBy (operation code a b c) (now (values .entry))) ⌝ }
 {
-    match chart::value_written(Operation { code, a, b, c }, values) {
+    match operations::value_written(Operation { code, a, b, c }, values) {
         Written::Value(x) => x as u64,
         Written::Refused(n) => 4294967296 + n as u64,
     }
@@ -113,7 +114,7 @@ pub extern "C" fn testing_written(code: u32, a: u32, b: u32, c: u32, values: &[u
 pub extern "C" fn testing_meets(code: u32, a: u32, b: u32, c: u32, values: &[u32]) -> u64
     ensures { λ r. ⌜ r ≡ metNumber (metBy (operation code a b c) (now (values .entry))) ⌝ }
 {
-    match chart::meets(Operation { code, a, b, c }, values) {
+    match operations::meets(Operation { code, a, b, c }, values) {
         Met::Yes => 1,
         Met::No => 0,
         Met::Refused(n) => 4294967296 + n as u64,

@@ -12,9 +12,10 @@ use lib.Dec.{eqb, leb}
 use lib.ListN.{length, getD, drop}
 use Rattle.base.specs.Answers.{Answer, given, refused}
 use Rattle.base.specs.Chains.{andThen}
+use Rattle.base.specs.Refusals.{Fault, unless}
 use Rattle.base.proofs.OnSome.{OnSome}
 use Rattle.chart.specs.Charts.{Chart, size}
-use Rattle.chart.specs.Faults.{Fault, fault, refusal, unless}
+use Rattle.chart.specs.Faults.{fault, refusal}
 use Rattle.chart.proofs.Bounds.{Slight, fault-slight, refusal-slight}
 use Rattle.chart.proofs.Faultless.{faultless as sound}
 use Rattle.text.specs.declared.fields.Kind.{Kind}

@@ -11,8 +11,9 @@ use borrow.Author.Tests.{eq-eqb, ne-eqb}
 use lib.ListN.{length, getD, drop, drop-of-length-le, length-drop}
 use Rattle.base.specs.Answers.{Answer, given, refused}
 use Rattle.base.specs.Chains.{andThen}
+use Rattle.base.specs.Refusals.{Fault, unless}
 use Rattle.chart.specs.Charts.{Chart, size}
-use Rattle.chart.specs.Faults.{Fault, fault, unless}
+use Rattle.chart.specs.Faults.{fault}
 use Rattle.text.specs.Fields.{kind}
 use Rattle.text.specs.Spans.{Span, fieldsAt}
 use Rattle.text.specs.Texts.{whole, rowsAt, parsed, readText}

@@ -9,11 +9,12 @@ use lib.ListN.{length, getD, take, drop}
 use lib.Seq.{sets-eq, getD-take}
 use Rattle.base.specs.Answers.{Answer, given, refused}
 use Rattle.base.specs.Chains.{andThen, mapped}
+use Rattle.base.specs.Refusals.{unless}
 use Rattle.chart.specs.declared.charts.Head.{Head}
 use Rattle.chart.specs.declared.charts.Judged.{Judged}
 use Rattle.chart.specs.declared.charts.Judged.the-variants.{Faultless, Ragged, Faulty}
 use Rattle.chart.specs.Charts.{Chart, charted}
-use Rattle.chart.specs.Faults.{told, fault, refusal, unless}
+use Rattle.chart.specs.Faults.{told, fault, refusal}
 use Rattle.chart.proofs.Faultless.{faultless as sound}
 use Rattle.text.specs.declared.answers.Read.{Read}
 use Rattle.text.specs.declared.answers.Read.the-variants as read

@@ -6,8 +6,9 @@ use lib.Dec.{eqb, ltb}
 use lib.ListN.{length, getD, drop}
 use Rattle.base.specs.Answers.{Answer, given, refused}
 use Rattle.base.specs.Chains.{andThen}
+use Rattle.base.specs.Refusals.{unless}
 use Rattle.chart.specs.Charts.{Chart, size}
-use Rattle.chart.specs.Faults.{fault, unless}
+use Rattle.chart.specs.Faults.{fault}
 use Rattle.text.specs.declared.answers.Read.{Read}
 use Rattle.text.specs.declared.answers.Read.the-variants as answer
 use Rattle.text.specs.Spans.{Span, fieldsAt}

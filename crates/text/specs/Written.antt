@@ -7,8 +7,9 @@ use lib.ListN.{length, drop}
 use lib.Dec.{ltb, leb, eqb}
 use lib.Seq.{sets}
 use Rattle.base.specs.Answers.{Answer, given, refused}
+use Rattle.base.specs.Refusals.{unless}
 use Rattle.chart.specs.Charts.{Chart, size}
-use Rattle.chart.specs.Faults.{refusal, unless}
+use Rattle.chart.specs.Faults.{refusal}
 use Rattle.text.specs.declared.answers.Wrote.{Wrote}
 use Rattle.text.specs.declared.answers.Wrote.the-variants as answer
 

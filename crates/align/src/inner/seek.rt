@@ -2,16 +2,15 @@
 ghost use mathlib.Core.Path.{_≡_};
 ghost use mathlib.Core.Bool.{false, _&&_};
 ghost use Prim.Native.Nat.{ℕ, _<_};
+ghost use Rattle.operations.specs.Operations.{same, isAssignment, isAssumption};
+ghost use Rattle.operations.specs.Trials.{never, implication};
 ghost use Rattle.chart.specs.Charts.{size, operation};
-ghost use Rattle.chart.specs.Operations.{same, isAssignment, isAssumption};
-ghost use Rattle.chart.specs.Trials.{never, implication};
 ghost use Rattle.align.specs.Steps.{toldFound, find, isImplied, matching};
 use crate::spots::Found;
-use chart::assumptions;
 use chart::inner::rows::operation_at;
 use chart::inner::rows::same_operation;
-use chart::operations;
-use chart::operations::Operation;
+use operations::Operation;
+use operations::assumptions;
 
 // The row whose operation is equal to that of row j of another part.
 pub fn same(rows: &[u32], part: &[u32], j: usize) -> Found

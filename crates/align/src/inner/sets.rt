@@ -2,12 +2,11 @@
 ghost use mathlib.Core.Path.{_≡_};
 ghost use mathlib.Core.Bool.{true};
 ghost use Prim.Native.Nat.{_<_};
-ghost use Rattle.chart.specs.Operations.{isAssignment, isAssumption, fits, ifVariable, operandsFit};
+ghost use Rattle.operations.specs.Operations.{isAssignment, isAssumption, fits, ifVariable, operandsFit};
 ghost use Rattle.align.specs.Sets.{alone, joined, with, without, meets, holdsAll, setOf, readSet};
-use chart::assumptions::partner;
-use chart::operations;
-use chart::operations::Operand;
-use chart::operations::Operation;
+use operations::Operand;
+use operations::Operation;
+use operations::assumptions::partner;
 
 // The set of v alone.
 pub fn alone(v: u32) -> u64

@@ -3,10 +3,10 @@ ghost use mathlib.Core.Path.{_≡_};
 ghost use mathlib.Core.Bool.{true};
 ghost use Prim.Native.Nat.{_<_};
 ghost use Rattle.base.specs.Says.{bool};
+ghost use Rattle.operations.specs.Operations.{isKnown, isAssignment, isAssumption, same, operandsFit};
 ghost use Rattle.chart.specs.Charts.{charted, size, to, operation};
 ghost use Rattle.chart.specs.Faultless.{FaultlessChart};
 ghost use Rattle.chart.specs.Lookup.{Indexed};
-ghost use Rattle.chart.specs.Operations.{isKnown, isAssignment, isAssumption, same, operandsFit};
 ghost use Rattle.align.specs.Steps.{told, find, rewritten, assigned, matched, counterpart, assumed, moved, fair, arrived, rowsAt, step};
 use crate::inner::follow::follow;
 use crate::inner::seek;
@@ -20,11 +20,10 @@ use chart::inner::rows::new_to;
 use chart::inner::rows::old_to;
 use chart::inner::rows::operation_at;
 use chart::inner::rows::rows_of;
-use chart::operations;
-use chart::operations::Operation;
 use chart::places::NewPlace;
 use chart::places::OldPlace;
 use chart::places::Place;
+use operations::Operation;
 
 // The set after an assignment that both charts take.
 fn rewritten(set: u64, o: Operation) -> u64

@@ -5,20 +5,19 @@ ghost use Prim.Native.Nat.{_-_, _<_};
 ghost use lib.Dec.{eqb, leb, ltb};
 ghost use Rattle.base.specs.Options.{missing, firstOf};
 ghost use Rattle.base.specs.Tests.{someBelow};
-ghost use Rattle.chart.specs.Operations.{isAssumption};
+ghost use Rattle.operations.specs.Operations.{isAssumption};
+ghost use Rattle.operations.specs.Trials.{exclusive};
 ghost use Rattle.chart.specs.Charts.{charted, size, from, to};
 ghost use Rattle.chart.specs.Faults.{told, countFault, alarmFault, fromBefore, rowFault, clash, conflictFault, rowsFault, fault};
 ghost use Rattle.chart.specs.Lookup.{Ascending};
-ghost use Rattle.chart.specs.Trials.{exclusive};
-use crate::assumptions::exactly_one;
-use crate::assumptions::opposed;
 use crate::charts::Head;
 use crate::charts::Judged;
 use crate::inner::rows::from_at;
 use crate::inner::rows::operation_at;
 use crate::inner::rows::to_at;
-use crate::operations;
-use crate::operations::Operation;
+use operations::Operation;
+use operations::assumptions::exactly_one;
+use operations::assumptions::opposed;
 
 pub fn is_faultless(j: Judged) -> bool
     ensures { λ r. ⌜ r ≡ missing (told j) ⌝ }

@@ -4,13 +4,13 @@ ghost use mathlib.Core.Bool.{cond};
 ghost use Prim.Native.Nat.{ℕ, _+_, _-_, _*_, _<_, _≤_};
 ghost use lib.Dec.{eqb};
 ghost use lib.ListN.{length, getD, take, drop};
-ghost use Rattle.chart.specs.Operations.{same};
+ghost use Rattle.operations.specs.Operations.{same};
 ghost use Rattle.chart.specs.Charts.{size, from, to, operation, leaving};
 ghost use Rattle.chart.specs.Lookup.{Ascending, Lower, Indexable, Ends, Carried, Indexed, tableOf, numberOf};
-use crate::operations::Operation;
 use crate::places::NewPlace;
 use crate::places::OldPlace;
 use crate::places::Place;
+use operations::Operation;
 
 // The place that row i leaves.
 pub fn from_at(rows: &[u32], i: usize) -> u32

@@ -1,7 +1,7 @@
 -- `testing::testing_meets` meets its contract: answer by answer. Assumes nothing.
 use mathlib.Core.Path.{sym, ap, _∙_}
 use Rattle.testing.specs.Numbers.{metNumber}
-use Rattle.chart.specs.Faults.{toldMet}
+use Rattle.operations.specs.Answers.{toldMet}
 use borrow.Author.Needs.{needs}
 use Rattle.testing.proofs.testing_meets.Statement.{statement}
 use Rattle.testing.proofs.testing_meets.Tie as tie

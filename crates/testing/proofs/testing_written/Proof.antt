@@ -1,7 +1,7 @@
 -- `testing::testing_written` meets its contract: answer by answer. Assumes nothing.
 use mathlib.Core.Path.{sym, ap, _∙_}
 use Rattle.testing.specs.Numbers.{writtenNumber}
-use Rattle.chart.specs.Faults.{toldWritten}
+use Rattle.operations.specs.Answers.{toldWritten}
 use borrow.Author.Needs.{needs}
 use Rattle.testing.proofs.testing_written.Statement.{statement}
 use Rattle.testing.proofs.testing_written.Tie as tie

@@ -1,10 +1,10 @@
 -- `align::inner::follow::along` meets its contract: from its parts. Assumes nothing.
 use mathlib.Core.Path.{sym, subst}
 use Prim.Native.Nat.{_<_}
-use Rattle.chart.specs.declared.operations.Operation.{Operation}
+use Rattle.operations.specs.declared.Operation.{Operation}
 use Rattle.align.specs.Sets.{with}
 use Rattle.align.specs.Steps.{along}
-use Rattle.chart.proofs.Codes.{fit-a}
+use Rattle.operations.proofs.Codes.{fit-a}
 use borrow.Author.Needs.{needs}
 use Rattle.align.proofs.inner.follow.along.Statement.{statement}
 use Rattle.align.proofs.inner.follow.along.Tie as tie

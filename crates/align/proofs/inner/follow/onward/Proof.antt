@@ -3,8 +3,8 @@ use mathlib.Core.Path.{_≡_, sym, ap, subst, _∙_}
 use Rattle.align.proofs.Moves.{onward-ends, onward-by}
 use Rattle.align.specs.Steps.{toldFound, along}
 use Rattle.align.proofs.Seek.{found-inside, part-right, later-row}
+use Rattle.operations.specs.Operations.{isAssignment, operandsFit}
 use Rattle.chart.specs.Charts.{size, operation}
-use Rattle.chart.specs.Operations.{isAssignment, operandsFit}
 use Rattle.chart.proofs.Faultless.{ascends, no-refusal}
 use mathlib.Core.Bool.{true, false}
 use mathlib.Core.List.{List}

@@ -4,8 +4,8 @@ use Rattle.align.proofs.Seek.{None-before, none-at-first, found-here, n
 use Rattle.chart.specs.Charts.{size}
 use Prim.Native.Nat.{_-_}
 use mathlib.Core.Bool.{_&&_}
-use Rattle.chart.specs.Operations.{isAssumption}
-use Rattle.chart.specs.Trials.{implication}
+use Rattle.operations.specs.Operations.{isAssumption}
+use Rattle.operations.specs.Trials.{implication}
 use Rattle.align.specs.Steps.{isImplied}
 use borrow.Author.Needs.{needs}
 use native.Mathlib.Omega.{arith}

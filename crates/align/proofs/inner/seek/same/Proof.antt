@@ -2,7 +2,7 @@
 use Rattle.align.proofs.Seek.{None-before, none-at-first, found-here, not-here, nowhere}
 use Rattle.chart.specs.Charts.{size, operation}
 use Prim.Native.Nat.{_-_}
-use Rattle.chart.specs.Operations.{same}
+use Rattle.operations.specs.Operations.{same}
 use borrow.Author.Needs.{needs}
 use native.Mathlib.Omega.{arith}
 use Rattle.align.proofs.inner.seek.same.Statement.{statement}

@@ -1,7 +1,7 @@
 -- `align::inner::sets::meets_compared` meets its contract: an assumption reads what it compares. Assumes nothing.
 use mathlib.Core.Path.{ap, ap₂, _∙_}
 use native.Mathlib.Omega.{arith}
-use Rattle.chart.proofs.Codes.{fit-a}
+use Rattle.operations.proofs.Codes.{fit-a}
 use Rattle.align.specs.Sets.{alone, joined, meets}
 use Rattle.align.proofs.ReadSets.{reads-assumption, partner-fits}
 use borrow.Author.Needs.{needs}

@@ -3,12 +3,12 @@ use mathlib.Core.Path.{_≡_, sym, ap, subst, _∙_}
 use Rattle.align.proofs.Moves.{assigned-equal, assigned-alone}
 use Rattle.align.specs.Steps.{toldFound}
 use Rattle.align.proofs.Seek.{found-inside}
-use Rattle.chart.specs.declared.operations.Operation.{Operation}
-use Rattle.chart.specs.Operations.{isAssignment, operandsFit}
+use Rattle.operations.specs.declared.Operation.{Operation}
+use Rattle.operations.specs.Operations.{isAssignment, operandsFit}
 use Rattle.chart.proofs.Faultless.{ascends, no-refusal}
 use mathlib.Core.Bool.{true}
 use Prim.Native.Nat.{_<_}
-use Rattle.chart.proofs.Codes.{fit-a}
+use Rattle.operations.proofs.Codes.{fit-a}
 use borrow.Author.Needs.{needs}
 use Rattle.align.proofs.inner.step.assigned.Statement.{statement}
 use Rattle.align.proofs.inner.step.assigned.Tie as tie

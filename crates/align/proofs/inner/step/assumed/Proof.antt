@@ -3,9 +3,9 @@ use mathlib.Core.Path.{_≡_, refl, sym, ap, subst, _∙_}
 use Rattle.align.proofs.Moves.{counterpart-none, counterpart-by, matching-inside, matched-assumes, assumed-on, assumed-by}
 use Rattle.align.specs.Steps.{toldFound, matching, matched}
 use Rattle.align.proofs.Seek.{part-right}
+use Rattle.operations.specs.declared.Operation.{Operation}
+use Rattle.operations.specs.Operations.{isAssumption, operandsFit}
 use Rattle.chart.specs.Charts.{size, operation}
-use Rattle.chart.specs.declared.operations.Operation.{Operation}
-use Rattle.chart.specs.Operations.{isAssumption, operandsFit}
 use mathlib.Core.Bool.{true}
 use mathlib.Core.List.{List}
 use Prim.Native.Nat.{ℕ, _<_}

@@ -2,9 +2,9 @@
 use mathlib.Core.Path.{_≡_, sym, ap, subst, _∙_}
 use Rattle.align.proofs.Moves.{followed-below, moved-assigned, moved-twice, moved-assumed}
 use Rattle.align.specs.Steps.{toldFollowed}
-use Rattle.chart.specs.declared.operations.Operation.{Operation}
+use Rattle.operations.specs.declared.Operation.{Operation}
 use Rattle.align.proofs.ReadSets.{assuming}
-use Rattle.chart.specs.Operations.{isKnown, isAssignment, isAssumption}
+use Rattle.operations.specs.Operations.{isKnown, isAssignment, isAssumption}
 use mathlib.Core.Bool.{true, false}
 use borrow.Author.Needs.{needs}
 use Rattle.align.proofs.inner.step.moved.Statement.{statement}

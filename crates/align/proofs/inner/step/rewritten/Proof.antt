@@ -1,6 +1,6 @@
 -- `align::inner::step::rewritten` meets its contract: by the test. Assumes nothing.
 use Rattle.align.proofs.Moves.{rewritten-with, rewritten-without}
-use Rattle.chart.proofs.Codes.{fit-a}
+use Rattle.operations.proofs.Codes.{fit-a}
 use native.Mathlib.Omega.{arith}
 use borrow.Author.Needs.{needs}
 use Rattle.align.proofs.inner.step.rewritten.Statement.{statement}

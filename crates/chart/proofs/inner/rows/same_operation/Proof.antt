@@ -1,5 +1,5 @@
 -- `chart::inner::rows::same_operation` meets its contract: field by field. Assumes nothing.
-use Rattle.chart.specs.Operations.{same}
+use Rattle.operations.specs.Operations.{same}
 use borrow.Author.Needs.{needs}
 use Rattle.chart.proofs.inner.rows.same_operation.Statement.{statement}
 use Rattle.chart.proofs.inner.rows.same_operation.Tie as tie

@@ -1,0 +1,156 @@
+-- Which kind each code is, and what follows of an operation's operands. Assumes nothing.
+use mathlib.Core.Path.{_≡_, refl, sym, _∙_}
+use mathlib.Core.Bool.{Bool, true, false, cond, _&&_, and-assoc}
+use mathlib.Core.List.{[], _∷_}
+use Prim.Native.Nat.{ℕ, zero, suc, _+_, _-_, _%_, _^_, _≤_, _<_}
+use native.Mathlib.Decide.{ℕ-discrete, decLt}
+use native.Mathlib.Omega.{arith}
+use borrow.Author.Tests.{leb-true, eqb-true}
+use lib.Dec.{eqb, leb, ltb, leb·suc-zero, leb·suc-suc, eqb·suc-zero}
+use lib.ListN.{List·getD-eq-default}
+use Rattle.base.specs.Tests.{within}
+use Rattle.base.proofs.Tests.{within-yes, within-low, within-high, and-true, T-true}
+use Rattle.operations.specs.declared.Operation.{Operation}
+use Rattle.operations.specs.declared.Kind.{Kind}
+use Rattle.operations.specs.declared.Kind.the-variants.{Assignment, ConstantComparison, VariableComparison, Unknown}
+use Rattle.operations.specs.declared.Operand.{Operand}
+use Rattle.operations.specs.declared.Operand.the-variants.{Variable, Constant, Unused}
+use Rattle.operations.specs.Operations.{kind, byKind, isKnown, operandB, assignedC, operandC, fits, operandsFit}
+
+-- a number that is not between two others
+outside : (m n x : ℕ) → (m ≤ x → x ≤ n → ⊥) → within m n x ≡ false
+outside m n x h = elim (decLt x m) [
+  | yes l ↦ within-low m n x l
+  | no k ↦ elim (decLt n x) [
+    | yes u ↦ within-high m n x u
+    | no j ↦ absurd (h (omega arith) (omega arith))
+  ]
+]
+
+module _ (x : ℕ) where
+  pub assigns : x ≤ 5 → Assignment ≡ kind x
+  unfolding kind
+  assigns u = rw (within-yes 0 5 x (omega arith) u)
+
+  pub constants : 16 ≤ x → x ≤ 21 → ConstantComparison ≡ kind x
+  unfolding kind
+  constants l u = rw (within-high 0 5 x (omega arith), within-yes 16 21 x l u)
+
+  pub variables : 32 ≤ x → x ≤ 37 → VariableComparison ≡ kind x
+  unfolding kind
+  variables l u = rw (within-high 0 5 x (omega arith), within-high 16 21 x (omega arith), within-yes 32 37 x l u)
+
+  -- a code in none of the three runs
+  pub unknown : (x ≤ 5 → ⊥) → (16 ≤ x → x ≤ 21 → ⊥) → (32 ≤ x → x ≤ 37 → ⊥) → Unknown ≡ kind x
+  unfolding kind
+  unknown f g h = rw (outside 0 5 x (λ _. f), outside 16 21 x g, outside 32 37 x h)
+
+  -- the codes of assignments are 0 to 5
+  pub assigning : byKind (kind x) true false false false ≡ true → x ≤ 5
+  unfolding kind
+  assigning e = go (within 0 5 x) (within 16 21 x) (within 32 37 x) (λ t. leb-true x 5 (and-true (leb 0 x) (leb x 5) t .1)) e
+    where
+      go : (p q r : Bool) → (p ≡ true → x ≤ 5)
+          → byKind (cond p Assignment (cond q ConstantComparison (cond r VariableComparison Unknown))) true false false false ≡ true → x ≤ 5
+      go true q r h e = h refl
+      go false true r h e = absurd (T-true e)
+      go false false true h e = absurd (T-true e)
+      go false false false h e = absurd (T-true e)
+
+-- c is unused in code 5, and in no other further one
+pub no-more-codes : (code : ℕ) → 5 ≤ code → Unused ≡ assignedC code
+unfolding assignedC
+no-more-codes code l =
+    elim (ℕ-discrete code 5) [
+      | yes e ↦ rw e
+      | no n ↦ sym (List·getD-eq-default (Constant ∷ Unused ∷ Constant ∷ Variable ∷ Variable ∷ Unused ∷ []) Unused {n = code} (omega arith))
+    ]
+
+-- ---- a code that no arm of a match names
+-- what a match knows after an arm for each of the n numbers from m on, if it knew N before
+abbrev NoneOf : Type 0 → ℕ → ℕ → ℕ → Type 0
+NoneOf N m zero x = N
+NoneOf N m (suc n) x = NoneOf N m n x × (x ≡ m + n → ⊥)
+
+module _ (N : Type 0) (m x : ℕ) where
+  arms-before : (n : ℕ) → NoneOf N m n x → N
+  arms-before zero r = r
+  arms-before (suc n) r = arms-before n (r .0)
+
+  none-from : (n : ℕ) → NoneOf N m n x → m ≤ x → x < m + n → ⊥
+  none-from zero r l u = omega arith
+  none-from (suc n) r l u = elim (ℕ-discrete x (m + n)) [
+    | yes e ↦ r .1 e
+    | no k ↦ none-from n (r .0) l (omega arith)
+  ]
+
+module _ (x : ℕ) where
+  abbrev Low : Type 0
+  Low = NoneOf Unit 0 6 x
+
+  abbrev Middle : Type 0
+  Middle = NoneOf Low 16 6 x
+
+  pub no-code : NoneOf Middle 32 6 x → Unknown ≡ kind x
+  no-code r =
+      let q = arms-before Middle 32 x 6 r in
+      let p = arms-before Low 16 x 6 q in
+      unknown x (λ u. none-from Unit 0 x 6 p (omega arith) (omega arith)) (λ l u. none-from Low 16 x 6 q l (omega arith))
+      (λ l u. none-from Middle 32 x 6 r l (omega arith))
+
+-- ---- the tables of what can stand in the places of b and c
+pub at-most-zero : (x : ℕ) → leb x 0 ≡ eqb x 0
+at-most-zero zero = refl
+at-most-zero (suc x) = leb·suc-zero x ∙ sym (eqb·suc-zero x)
+
+pub below-one : (x : ℕ) → ltb x 1 ≡ eqb x 0
+below-one x = leb·suc-suc x 0 ∙ at-most-zero x
+
+pub right-by-tables : (o : Operation) → (leb (o .a) 63 && (isKnown o && fits (operandB o) (o .b))) && (isKnown o && fits (operandC o) (o .c)) ≡ isKnown o && operandsFit o
+unfolding operandsFit
+right-by-tables o = go (isKnown o) (leb (o .a) 63) (fits (operandB o) (o .b)) (fits (operandC o) (o .c))
+  where
+    go : (k a b c : Bool) → (a && (k && b)) && (k && c) ≡ k && (a && (b && c))
+    go true a b c = and-assoc a b c
+    go false true b c = refl
+    go false false b c = refl
+
+-- ---- operands that fit
+module _ (o : Operation) (h : operandsFit o ≡ true) where
+  fit : (leb (o .a) 63 ≡ true) × ((fits (operandB o) (o .b) ≡ true) × (fits (operandC o) (o .c) ≡ true))
+  unfolding operandsFit
+  fit = let q = and-true (leb (o .a) 63) (fits (operandB o) (o .b) && fits (operandC o) (o .c)) h in (q .0, and-true (fits (operandB o) (o .b)) (fits (operandC o) (o .c)) (q .1))
+
+  pub fit-a : o .a < 64
+  fit-a = let l = leb-true (o .a) 63 (fit .0) in omega arith
+
+  -- b is a variable or unused, in every code
+  pub fit-b : o .b < 64
+  unfolding operandB
+  fit-b = go (kind (o .code)) (eqb (o .code) 0) (fit .1 .0)
+    where
+      variable : fits Variable (o .b) ≡ true → o .b < 64
+      variable e = let l = leb-true (o .b) 63 e in omega arith
+
+      unused : fits Unused (o .b) ≡ true → o .b < 64
+      unused e = let l = eqb-true (o .b) 0 e in omega arith
+
+      go : (k : Kind) (z : Bool) → fits (byKind k (cond z Unused Variable) Unused Variable Unused) (o .b) ≡ true → o .b < 64
+      go Assignment true e = unused e
+      go Assignment false e = variable e
+      go ConstantComparison z e = unused e
+      go VariableComparison z e = variable e
+      go Unknown z e = unused e
+
+  -- c is a variable in the codes 3 and 4
+  pub fit-c : (code : ℕ) → o .code ≡ code → code ≤ 5 → assignedC code ≡ Variable → o .c < 64
+  unfolding operandC
+  fit-c code e l v =
+      let k : operandC o ≡ Variable = rw (← assigns (o .code) (omega arith), e, v) in
+      let f : fits Variable (o .c) ≡ true = rw k at (fit .1 .1) in
+      let m = leb-true (o .c) 63 f in
+      omega arith
+
+-- the number to which b is added to wrap back to a
+pub wrapped : (a b r : ℕ) → a < 2 ^ 32 → b < 2 ^ 32 → r < 2 ^ 32 → (r + b) % 2 ^ 32 ≡ a → r ≡ (a + (2 ^ 32 - b)) % 2 ^ 32
+wrapped a b r ha hb hr h = omega arith

@@ -1,0 +1,11 @@
+-- Laws that several proofs cite.
+pub mod Codes
+pub mod Order
+pub mod Trials
+pub mod Exact
+pub mod Fewer
+pub mod Independent
+pub mod Orders
+pub mod Opposed
+pub mod Meaning
+pub mod Answers

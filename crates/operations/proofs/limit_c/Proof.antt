@@ -1,0 +1,108 @@
+-- `operations::limit_c` meets its contract: code by code. Assumes nothing.
+use mathlib.Core.Path.{_∙_}
+use native.Mathlib.Omega.{arith}
+use borrow.Author.Tests.{lt-ltb}
+use lib.Dec.{leb·suc-suc, leb·suc-zero}
+use Rattle.operations.specs.Operations.{kind, assignedC, operandC}
+use Rattle.operations.proofs.Codes.{below-one, no-code}
+use Rattle.operations.proofs.limit_c.Statement.{statement}
+use Rattle.operations.proofs.limit_c.Tie as tie
+
+returns : tie.Need-returns
+unfolding kind assignedC operandC
+returns c = λ o e x l. rw (e ∙ c .match .keys1) (lt-ltb x _ (omega arith))
+
+returns-2 : tie.Need-returns-2
+unfolding kind assignedC operandC
+returns-2 c = λ o e x l. rw (e ∙ c .match .keys2) (below-one x)
+
+returns-3 : tie.Need-returns-3
+unfolding kind assignedC operandC
+returns-3 c = λ o e x l. rw (e ∙ c .match .keys3) (lt-ltb x _ (omega arith))
+
+returns-4 : tie.Need-returns-4
+unfolding kind assignedC operandC
+returns-4 c = λ o e x l. rw (e ∙ c .match .keys4) (leb·suc-suc x 63)
+
+returns-5 : tie.Need-returns-5
+unfolding kind assignedC operandC
+returns-5 c = λ o e x l. rw (e ∙ c .match .keys5) (leb·suc-suc x 63)
+
+returns-6 : tie.Need-returns-6
+unfolding kind assignedC operandC
+returns-6 c = λ o e x l. rw (e ∙ c .match .keys6) (below-one x)
+
+returns-7 : tie.Need-returns-7
+unfolding kind assignedC operandC
+returns-7 c = λ o e x l. rw (e ∙ c .match .keys7) (lt-ltb x _ (omega arith))
+
+returns-8 : tie.Need-returns-8
+unfolding kind assignedC operandC
+returns-8 c = λ o e x l. rw (e ∙ c .match .keys8) (lt-ltb x _ (omega arith))
+
+returns-9 : tie.Need-returns-9
+unfolding kind assignedC operandC
+returns-9 c = λ o e x l. rw (e ∙ c .match .keys9) (lt-ltb x _ (omega arith))
+
+returns-10 : tie.Need-returns-10
+unfolding kind assignedC operandC
+returns-10 c = λ o e x l. rw (e ∙ c .match .keys10) (lt-ltb x _ (omega arith))
+
+returns-11 : tie.Need-returns-11
+unfolding kind assignedC operandC
+returns-11 c = λ o e x l. rw (e ∙ c .match .keys11) (lt-ltb x _ (omega arith))
+
+returns-12 : tie.Need-returns-12
+unfolding kind assignedC operandC
+returns-12 c = λ o e x l. rw (e ∙ c .match .keys12) (lt-ltb x _ (omega arith))
+
+returns-13 : tie.Need-returns-13
+unfolding kind assignedC operandC
+returns-13 c = λ o e x l. rw (e ∙ c .match .keys13) (below-one x)
+
+returns-14 : tie.Need-returns-14
+unfolding kind assignedC operandC
+returns-14 c = λ o e x l. rw (e ∙ c .match .keys14) (below-one x)
+
+returns-15 : tie.Need-returns-15
+unfolding kind assignedC operandC
+returns-15 c = λ o e x l. rw (e ∙ c .match .keys15) (below-one x)
+
+returns-16 : tie.Need-returns-16
+unfolding kind assignedC operandC
+returns-16 c = λ o e x l. rw (e ∙ c .match .keys16) (below-one x)
+
+returns-17 : tie.Need-returns-17
+unfolding kind assignedC operandC
+returns-17 c = λ o e x l. rw (e ∙ c .match .keys17) (below-one x)
+
+returns-18 : tie.Need-returns-18
+unfolding kind assignedC operandC
+returns-18 c = λ o e x l. rw (e ∙ c .match .keys18) (below-one x)
+
+returns-19 : tie.Need-returns-19
+returns-19 c = λ o e x l. rw (e, ← no-code _ (c .match .rest)) (leb·suc-zero x)
+
+pub limit-c-spec : {M : Type 1} → statement M
+limit-c-spec =
+    tie.close
+    (tie.spec
+    returns
+    returns-2
+    returns-3
+    returns-4
+    returns-5
+    returns-6
+    returns-7
+    returns-8
+    returns-9
+    returns-10
+    returns-11
+    returns-12
+    returns-13
+    returns-14
+    returns-15
+    returns-16
+    returns-17
+    returns-18
+    returns-19)

@@ -1,0 +1,116 @@
+-- Operations: their kinds, what they read and write, and what they mean ("Charts and rows").
+-- An operation is the code "op" of a row with its operands a, b and c. Values are given by number of the variable.
+use mathlib.Core.Bool.{Bool, true, false, cond, _&&_, not}
+use mathlib.Core.List.{List, [], _∷_, _++_}
+use Prim.Native.Nat.{ℕ, _+_, _-_, _%_, _^_}
+use lib.Dec.{eqb, leb, ltb}
+use lib.ListN.{getD}
+use Rattle.base.specs.Tests.{within}
+use Rattle.operations.specs.declared.Operation.{Operation}
+use Rattle.operations.specs.declared.Kind.{Kind}
+use Rattle.operations.specs.declared.Kind.the-variants.{Assignment, ConstantComparison, VariableComparison, Unknown}
+use Rattle.operations.specs.declared.Operand.{Operand}
+use Rattle.operations.specs.declared.Operand.the-variants.{Variable, Constant, Unused}
+
+-- ---- kinds
+-- "Operation codes run 0 to 5, 16 to 21 and 32 to 37": assignments, comparisons with a constant, comparisons of two variables
+unfoldable pub kind : ℕ → Kind
+kind code =
+    cond (within 0 5 code) Assignment (cond (within 16 21 code) ConstantComparison (cond (within 32 37 code) VariableComparison Unknown))
+
+-- what is said of an assignment, of a comparison with a constant, of one of two variables, and of an unknown code
+abbrev pub byKind : {A : Type 0} → Kind → A → A → A → A → A
+byKind Assignment w x y z = w
+byKind ConstantComparison w x y z = x
+byKind VariableComparison w x y z = y
+byKind Unknown w x y z = z
+
+abbrev pub isKnown : Operation → Bool
+isKnown o = byKind (kind (o .code)) true true true false
+
+abbrev pub isAssignment : Operation → Bool
+isAssignment o = byKind (kind (o .code)) true false false false
+
+-- an assumption is a comparison of either kind
+abbrev pub isAssumption : Operation → Bool
+isAssumption o = byKind (kind (o .code)) false true true false
+
+-- ---- operands
+-- "Unused operands are 0: b in codes 0 and 16 to 21; c in codes 1, 5 and 32 to 37"
+unfoldable pub operandB : Operation → Operand
+operandB o = byKind (kind (o .code)) (cond (eqb (o .code) 0) Unused Variable) Unused Variable Unused
+
+-- c in the codes 0 to 5, in order
+unfoldable pub assignedC : ℕ → Operand
+assignedC code = getD (Constant ∷ Unused ∷ Constant ∷ Variable ∷ Variable ∷ Unused ∷ []) code Unused
+
+unfoldable pub operandC : Operation → Operand
+operandC o = byKind (kind (o .code)) (assignedC (o .code)) Constant Unused Unused
+
+-- a number in an operand's place: a variable is one of v0 to v63, a constant any number, an unused operand 0
+abbrev pub fits : Operand → ℕ → Bool
+fits Variable x = leb x 63
+fits Constant x = true
+fits Unused x = eqb x 0
+
+-- every operand is as its code wants it; a is a variable in every code
+unfoldable pub operandsFit : Operation → Bool
+operandsFit o = leb (o .a) 63 && (fits (operandB o) (o .b) && fits (operandC o) (o .c))
+
+abbrev pub ifVariable : Operand → ℕ → List ℕ
+ifVariable Variable x = x ∷ []
+ifVariable Constant x = []
+ifVariable Unused x = []
+
+-- "An assignment writes va and reads the variables on its right; an assumption reads those it compares."
+unfoldable pub reads : Operation → List ℕ
+reads o = byKind (kind (o .code)) [] (o .a ∷ []) (o .a ∷ []) [] ++ (ifVariable (operandB o) (o .b) ++ ifVariable (operandC o) (o .c))
+
+-- "Two operations are equal when op, a, b, c are."
+unfoldable pub same : Operation → Operation → Bool
+same o o′ = eqb (o .code) (o′ .code) && (eqb (o .a) (o′ .a) && (eqb (o .b) (o′ .b) && eqb (o .c) (o′ .c)))
+
+-- ---- assignments
+-- "sums and differences wrap at 4,294,967,296"
+abbrev pub plus : ℕ → ℕ → ℕ
+plus x y = (x + y) % 2 ^ 32
+
+abbrev pub minus : ℕ → ℕ → ℕ
+minus x y = (x + (2 ^ 32 - y)) % 2 ^ 32
+
+-- "Assignments to va: 0 c; 1 vb; 2 vb + c; 3 vb + v(c); 4 vb − v(c); 5 0 − vb"
+unfoldable pub value : Operation → (ℕ → ℕ) → ℕ
+value o v =
+    getD (o .c ∷ v (o .b) ∷ plus (v (o .b)) (o .c) ∷ plus (v (o .b)) (v (o .c)) ∷ minus (v (o .b)) (v (o .c)) ∷ minus 0 (v (o .b)) ∷ []) (o .code) 0
+
+-- ---- assumptions
+-- the order in which an assumption compares: all are unsigned
+pub data Order : Type 0 where
+  unsigned : Order
+
+abbrev pub order : Operation → Order
+order o = unsigned
+
+-- a number that stands where the value stands in the order
+abbrev pub key : Order → ℕ → ℕ
+key unsigned x = x
+
+-- "r: 0 =, 1 ≠, 2 <, 3 ≤, 4 >, 5 ≥"
+unfoldable pub related : ℕ → ℕ → ℕ → Bool
+related r x y = getD (eqb x y ∷ not (eqb x y) ∷ ltb x y ∷ leb x y ∷ ltb y x ∷ leb y x ∷ []) r false
+
+-- the r of the codes 16 + r and 32 + r, both multiples of 8
+abbrev pub relation : Operation → ℕ
+relation o = o .code % 8
+
+-- va is compared with c
+abbrev pub withConstant : Operation → Bool
+withConstant o = byKind (kind (o .code)) false true false false
+
+-- "16 + r compares va with c; 32 + r compares va with vb"
+abbrev pub right : Operation → (ℕ → ℕ) → ℕ
+right o v = cond (withConstant o) (o .c) (v (o .b))
+
+-- the values meet the assumption
+unfoldable pub holds : Operation → (ℕ → ℕ) → Bool
+holds o v = related (relation o) (key (order o) (v (o .a))) (key (order o) (right o v))

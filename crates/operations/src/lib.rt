@@ -1,0 +1,268 @@
+// Operations: their kinds and operands, and the two entry points that evaluate one, which refuse bad input themselves. `assumptions` has those
+// of the test of two assumptions; `inner` is what the crates above may call once an operation is known to be right.
+ghost use mathlib.Core.Path.{_≡_};
+ghost use mathlib.Core.Bool.{_&&_};
+ghost use Prim.Native.Nat.{ℕ, _^_, _<_};
+ghost use lib.Dec.{ltb};
+ghost use Rattle.operations.specs.Operations.{kind, isKnown, isAssignment, isAssumption, withConstant, operandB, assignedC, operandC, fits, operandsFit};
+ghost use Rattle.operations.specs.Answers.{writtenBy, toldWritten, metBy, toldMet};
+
+pub mod assumptions; // assumptions.rt: the exact test of two assumptions
+pub mod inner; // inner.rt: for the crates above
+
+// The operation of a row: its code "op" and the operands.
+pub struct Operation {
+    pub code: u32,
+    pub a: u32,
+    pub b: u32,
+    pub c: u32,
+}
+
+pub enum Kind {
+    Assignment,
+    ConstantComparison,
+    VariableComparison,
+    Unknown,
+}
+
+// What an operand is to its operation.
+pub enum Operand {
+    Variable,
+    Constant,
+    Unused,
+}
+
+// The value that an assignment writes, or a refusal's number.
+pub enum Written {
+    Value(u32),
+    Refused(u32),
+}
+
+// Whether the values meet an assumption, or a refusal's number.
+pub enum Met {
+    Yes,
+    No,
+    Refused(u32),
+}
+
+// Kinds of codes are told apart here and nowhere else; the tables of limit_b and limit_c go by the codes themselves.
+pub fn kind_of(code: u32) -> Kind
+    ensures { λ r. ⌜ r ≡ kind code ⌝ }
+{
+    match code {
+        0..=5 => Kind::Assignment,
+        16..=21 => Kind::ConstantComparison,
+        32..=37 => Kind::VariableComparison,
+        _ => Kind::Unknown,
+    }
+}
+
+pub fn is_known(o: Operation) -> bool
+    ensures { λ r. ⌜ r ≡ isKnown o ⌝ }
+{
+    match kind_of(o.code) {
+        Kind::Assignment => true,
+        Kind::ConstantComparison => true,
+        Kind::VariableComparison => true,
+        Kind::Unknown => false,
+    }
+}
+
+pub fn is_assignment(o: Operation) -> bool
+    ensures { λ r. ⌜ r ≡ isAssignment o ⌝ }
+{
+    match kind_of(o.code) {
+        Kind::Assignment => true,
+        Kind::ConstantComparison => false,
+        Kind::VariableComparison => false,
+        Kind::Unknown => false,
+    }
+}
+
+pub fn is_assumption(o: Operation) -> bool
+    ensures { λ r. ⌜ r ≡ isAssumption o ⌝ }
+{
+    match kind_of(o.code) {
+        Kind::Assignment => false,
+        Kind::ConstantComparison => true,
+        Kind::VariableComparison => true,
+        Kind::Unknown => false,
+    }
+}
+
+// Whether it compares with its constant.
+pub fn with_constant(o: Operation) -> bool
+    ensures { λ r. ⌜ r ≡ withConstant o ⌝ }
+{
+    match kind_of(o.code) {
+        Kind::Assignment => false,
+        Kind::ConstantComparison => true,
+        Kind::VariableComparison => false,
+        Kind::Unknown => false,
+    }
+}
+
+// What b is to an operation.
+pub fn operand_b(o: Operation) -> Operand
+    ensures { λ r. ⌜ r ≡ operandB o ⌝ }
+{
+    match kind_of(o.code) {
+        Kind::Assignment => {
+            if o.code == 0 {
+                return Operand::Unused;
+            }
+            Operand::Variable
+        }
+        Kind::ConstantComparison => Operand::Unused,
+        Kind::VariableComparison => Operand::Variable,
+        Kind::Unknown => Operand::Unused,
+    }
+}
+
+// What c is to an assignment.
+fn assigned_c(code: u32) -> Operand
+    ensures { λ r. ⌜ r ≡ assignedC code ⌝ }
+{
+    match code {
+        0 => Operand::Constant,
+        1 => Operand::Unused,
+        2 => Operand::Constant,
+        3 => Operand::Variable,
+        4 => Operand::Variable,
+        _ => Operand::Unused,
+    }
+}
+
+// What c is to an operation.
+pub fn operand_c(o: Operation) -> Operand
+    ensures { λ r. ⌜ r ≡ operandC o ⌝ }
+{
+    match kind_of(o.code) {
+        Kind::Assignment => assigned_c(o.code),
+        Kind::ConstantComparison => Operand::Constant,
+        Kind::VariableComparison => Operand::Unused,
+        Kind::Unknown => Operand::Unused,
+    }
+}
+
+// Whether a number can stand in an operand's place.
+fn fits(operand: Operand, x: u32) -> bool
+    ensures { λ r. ⌜ r ≡ fits operand x ⌝ }
+{
+    match operand {
+        Operand::Variable => x <= 63,
+        Operand::Constant => true,
+        Operand::Unused => x == 0,
+    }
+}
+
+// Whether every operand is as the code wants it.
+pub fn operands_fit(o: Operation) -> bool
+    ensures { λ r. ⌜ r ≡ operandsFit o ⌝ }
+{
+    if 63 < o.a {
+        return false;
+    }
+    if fits(operand_b(o), o.b) {
+        return fits(operand_c(o), o.c);
+    }
+    false
+}
+
+// The least number that cannot stand in the place of b; 0 for a code that is not known. By a table of codes and not by their kinds,
+// so that judging a row takes no jump.
+fn limit_b(code: u32) -> u32
+    ensures { λ r. ⌜ ((o : Operation) → o .code ≡ code → (b : ℕ) → ltb b r ≡ isKnown o && fits (operandB o) b) ⌝ }
+{
+    match code {
+        0 => 1,
+        1 => 64,
+        2 => 64,
+        3 => 64,
+        4 => 64,
+        5 => 64,
+        16 => 1,
+        17 => 1,
+        18 => 1,
+        19 => 1,
+        20 => 1,
+        21 => 1,
+        32 => 64,
+        33 => 64,
+        34 => 64,
+        35 => 64,
+        36 => 64,
+        37 => 64,
+        _ => 0,
+    }
+}
+
+// Likewise for c, of which a constant may be any u32. No code that is known has the 0 of the others, so that the table has them all.
+fn limit_c(code: u32) -> u64
+    ensures { λ r. ⌜ ((o : Operation) → o .code ≡ code → (c : ℕ) → c < 2 ^ 32 → ltb c r ≡ isKnown o && fits (operandC o) c) ⌝ }
+{
+    match code {
+        0 => 4294967296,
+        1 => 1,
+        2 => 4294967296,
+        3 => 64,
+        4 => 64,
+        5 => 1,
+        16 => 4294967296,
+        17 => 4294967296,
+        18 => 4294967296,
+        19 => 4294967296,
+        20 => 4294967296,
+        21 => 4294967296,
+        32 => 1,
+        33 => 1,
+        34 => 1,
+        35 => 1,
+        36 => 1,
+        37 => 1,
+        _ => 0,
+    }
+}
+
+// Whether the code is known and every operand is as it wants it.
+pub fn is_right(o: Operation) -> bool
+    ensures { λ r. ⌜ r ≡ isKnown o && operandsFit o ⌝ }
+{
+    (o.a <= 63) & (o.b < limit_b(o.code)) & ((o.c as u64) < limit_c(o.code))
+}
+
+// The value that an assignment writes, from 64 lent values; refused: 21 other than 64 values, 6 no assignment, 7 an operand that does not fit.
+pub fn value_written(o: Operation, values: &[u32]) -> Written
+    ensures { λ r. ⌜ toldWritten r ≡ writtenBy o (now (values .entry)) ⌝ }
+{
+    if values.len() != 64 {
+        return Written::Refused(21);
+    }
+    if !is_assignment(o) {
+        return Written::Refused(6);
+    }
+    if !operands_fit(o) {
+        return Written::Refused(7);
+    }
+    Written::Value(inner::meaning::value(o, values))
+}
+
+// Whether 64 lent values meet an assumption; refused: 21 other than 64 values, 6 no assumption, 7 an operand that does not fit.
+pub fn meets(o: Operation, values: &[u32]) -> Met
+    ensures { λ r. ⌜ toldMet r ≡ metBy o (now (values .entry)) ⌝ }
+{
+    if values.len() != 64 {
+        return Met::Refused(21);
+    }
+    if !is_assumption(o) {
+        return Met::Refused(6);
+    }
+    if !operands_fit(o) {
+        return Met::Refused(7);
+    }
+    if inner::meaning::holds(o, values) {
+        Met::Yes
+    } else {
+        Met::No
+    }
+}
