@@ -1,4 +1,4 @@
-//! The crate `chart` against the vectors and against a plain Rust reading of the specification.
+//! The crates `operations` and `chart` against the vectors and against a plain Rust reading of the specification.
 
 use picker_tests::{cases, conditions, exactly_one, fault, implies, meets, model, written, Chart, Operation, Random};
 
