@@ -12,7 +12,7 @@ use lib.Pow.{pow-pos}
 use Rattle.operations.specs.declared.Operation.{Operation}
 use Rattle.operations.specs.declared.assumptions.Implication.{Implication}
 use Rattle.operations.specs.declared.assumptions.Implication.the-variants.{Never, Implied, NotImplied}
-use Rattle.operations.specs.declared.assumptions.Seats.{Seats}
+use Rattle.operations.specs.declared.inner.trials.Seats.{Seats}
 use Rattle.operations.specs.Operations.{withConstant, order, key, related, holds}
 use Rattle.operations.specs.Values.{Values, var}
 use Rattle.operations.specs.Assumptions.{Operands, NeverHolds, Implies, ExactlyOne, Means}

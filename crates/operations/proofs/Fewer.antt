@@ -9,7 +9,7 @@ use lib.Dec.{T, eqb}
 use lib.ListN.{take, drop}
 use borrow.Author.Tests.{eq-eqb, ne-eqb}
 use Rattle.operations.specs.declared.Operation.{Operation}
-use Rattle.operations.specs.declared.assumptions.Seats.{Seats}
+use Rattle.operations.specs.declared.inner.trials.Seats.{Seats}
 use Rattle.operations.specs.Operations.{withConstant, plus, holds}
 use Rattle.operations.specs.Trials.{seats, trial, points, repeated, shown, shownBy, meets, meetsBoth, together}
 use Rattle.base.specs.Lists.{any}

@@ -8,7 +8,7 @@ use native.Mathlib.Decide.{ℕ-discrete}
 use lib.Dec.{T, T-not, eqb, eqb→eq}
 use borrow.Author.Tests.{eq-eqb, ne-eqb}
 use Rattle.operations.specs.declared.Operation.{Operation}
-use Rattle.operations.specs.declared.assumptions.Seats.{Seats}
+use Rattle.operations.specs.declared.inner.trials.Seats.{Seats}
 use Rattle.operations.specs.Operations.{withConstant, Order, order, holds}
 use Rattle.operations.specs.Trials.{partner, compares, inside, own, seats, trial, points}
 use Rattle.base.proofs.Tests.{T-and, T-or, T-or-r}

@@ -8,7 +8,7 @@ use Rattle.base.specs.Lists.{any}
 use Rattle.operations.specs.declared.Operation.{Operation}
 use Rattle.operations.specs.declared.assumptions.Implication.{Implication}
 use Rattle.operations.specs.declared.assumptions.Implication.the-variants.{Never, Implied, NotImplied}
-use Rattle.operations.specs.declared.assumptions.Seats.{Seats}
+use Rattle.operations.specs.declared.inner.trials.Seats.{Seats}
 use Rattle.operations.specs.Operations.{withConstant, plus, relation, related, holds}
 
 -- the second is as the first says

@@ -11,6 +11,7 @@ use chart::inner::rows::operation_at;
 use chart::inner::rows::same_operation;
 use operations::Operation;
 use operations::assumptions;
+use operations::inner::trials::follows;
 
 // The row whose operation is equal to that of row j of another part.
 pub fn same(rows: &[u32], part: &[u32], j: usize) -> Found
@@ -49,7 +50,7 @@ fn implies(o: Operation, o2: Operation) -> bool
     if !operations::is_assumption(o2) {
         return false;
     }
-    assumptions::follows(o, o2)
+    follows(o, o2)
 }
 
 // The assumption that o implies. Whether some values meet o is asked once, for all rows.

@@ -6,7 +6,7 @@ ghost use Rattle.operations.specs.Operations.{isAssignment, isAssumption, fits,
 ghost use Rattle.align.specs.Sets.{alone, joined, with, without, meets, holdsAll, setOf, readSet};
 use operations::Operand;
 use operations::Operation;
-use operations::assumptions::partner;
+use operations::inner::trials::partner;
 
 // The set of v alone.
 pub fn alone(v: u32) -> u64
