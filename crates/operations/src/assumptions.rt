@@ -66,6 +66,7 @@ fn opposite(code: u32) -> u32
 pub fn opposed(f: Operation, g: Operation) -> bool
     ensures { λ r. ⌜ (r ≡ true → (isAssumption f ≡ true) × (isAssumption g ≡ true) × Opposed f g) ⌝ }
 {
+    // 6, the answer that there is no opposite, is no code of an assumption, so a code of at least 16 is asked for.
     let s = opposite(f.code);
     (f.a == g.a) & (f.b == g.b) & (f.c == g.c) & (s == g.code) & (15 < g.code)
 }
