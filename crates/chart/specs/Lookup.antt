@@ -48,6 +48,7 @@ pub record Indexable (t : List ℕ) : Type 0 where
   pub few-rows : size t ≤ 128
   pub few-places : (i : ℕ) → i < size t → from t i < 64
 
+-- ---- End, Ends, lastOf and Carried: the contracts of two private functions that make the index. No rule of the specification speaks of them; a reader may pass over them
 -- row r - 1 is the last of the first n rows that leaves the place before p; r is 0 where none does
 pub record End (t : List ℕ) (n p r : ℕ) : Type 0 where
   pub within : r ≤ n
@@ -73,6 +74,7 @@ pub record Carried (before : List ℕ) (at n : ℕ) (after : List ℕ) : Type 0 
   pub below : (j : ℕ) → j < at → getD after j 0 ≡ getD before j 0
   pub above : (j : ℕ) → at + n ≤ j → getD after j 0 ≡ getD before j 0
 
+-- ---- the index
 -- an index of both tables: entry p is the first row of the old one whose "from" is not below p, entry 65 + p that of the new one. Entry 64
 -- of each ends the rows of place 63
 pub record Indexed (old new index : List ℕ) : Type 0 where
