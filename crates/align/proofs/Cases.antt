@@ -1,6 +1,6 @@
 -- The steps of a short example, evaluated: an old chart that assigns 5 to v1, a new one that assigns 6. Assumes nothing.
 use mathlib.Core.Path.{_≡_, refl}
-use mathlib.Core.List.{List, [], _∷_}
+use mathlib.Core.List.{[], _∷_}
 use mathlib.Core.Option.{Option, none, some}
 use Prim.Native.Nat.{ℕ}
 use Rattle.base.specs.Options.{firstOf}

@@ -6,7 +6,7 @@ use Prim.Native.Nat.{ℕ, zero, suc, _+_, _≤_, _<_}
 use native.Mathlib.Nat.{eq-or-lt-of-le, le-of-suc-le-suc}
 use native.Mathlib.Numerals.{add-one}
 use native.Mathlib.Omega.{arith}
-use lib.Dec.{T, T-not, not-T, eqb, leb, eqb→eq, eqb-refl, leb→le, le→leb}
+use lib.Dec.{T, T-not, not-T, eqb, eqb→eq, eqb-refl, leb→le, le→leb}
 use Rattle.base.specs.Says.{every, Test, eq, ne, le, so, _and_, _or_, each, bool, Says}
 use Rattle.base.proofs.Tests.{T-and, T-both, T-or, T-or-l, T-or-r}
 

@@ -1,5 +1,5 @@
 -- Tests over the elements of a list.
-use mathlib.Core.Bool.{Bool, true, false, _||_}
+use mathlib.Core.Bool.{Bool, false, _||_}
 use mathlib.Core.List.{List, [], _∷_}
 
 -- some element passes

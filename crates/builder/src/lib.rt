@@ -1,7 +1,6 @@
 // The builder: the condition of Algorithms 2 and 1, over four lent buffers. Here stands the entry point, which refuses bad input itself.
 ghost use mathlib.Core.Path.{_≡_};
 ghost use mathlib.Core.Option.{none};
-ghost use mathlib.Core.Bool.{Bool};
 ghost use Rattle.base.specs.Options.{missing};
 ghost use Rattle.base.specs.Says.{bool};
 ghost use Rattle.chart.specs.Charts.{charted};

@@ -1,23 +1,20 @@
 -- A chart has no fault exactly where it is as Faultless.antt says. Assumes nothing.
-use mathlib.Core.Path.{_≡_, refl, sym, ap, _∙_}
-use mathlib.Core.Bool.{Bool, true, false, _&&_, _||_, not}
+use mathlib.Core.Path.{_≡_}
+use mathlib.Core.Bool.{true, false, _||_, not}
 use mathlib.Core.Logic.{_↔_}
-use mathlib.Core.List.{List}
-use mathlib.Core.Option.{Option, none, some}
+use mathlib.Core.Option.{none}
 use Prim.Native.Nat.{ℕ, zero, suc, _+_, _-_, _%_, _≤_, _<_}
 use native.Mathlib.Nat.{add-suc, add-zero, add-sub-of-le, le-refl}
 use native.Mathlib.Decide.{ℕ-discrete}
 use native.Mathlib.Omega.{arith}
-use borrow.Author.Tests.{eq-eqb, ne-eqb, eqb-true, eqb-false, le-leb, lt-leb, leb-false, le-ltb, ltb-false, not-false}
+use borrow.Author.Tests.{eq-eqb, ne-eqb, eqb-true, eqb-false, lt-leb, leb-false, le-ltb, ltb-false, not-false}
 use lib.Dec.{eqb, leb, ltb}
 use lib.ListN.{length}
-use Rattle.base.specs.Options.{when, orElse, missing, firstOf}
-use Rattle.base.specs.Tests.{someBelow}
-use Rattle.base.specs.Refusals.{Fault, due}
+use Rattle.base.specs.Options.{missing, firstOf}
+use Rattle.base.specs.Refusals.{due}
 use Rattle.base.proofs.Options.{missing-none, both-missing, not-due, none-of, none-if, none-everywhere}
 use Rattle.base.proofs.Tests.{and-true, or-false, not-both, none-below, none-below-at}
-use Rattle.operations.specs.Operations.{isKnown, isAssumption, operandsFit}
-use Rattle.operations.specs.Trials.{exclusive}
+use Rattle.operations.specs.Operations.{isKnown, isAssumption}
 use Rattle.chart.specs.Charts.{Chart, size, from, to, operation}
 use Rattle.chart.specs.Faults.{countFault, alarmFault, fromBefore, rowFault, clash, conflictFault, rowsFault, fault, refusal}
 use Rattle.chart.specs.Faultless.{FaultlessRow, Apart, FaultlessChart}

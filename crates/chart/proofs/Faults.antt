@@ -11,7 +11,6 @@ use borrow.Author.Tests.{eq-eqb, ne-eqb, le-ltb, le-leb, lt-leb, leb-true, eqb-f
 use lib.Dec.{eqb, leb, ltb}
 use Rattle.base.specs.Options.{missing}
 use Rattle.base.specs.Tests.{someBelow}
-use Rattle.base.specs.Refusals.{Fault, due}
 use Rattle.base.proofs.Tests.{T-true, and-true, None-since, none-here, none-left}
 use Rattle.operations.specs.declared.Operation.{Operation}
 use Rattle.operations.specs.Operations.{isKnown, isAssumption, operandsFit}

@@ -2,7 +2,7 @@
 -- where the computed test finds no fault is proved, in proofs/Faultless.antt.
 use mathlib.Core.Path.{_≡_}
 use mathlib.Core.Bool.{true}
-use Prim.Native.Nat.{ℕ, suc, _%_, _≤_, _<_}
+use Prim.Native.Nat.{ℕ, _%_, _≤_, _<_}
 use lib.ListN.{length}
 use Rattle.operations.specs.Operations.{isKnown, isAssumption, operandsFit}
 use Rattle.operations.specs.Trials.{exclusive}

@@ -13,7 +13,6 @@ use Rattle.base.proofs.Tests.{within-yes, within-low, within-high, and-true, T-
 use Rattle.operations.specs.declared.Operation.{Operation}
 use Rattle.operations.specs.declared.Kind.{Kind}
 use Rattle.operations.specs.declared.Kind.the-variants.{Assignment, ConstantComparison, VariableComparison, Unknown}
-use Rattle.operations.specs.declared.Operand.{Operand}
 use Rattle.operations.specs.declared.Operand.the-variants.{Variable, Constant, Unused}
 use Rattle.operations.specs.Operations.{kind, byKind, isKnown, operandB, assignedC, operandC, fits, operandsFit}
 

@@ -1,9 +1,8 @@
 -- What an operation does depends only on the variables that it reads, and what it writes is a u32. Assumes nothing.
 use mathlib.Core.Path.{_≡_, refl, sym, ap, ap₂, subst}
 use mathlib.Core.Bool.{Bool, true, false, cond}
-use mathlib.Core.Logic.{_⊎_, inl, inr}
 use mathlib.Core.List.{List, [], _∷_, _++_}
-use Prim.Native.Nat.{ℕ, _+_, _-_, _%_, _^_, _≤_, _<_}
+use Prim.Native.Nat.{ℕ, _+_, _-_, _^_, _≤_, _<_}
 use native.Mathlib.Nat.{mod-lt}
 use native.Mathlib.Decide.{ℕ-discrete}
 use native.Mathlib.Omega.{arith}
@@ -14,9 +13,8 @@ use Rattle.base.proofs.Tests.{T-true}
 use Rattle.operations.specs.declared.Operation.{Operation}
 use Rattle.operations.specs.declared.Kind.{Kind}
 use Rattle.operations.specs.declared.Kind.the-variants.{Assignment, ConstantComparison, VariableComparison, Unknown}
-use Rattle.operations.specs.declared.Operand.{Operand}
-use Rattle.operations.specs.declared.Operand.the-variants.{Variable, Constant, Unused}
-use Rattle.operations.specs.Operations.{kind, byKind, isAssignment, isAssumption, operandB, assignedC, operandC, ifVariable, reads, plus, minus, value, order, key, relation, related, withConstant, right, holds}
+use Rattle.operations.specs.declared.Operand.the-variants.{Variable, Unused}
+use Rattle.operations.specs.Operations.{kind, byKind, isAssignment, isAssumption, operandB, assignedC, operandC, ifVariable, reads, plus, minus, value, order, key, relation, related, holds}
 use Rattle.operations.proofs.Codes.{assigning}
 
 -- f and g agree on the variables listed

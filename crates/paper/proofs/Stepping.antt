@@ -1,7 +1,7 @@
 -- The aligned step is lines 5 to 18 of Algorithm 2, with document 01's cut of line 13. Assumes nothing.
 use mathlib.Core.Path.{_≡_, refl, sym, ap, subst, _∙_}
 use mathlib.Core.Bool.{Bool, true, false, _&&_, _||_, not}
-use mathlib.Core.Logic.{_⊎_, inl, inr, ⊎-elim, dite, _≢_}
+use mathlib.Core.Logic.{inl, inr, ⊎-elim, dite, _≢_}
 use mathlib.Core.List.{List}
 use mathlib.Core.Option.{Option, none, some, Option·none-ne-some, Option·some-injective}
 use Prim.Native.Nat.{ℕ, zero, suc, _-_, _^_, _≤_, _<_}

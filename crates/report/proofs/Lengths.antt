@@ -16,7 +16,7 @@ use Rattle.base.proofs.Answers.{different}
 use Rattle.base.proofs.Options.{both-missing, not-due}
 use Rattle.base.proofs.Says.{says}
 use Rattle.base.proofs.Tests.{T-true}
-use Rattle.chart.specs.Charts.{Chart, size}
+use Rattle.chart.specs.Charts.{Chart}
 use Rattle.chart.specs.Faults.{fault, refusal}
 use Rattle.chart.proofs.Faultless.{faultless}
 use Rattle.text.specs.Texts.{readText}

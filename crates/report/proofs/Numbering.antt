@@ -1,7 +1,7 @@
 -- The number that is printed for a row is its number in the table: as many rows stand before it as leave lower places, and before those of
 -- its own place as its rank says.
 -- Assumes nothing.
-use mathlib.Core.Path.{_≡_, refl, ap, _∙_}
+use mathlib.Core.Path.{_≡_, refl, ap}
 use mathlib.Core.List.{List}
 use mathlib.Core.Logic.{dite}
 use Prim.Native.Nat.{ℕ, zero, suc, _+_, _≤_, _<_}

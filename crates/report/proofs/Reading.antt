@@ -1,6 +1,6 @@
 -- Laws of reading both texts: what the two answers of the reader make.
 -- Assumes nothing.
-use mathlib.Core.Path.{_≡_, refl, sym, ap, subst, _∙_}
+use mathlib.Core.Path.{_≡_, refl, sym, ap, subst}
 use mathlib.Core.List.{List}
 use Prim.Native.Nat.{ℕ, _≤_}
 use native.Mathlib.Omega.{arith}
@@ -17,7 +17,7 @@ use Rattle.text.proofs.Headings.{first, second, third}
 use Rattle.report.specs.declared.charts.Both.{Both}
 use Rattle.report.specs.declared.charts.Both.the-variants as both
 use Rattle.report.specs.Printed.{bothOf}
-use Rattle.report.specs.Both.{Headings, headings, toldBoth, Few, BothAs}
+use Rattle.report.specs.Both.{toldBoth, Few, BothAs}
 
 -- a position that is told is small
 position : (a : Answer Chart) (m p : ℕ) → toldRead (read.Refused m p) ≡ mapped heading a → SmallRead a → p ≤ 10191

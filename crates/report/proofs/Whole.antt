@@ -3,7 +3,7 @@
 use mathlib.Core.Path.{_≡_, refl, sym, ap, ap₂, _∙_}
 use mathlib.Core.List.{List, [], _∷_, _++_}
 use mathlib.Core.Logic.{dite}
-use Prim.Native.Nat.{ℕ, _*_, _≤_, _<_}
+use Prim.Native.Nat.{ℕ, _*_, _≤_}
 use native.Mathlib.Decide.{decLt}
 use native.Mathlib.Omega.{arith}
 use lib.ListN.{length, take, drop, drop-of-length-le}
@@ -17,7 +17,7 @@ use Rattle.report.specs.Lines.{refusalLine}
 use Rattle.report.specs.Transitions.{transitionsFrom, remaining}
 use Rattle.report.specs.Printed.{Pair, bothRead, summaryLine, transitions, condition, conditionOf, printed}
 use Rattle.report.proofs.Lengths.{built-targets, whole-table}
-use Rattle.report.specs.Portions.{Front, Portioned, Portions, last, more}
+use Rattle.report.specs.Portions.{Front, Portions, last, more}
 
 -- past the last pair there is nothing
 remaining-end : (t marks targets : List ℕ) (n : ℕ) → length targets ≡ 8192 → 4096 ≤ n → remaining t marks targets n ≡ []

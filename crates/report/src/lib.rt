@@ -1,5 +1,4 @@
 // What the program prints, in portions of at most 1,024 bytes. Together they are `printed` of specs/Printed.antt.
-ghost use mathlib.Core.Path.{_≡_};
 ghost use lib.ListN.{take};
 ghost use Rattle.report.specs.Lines.{refusalLine};
 ghost use Rattle.report.specs.Printed.{summaryLine};

@@ -2,7 +2,6 @@
 ghost use mathlib.Core.Path.{_≡_};
 ghost use Rattle.operations.specs.Answers.{writtenBy, metBy};
 ghost use Rattle.operations.specs.Trials.{implication, exclusive};
-ghost use Rattle.chart.specs.Charts.{Chart};
 ghost use Rattle.chart.specs.Faults.{refusal};
 ghost use Rattle.testing.specs.Numbers.{operation, implicationNumber, bit, faultNumber, faultPosition, writtenNumber, metNumber};
 use chart::charts::Head;

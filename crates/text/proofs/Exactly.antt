@@ -3,7 +3,7 @@
 use mathlib.Core.Path.{_≡_, _∙_, subst}
 use mathlib.Core.List.{List, [], _∷_, _++_, append-nil}
 use mathlib.Core.Option.{none}
-use Prim.Native.Nat.{ℕ, zero, suc, _+_, _*_, _-_, _%_, _≤_}
+use Prim.Native.Nat.{ℕ, zero, suc, _*_, _-_, _%_, _≤_}
 use native.Mathlib.Omega.{arith}
 use lib.ListN.{length, getD, length-append}
 use Rattle.base.specs.Answers.{given, refused}

@@ -1,6 +1,5 @@
 -- `builder::build` meets its contract: the refusal that is due, or both algorithms, whose record the check passes. Assumes nothing.
 use Rattle.builder.proofs.Answering.{accepted, done-answers, done-leaves, done-passes, refused-answers, refused-leaves, never-done}
-use native.Mathlib.Omega.{arith}
 use borrow.Author.Needs.{needs}
 use Rattle.builder.proofs.build.Statement.{statement}
 use Rattle.builder.proofs.build.Tie as tie

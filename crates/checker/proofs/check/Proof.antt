@@ -4,7 +4,6 @@ use borrow.Author.Tests.{not-true, not-false}
 use Rattle.checker.proofs.Answers.{lengths-refused, marks-sized, targets-sized, sets-sized, old-refused, old-sound, new-refused, new-sound, record-judged, promised}
 use Rattle.checker.specs.Records.{recordOf}
 use Rattle.checker.specs.Checks.{sized}
-use Prim.Native.Nat.{_-_}
 use native.Mathlib.Omega.{arith}
 use borrow.Author.Needs.{needs}
 use Rattle.checker.proofs.check.Statement.{statement}

@@ -3,7 +3,6 @@ use mathlib.Core.Path.{sym, ap}
 use Rattle.checker.specs.Checks.{inChart}
 use Rattle.chart.specs.Faults.{told as chartTold}
 use Rattle.chart.specs.declared.charts.Judged.{Judged}
-use Prim.Native.Nat.{_-_}
 use borrow.Author.Needs.{needs}
 use Rattle.checker.proofs.in_old.Statement.{statement}
 use Rattle.checker.proofs.in_old.Tie as tie

@@ -4,7 +4,6 @@ use Rattle.chart.proofs.Faultless.{indexable}
 use Rattle.checker.proofs.Answers.{shape-refused, rules-judged, judged}
 use Rattle.checker.specs.Rules.{shaped}
 use Rattle.checker.specs.Records.{recordOf}
-use Prim.Native.Nat.{_-_}
 use borrow.Author.Needs.{needs}
 use Rattle.checker.proofs.record_fault.Statement.{statement}
 use Rattle.checker.proofs.record_fault.Tie as tie

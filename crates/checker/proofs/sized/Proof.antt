@@ -1,7 +1,6 @@
 -- `checker::sized` meets its contract: length by length. Assumes nothing.
 use borrow.Author.Tests.{eq-eqb, ne-eqb}
 use Rattle.checker.specs.Checks.{sized}
-use Prim.Native.Nat.{_-_}
 use Rattle.checker.proofs.sized.Statement.{statement}
 use Rattle.checker.proofs.sized.Tie as tie
 

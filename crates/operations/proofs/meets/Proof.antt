@@ -2,7 +2,7 @@
 use borrow.Author.Tests.{not-true, not-false}
 use mathlib.Core.Path.{sym, ap, _∙_}
 use mathlib.Core.Bool.{Bool}
-use Rattle.base.specs.Answers.{Answer, given}
+use Rattle.base.specs.Answers.{given}
 use Rattle.operations.specs.Answers.{metBy}
 use Rattle.operations.proofs.Answers.{other-length, other-sort, unfit, answered}
 use borrow.Author.Needs.{needs}

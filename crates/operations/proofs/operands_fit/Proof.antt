@@ -1,6 +1,5 @@
 -- `operations::operands_fit` meets its contract: operand by operand. Assumes nothing.
-use mathlib.Core.Path.{sym, ap, _∙_}
-use Prim.Native.Nat.{ℕ}
+use mathlib.Core.Path.{ap, _∙_}
 use Rattle.operations.specs.declared.Operand.{Operand}
 use Rattle.operations.specs.Operations.{operandsFit, fits}
 use borrow.Author.Tests.{le-leb, lt-leb}

@@ -1,5 +1,4 @@
 -- `align::inner::seek::assignment` meets its contract: no row, the first one, or none. Assumes nothing.
-use mathlib.Core.Bool.{true}
 use Rattle.align.proofs.Seek.{none-at-first, found-here, nowhere, only-first}
 use borrow.Author.Needs.{needs}
 use native.Mathlib.Omega.{arith}

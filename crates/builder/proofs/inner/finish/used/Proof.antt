@@ -1,7 +1,6 @@
 -- `builder::inner::finish::used` meets its contract. Assumes nothing.
 use Rattle.builder.proofs.Finishing.{Ends, used-start, used-less, used-all}
 use borrow.Author.Needs.{needs}
-use native.Mathlib.Omega.{arith}
 use Rattle.builder.proofs.inner.finish.used.Statement.{statement}
 use Rattle.builder.proofs.inner.finish.used.Tie as tie
 

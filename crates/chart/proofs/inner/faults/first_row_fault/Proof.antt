@@ -1,7 +1,7 @@
 -- `chart::inner::faults::first_row_fault` meets its contract. The invariant: no row passed has a fault. Assumes nothing.
 use Rattle.base.proofs.Options.{first-at, none-at, none-all}
 use borrow.Author.Tests.{not-true, not-false}
-use mathlib.Core.Path.{_≡_, refl, sym, ap, _∙_}
+use mathlib.Core.Path.{_≡_, sym, ap, _∙_}
 use mathlib.Core.Option.{none}
 use Prim.Native.Nat.{_≤_, _-_}
 use Rattle.base.specs.Options.{missing, firstOf}

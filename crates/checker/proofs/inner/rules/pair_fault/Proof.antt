@@ -5,7 +5,6 @@ use native.Mathlib.Omega.{arith}
 use Rattle.checker.proofs.Targets.{absent, part-of, present}
 use Rattle.checker.specs.Records.{graphOf}
 use Rattle.chart.proofs.Faultless.{ascends, no-refusal}
-use Prim.Native.Nat.{_-_}
 use borrow.Author.Needs.{needs}
 use Rattle.checker.proofs.inner.rules.pair_fault.Statement.{statement}
 use Rattle.checker.proofs.inner.rules.pair_fault.Tie as tie

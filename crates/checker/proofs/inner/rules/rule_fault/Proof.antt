@@ -2,7 +2,6 @@
 use borrow.Author.Tests.{not-true, not-false}
 use Rattle.checker.proofs.Answers.{start-refused, targets-judged}
 use Rattle.checker.specs.Records.{recordOf}
-use Prim.Native.Nat.{_-_}
 use borrow.Author.Needs.{needs}
 use Rattle.checker.proofs.inner.rules.rule_fault.Statement.{statement}
 use Rattle.checker.proofs.inner.rules.rule_fault.Tie as tie

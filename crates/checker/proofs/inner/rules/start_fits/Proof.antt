@@ -1,7 +1,6 @@
 -- `checker::inner::rules::start_fits` meets its contract: start by start. Assumes nothing.
 use mathlib.Core.Path.{refl}
 use Rattle.checker.proofs.Shapes.{start-unmarked, start-pair, start-kept, start-none}
-use Prim.Native.Nat.{_-_}
 use borrow.Author.Needs.{needs}
 use Rattle.checker.proofs.inner.rules.start_fits.Statement.{statement}
 use Rattle.checker.proofs.inner.rules.start_fits.Tie as tie

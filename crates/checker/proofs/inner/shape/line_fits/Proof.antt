@@ -1,5 +1,4 @@
 -- `checker::inner::shape::line_fits` meets its contract: the first n, then the others. Assumes nothing.
-use Prim.Native.Nat.{_-_}
 use native.Mathlib.Omega.{arith}
 use borrow.Author.Needs.{needs}
 use Rattle.checker.proofs.Shapes.{line-over, line-within}

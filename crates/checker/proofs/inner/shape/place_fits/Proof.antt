@@ -1,5 +1,4 @@
 -- `checker::inner::shape::place_fits` meets its contract: the kept nodes, pairs, and places that do not exist. Assumes nothing.
-use Prim.Native.Nat.{_-_}
 use borrow.Author.Needs.{needs}
 use Rattle.checker.proofs.Shapes.{place-kept, place-pairs, place-none}
 use Rattle.checker.proofs.inner.shape.place_fits.Statement.{statement}

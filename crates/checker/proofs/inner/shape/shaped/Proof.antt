@@ -2,7 +2,6 @@
 use mathlib.Core.Path.{sym, _∙_}
 use borrow.Author.Tests.{not-true, not-false}
 use Rattle.checker.specs.Rules.{shaped}
-use Prim.Native.Nat.{_-_}
 use borrow.Author.Needs.{needs}
 use Rattle.checker.proofs.inner.shape.shaped.Statement.{statement}
 use Rattle.checker.proofs.inner.shape.shaped.Tie as tie

@@ -1,6 +1,5 @@
 -- `checker::inner::shape::start_named` meets its contract: test by test. Assumes nothing.
 use borrow.Author.Tests.{eq-eqb, ne-eqb}
-use Prim.Native.Nat.{_-_}
 use Rattle.checker.proofs.inner.shape.start_named.Statement.{statement}
 use Rattle.checker.proofs.inner.shape.start_named.Tie as tie
 

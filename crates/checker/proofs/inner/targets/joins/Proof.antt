@@ -1,6 +1,5 @@
 -- `checker::inner::targets::joins` meets its contract: test by test. Assumes nothing.
 use Rattle.checker.proofs.Targets.{joins-not, joins-absent, joins-holding}
-use Prim.Native.Nat.{_-_}
 use borrow.Author.Needs.{needs}
 use Rattle.checker.proofs.inner.targets.joins.Statement.{statement}
 use Rattle.checker.proofs.inner.targets.joins.Tie as tie

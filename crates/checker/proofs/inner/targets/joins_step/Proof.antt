@@ -3,7 +3,6 @@ use mathlib.Core.Path.{ap}
 use Rattle.checker.proofs.Targets.{row-right, row-below, pair-below, stepped-below, joins-failed, joins-stepped}
 use Rattle.checker.specs.Records.{graphOf}
 use Rattle.align.specs.Steps.{told as stepTold}
-use Prim.Native.Nat.{_-_}
 use borrow.Author.Needs.{needs}
 use Rattle.checker.proofs.inner.targets.joins_step.Statement.{statement}
 use Rattle.checker.proofs.inner.targets.joins_step.Tie as tie

@@ -1,7 +1,6 @@
 -- `checker::inner::targets::keeps` meets its contract: test by test. Assumes nothing.
 use mathlib.Core.Path.{refl}
 use Rattle.checker.proofs.Targets.{keeps-not, keeps-marked}
-use Prim.Native.Nat.{_-_}
 use borrow.Author.Needs.{needs}
 use Rattle.checker.proofs.inner.targets.keeps.Statement.{statement}
 use Rattle.checker.proofs.inner.targets.keeps.Tie as tie

@@ -2,7 +2,6 @@
 use native.Mathlib.Omega.{arith}
 use Rattle.checker.proofs.Targets.{ranked-none, ranked-open, ranked-covered, node-below}
 use Rattle.checker.proofs.Targets.{ranked-none, ranked-open, ranked-covered}
-use Prim.Native.Nat.{_-_}
 use borrow.Author.Needs.{needs}
 use Rattle.checker.proofs.inner.targets.ranked.Statement.{statement}
 use Rattle.checker.proofs.inner.targets.ranked.Tie as tie

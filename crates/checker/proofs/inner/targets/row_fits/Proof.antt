@@ -1,10 +1,9 @@
 -- `checker::inner::targets::row_fits` meets its contract: where it leads, then its mark. Assumes nothing.
-use Prim.Native.Nat.{_+_, _*_, _-_}
+use Prim.Native.Nat.{_+_, _*_}
 use borrow.Author.Tests.{not-true, not-false}
 use Rattle.checker.proofs.Shapes.{fits-at}
 use Rattle.checker.proofs.Targets.{row-astray, row-ranked}
 use Rattle.checker.specs.Records.{graphOf}
-use Prim.Native.Nat.{_-_}
 use native.Mathlib.Omega.{arith}
 use borrow.Author.Needs.{needs}
 use Rattle.checker.proofs.inner.targets.row_fits.Statement.{statement}

@@ -1,6 +1,5 @@
 -- `checker::inner::targets::within` meets its contract: test by test. Assumes nothing.
 use borrow.Author.Tests.{le-leb, lt-leb}
-use Prim.Native.Nat.{_-_}
 use Rattle.checker.proofs.inner.targets.within.Statement.{statement}
 use Rattle.checker.proofs.inner.targets.within.Tie as tie
 

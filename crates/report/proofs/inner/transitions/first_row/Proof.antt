@@ -1,8 +1,7 @@
 -- The loop counts the rows that it passes. Assumes nothing.
-use Prim.Native.Nat.{_-_, _≤_}
+use Prim.Native.Nat.{_-_}
 use mathlib.Core.Path.{_≡_}
 use mathlib.Core.Logic.{⊎-elim}
-use lib.ListN.{length}
 use Rattle.chart.specs.Charts.{size}
 use Rattle.report.proofs.Rows.{Counted, counted-none, counted-one, counted-no, counted-all}
 use borrow.Author.Needs.{needs}

@@ -3,7 +3,6 @@ use Prim.Native.Nat.{_-_}
 use lib.ListN.{length}
 use Rattle.words.proofs.Words.{Gathering, gathering-none, gathering-more, gathering-all}
 use borrow.Author.Needs.{needs}
-use native.Mathlib.Omega.{arith}
 use Rattle.words.proofs.inner.members.gathered.Statement.{statement}
 use Rattle.words.proofs.inner.members.gathered.Tie as tie
 
