@@ -17,7 +17,7 @@ use crate::inner::rows::operation_at;
 use crate::inner::rows::to_at;
 use operations::Operation;
 use operations::assumptions::exactly_one;
-use operations::assumptions::opposed;
+use operations::inner::opposed::opposed;
 
 pub fn is_faultless(j: Judged) -> bool
     ensures { λ r. ⌜ r ≡ missing (told j) ⌝ }

@@ -1,9 +1,9 @@
--- `operations::assumptions::opposite` meets its contract: code by code. Assumes nothing.
+-- `operations::inner::opposed::opposite` meets its contract: code by code. Assumes nothing.
 use mathlib.Core.Path.{refl}
 use Rattle.operations.specs.Operations.{kind}
 use Rattle.operations.proofs.Opposed.{opposite-codes}
-use Rattle.operations.proofs.assumptions.opposite.Statement.{statement}
-use Rattle.operations.proofs.assumptions.opposite.Tie as tie
+use Rattle.operations.proofs.inner.opposed.opposite.Statement.{statement}
+use Rattle.operations.proofs.inner.opposed.opposite.Tie as tie
 
 returns : tie.Need-returns
 unfolding kind

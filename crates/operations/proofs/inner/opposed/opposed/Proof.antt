@@ -1,8 +1,8 @@
--- `operations::assumptions::opposed` meets its contract: the same operands, opposite codes. Assumes nothing.
+-- `operations::inner::opposed::opposed` meets its contract: the same operands, opposite codes. Assumes nothing.
 use Rattle.operations.proofs.Opposed.{opposed-codes}
 use borrow.Author.Needs.{needs}
-use Rattle.operations.proofs.assumptions.opposed.Statement.{statement}
-use Rattle.operations.proofs.assumptions.opposed.Tie as tie
+use Rattle.operations.proofs.inner.opposed.opposed.Statement.{statement}
+use Rattle.operations.proofs.inner.opposed.opposed.Tie as tie
 
 opposite-requires : tie.Need-opposite-requires
 opposite-requires c κs = search needs
