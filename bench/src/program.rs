@@ -1,6 +1,7 @@
 //! The whole program, two files in and their condition out: process against process.
 
 use crate::{plain, plain_build};
+use picker_tests::conditions::Buffers;
 use picker_tests::{algorithms, drawn, texts, Chart, Random};
 use std::fs;
 use std::io::Write;
@@ -24,9 +25,9 @@ pub fn plain_program() {
             }
         }
     }
-    let (mut marks, mut targets, mut sets, mut waiting) = (vec![0; 4160], vec![0; 8192], vec![0; 4096], vec![0; 4096]);
-    let [start, open, kept, covered] = plain_build::build::<true>(&charts[0], &charts[1], &mut marks, &mut targets, &mut sets, &mut waiting).unwrap();
-    let records = algorithms::printed(&charts[1], start, [open, kept, covered], &marks, &targets);
+    let mut b = Buffers { marks: vec![0; 4160], targets: vec![0; 8192], sets: vec![0; 4096], waiting: vec![0; 4096] };
+    let [start, open, kept, covered] = plain_build::build::<true>(&charts[0], &charts[1], &mut b).unwrap();
+    let records = algorithms::printed(&charts[1], start, [open, kept, covered], &b.marks, &b.targets);
     std::io::stdout().write_all((records.join("\r\n") + "\r\n").as_bytes()).unwrap();
 }
 
