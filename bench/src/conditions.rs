@@ -15,7 +15,10 @@ type Contender<'a> = Box<dyn FnMut(&mut Buffers) + 'a>;
 fn turns(mut all: Vec<Contender>) -> Vec<(f64, f64)> {
     const TURN: f64 = 200_000.0;
     let buffers = &mut lent();
+    // Whoever comes after another finds the caches and the guesses of the processor as that one left them, so that each has a call before
+    // those that are timed.
     let mut once = |work: &mut Contender, calls: usize| {
+        work(buffers);
         let began = Instant::now();
         for _ in 0..calls {
             work(buffers);

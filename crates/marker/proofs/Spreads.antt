@@ -80,21 +80,9 @@ module _ (t : List ℕ) where
   pub passes-done : {x y z : List ℕ} {r : ℕ} → Sweeping t x y → Passed t y r z → r ≡ 0 → z ≡ allOpened t x
   passes-done W P e = any-order t (W .long) (opened-then t (W .did) (P .spread .did)) (P .rests e)
 
-  module _ {x y z w : List ℕ} {r s : ℕ} (W : Sweeping t x y) (P : Passed t y r z) (R : Passed t z s w) where
-    pub passes-end : s ≡ 0 → w ≡ allOpened t x
-    passes-end e = passes-done (rounds-again W (P .spread)) R e
+  pub passes-rest : {x y z u : List ℕ} {r : ℕ} → Sweeping t x y → Spread t y r z → HoldsBeyond u y → HoldsBeyond u z
+  passes-rest W S H = beyond-opened H (W .same ∙ W .long) (S .did)
 
-    two : Sweeping t x w
-    two = rounds-again (rounds-again W (P .spread)) (R .spread)
-
-    module _ {v : List ℕ} {q : ℕ} (S : Spread t w q v) where
-      pub passes-again : Sweeping t x v
-      passes-again = rounds-again two S
-
-      pub passes-rest : {u : List ℕ} → HoldsBeyond u w → HoldsBeyond u v
-      passes-rest H = beyond-opened H (two .same ∙ two .long) (S .did)
-
-      pub passes-less : (r ≡ 0 → ⊥) → fours t v < fours t y
-      passes-less h =
-          let l : length z ≡ 4160 = P .spread .long ∙ W .same ∙ W .long in
-          omega (arith, rounds-less W (P .spread) h, opened-fours t l (R .spread .did), opened-fours t (two .same ∙ two .long) (S .did))
+  -- what was opened is beyond no more, whatever was opened after it
+  pub passes-less : {x y z v : List ℕ} {r : ℕ} → Sweeping t x y → Passed t y r z → (r ≡ 0 → ⊥) → Sweeping t z v → fours t v < fours t y
+  passes-less W P h Z = omega (arith, rounds-less W (P .spread) h, opened-fours t (Z .long) (Z .did))

@@ -175,13 +175,16 @@ fn sweep_both(marks: &mut [u8], targets: &[u16], rest: &mut [u64]) -> usize
     sweep_up(marks, targets, rest)
 }
 
-// All pairs from which an open or kept node is a target. Where two passes each way still open pairs, they stand on chains that go up and down,
+// All pairs from which an open or kept node is a target. Where three passes each way still open pairs, they stand on chains that go up and down,
 // which rounds over few new places follow with less work than passes. Few small charts have such chains.
 fn open_rest(marks: &mut [u8], targets: &[u16], rest: &mut [u64])
     requires { ⌜ (length (now marks) ≡ 4160) × (length (now targets) ≡ 8192) × HoldsBeyond (now rest) (now marks) ⌝ }
     ensures { λ _. ⌜ now (marks .exit) ≡ allOpened (now (targets .entry)) (now (marks .entry)) ⌝ }
 {
     loop {
+        if sweep_both(marks, targets, rest) == 0 {
+            return;
+        }
         if sweep_both(marks, targets, rest) == 0 {
             return;
         }
