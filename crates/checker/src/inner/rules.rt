@@ -174,9 +174,9 @@ fn pair_fault<'a>(
     )
 }
 
-// How many absent pairs from n on are passed over at once: those of a whole old place, a group of 16, or none.
+// How many absent pairs from n on are passed over at once: those of a whole old place, a group of 8, or none.
 fn gap(marks: &[u8], n: usize) -> usize
-    requires { ⌜ (n < 4096) × (n % 16 ≡ 0) × (length (now marks) ≡ 4160) ⌝ }
+    requires { ⌜ (n < 4096) × (n % 8 ≡ 0) × (length (now marks) ≡ 4160) ⌝ }
     ensures { λ r. ⌜ (n + r ≤ 4096) × ((i : ℕ) → n ≤ i → i < n + r → getD (now (marks .entry)) i 0 ≡ 0) ⌝ }
 {
     if n % 64 == 0 {
@@ -184,8 +184,8 @@ fn gap(marks: &[u8], n: usize) -> usize
             return 64;
         }
     }
-    if blank(marks, n, 16) {
-        return 16;
+    if blank(marks, n, 8) {
+        return 8;
     }
     0
 }
@@ -196,7 +196,7 @@ fn next_pair(marks: &[u8], m: usize) -> usize
     ensures { λ r. ⌜ (m < r) × (r ≤ 4096) × ((i : ℕ) → m < i → i < r → getD (now (marks .entry)) i 0 ≡ 0) ⌝ }
 {
     let mut n = m + 1;
-    while n % 16 == 0 {
+    while n % 8 == 0 {
         if 4096 <= n {
             return n;
         }

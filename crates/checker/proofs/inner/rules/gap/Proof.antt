@@ -14,7 +14,7 @@ blank-requires-2 : tie.Need-blank-requires-2
 blank-requires-2 c κs = omega arith
 
 returns-2 : tie.Need-returns-2
-returns-2 c = (omega arith, absent-all (c .before .before .before .before .args .marks .now) _ 16 (c .before .blank2 .ensures) (c .if3 .taken))
+returns-2 c = (omega arith, absent-all (c .before .before .before .before .args .marks .now) _ 8 (c .before .blank2 .ensures) (c .if3 .taken))
 
 returns-3 : tie.Need-returns-3
 returns-3 c = (omega arith, λ i u v. absurd (omega arith))
