@@ -3,4 +3,5 @@ pub mod Passed
 pub mod Demand3
 pub mod Shapes
 pub mod Targets
+pub mod Absent
 pub mod Answers

@@ -3,3 +3,4 @@ pub mod Records
 pub mod Rules
 pub mod Checks
 pub mod Promise
+pub mod Packed

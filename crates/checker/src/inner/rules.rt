@@ -1,6 +1,6 @@
 // All rules of refusal 32, in order: the start, then the targets by index.
 ghost use mathlib.Core.Path.{_≡_};
-ghost use Prim.Native.Nat.{ℕ, _+_, _%_, _<_, _≤_};
+ghost use Prim.Native.Nat.{ℕ, _+_, _<_, _≤_};
 ghost use lib.ListN.{length, getD};
 ghost use Rattle.base.specs.Options.{missing, firstOf};
 ghost use Rattle.base.specs.Says.{bool};
@@ -9,6 +9,7 @@ ghost use Rattle.chart.specs.Lookup.{Indexed};
 ghost use Rattle.chart.specs.Places.{newOf};
 ghost use Rattle.checker.specs.Records.{graphOf, recordOf};
 ghost use Rattle.checker.specs.Rules.{startFits, Admitted};
+ghost use Rattle.checker.specs.Packed.{packed};
 ghost use Rattle.checker.specs.Checks.{told, targetFault, rowsFault, pairFault, ruleFault};
 use crate::inner::shape::blank;
 use crate::inner::targets::row_fits;
@@ -174,39 +175,69 @@ fn pair_fault<'a>(
     )
 }
 
-// How many absent pairs from n on are passed over at once: those of a whole old place, a group of 8, or none.
+fn mark_at(marks: &[u8], n: usize) -> u64
+    requires { ⌜ n < length (now marks) ⌝ }
+    ensures { λ r. ⌜ (r ≡ getD (now (marks .entry)) n 0) × (r < 256) ⌝ }
+{
+    marks[n] as u64
+}
+
+fn four(marks: &[u8], n: usize) -> u64
+    requires { ⌜ n + 4 ≤ length (now marks) ⌝ }
+    ensures { λ r. ⌜ (r ≡ packed (now (marks .entry)) n 4) × (r < 4294967296) ⌝ }
+{
+    let low = mark_at(marks, n) + 256 * mark_at(marks, n + 1);
+    let high = 65536 * mark_at(marks, n + 2) + 16777216 * mark_at(marks, n + 3);
+    low + high
+}
+
+// Eight marks as one number: the compiler reads them at once.
+fn eight(marks: &[u8], n: usize) -> u64
+    requires { ⌜ n + 8 ≤ length (now marks) ⌝ }
+    ensures { λ r. ⌜ r ≡ packed (now (marks .entry)) n 8 ⌝ }
+{
+    four(marks, n) + 4294967296 * four(marks, n + 4)
+}
+
+// How many of the marks from n on are 0: of eight, those before the first that is not, else those up to the next group of eight.
+fn absent(marks: &[u8], n: usize) -> usize
+    requires { ⌜ n + 8 ≤ length (now marks) ⌝ }
+    ensures { λ r. ⌜ (r ≤ 8) × ((i : ℕ) → n ≤ i → i < n + r → getD (now (marks .entry)) i 0 ≡ 0) ⌝ }
+{
+    let word = eight(marks, n);
+    if word == 0 {
+        return 8 - n % 8;
+    }
+    u64::trailing_zeros(word) as usize / 8
+}
+
+// How many absent pairs from n on are passed over at once: those of a whole old place, up to eight, or none.
 fn gap(marks: &[u8], n: usize) -> usize
-    requires { ⌜ (n < 4096) × (n % 8 ≡ 0) × (length (now marks) ≡ 4160) ⌝ }
-    ensures { λ r. ⌜ (n + r ≤ 4096) × ((i : ℕ) → n ≤ i → i < n + r → getD (now (marks .entry)) i 0 ≡ 0) ⌝ }
+    requires { ⌜ (n < 4096) × (length (now marks) ≡ 4160) ⌝ }
+    ensures { λ r. ⌜ (r ≤ 64) × ((i : ℕ) → n ≤ i → i < n + r → getD (now (marks .entry)) i 0 ≡ 0) ⌝ }
 {
     if n % 64 == 0 {
         if blank(marks, n, 64) {
             return 64;
         }
     }
-    if blank(marks, n, 8) {
-        return 8;
-    }
-    0
+    absent(marks, n)
 }
 
-// A later pair up to which all are absent. Most pairs of most records are.
+// The next pair that is present, or 4,096. Most pairs of most records are absent.
 fn next_pair(marks: &[u8], m: usize) -> usize
     requires { ⌜ (m < 4096) × (length (now marks) ≡ 4160) ⌝ }
     ensures { λ r. ⌜ (m < r) × (r ≤ 4096) × ((i : ℕ) → m < i → i < r → getD (now (marks .entry)) i 0 ≡ 0) ⌝ }
 {
     let mut n = m + 1;
-    while n % 8 == 0 {
-        if 4096 <= n {
+    while n < 4096 {
+        let passed = gap(marks, n);
+        if passed == 0 {
             return n;
         }
-        let absent = gap(marks, n);
-        if absent == 0 {
-            return n;
-        }
-        n += absent;
+        n += passed;
     }
-    n
+    4096
 }
 
 // The lowest target index at fault.

@@ -9,10 +9,10 @@ use Rattle.checker.proofs.inner.rules.next_pair.Statement.{statement}
 use Rattle.checker.proofs.inner.rules.next_pair.Tie as tie
 
 abbrev Inv-loop : tie.InvT-loop
-Inv-loop marks m n₀ n = (m < n) × (n ≤ 4096) × ((i : ℕ) → m < i → i < n → getD marks i 0 ≡ 0)
+Inv-loop marks m n₀ n = (m < n) × (n ≤ 4160) × ((i : ℕ) → m < i → i < n → getD marks i 0 ≡ 0)
 
 abbrev μ-loop : tie.MeasureT-loop
-μ-loop marks m n₀ n = 4096 - n
+μ-loop marks m n₀ n = 4160 - n
 
 add-n : tie.Need-add-n Inv-loop μ-loop
 add-n c = search needs
@@ -20,14 +20,11 @@ add-n c = search needs
 loop-holds : tie.Need-loop-holds Inv-loop μ-loop
 loop-holds c = (omega arith, omega arith, λ i u v. absurd (omega arith))
 
-returns : tie.Need-returns Inv-loop μ-loop
-returns c = c .before .before .loop .inv
-
 gap-requires : tie.Need-gap-requires Inv-loop μ-loop
-gap-requires c κs = (omega arith, omega arith, omega arith)
+gap-requires c κs = (omega arith, omega arith)
 
-returns-2 : tie.Need-returns-2 Inv-loop μ-loop
-returns-2 c = c .before .before .before .before .loop .inv
+returns : tie.Need-returns Inv-loop μ-loop
+returns c = (omega arith, omega arith, c .before .before .before .loop .inv .2)
 
 add-n-2 : tie.Need-add-n-2 Inv-loop μ-loop
 add-n-2 c = search needs
@@ -36,10 +33,10 @@ loop-less : tie.Need-loop-less Inv-loop μ-loop
 loop-less c = omega arith
 
 loop-again : tie.Need-loop-again Inv-loop μ-loop
-loop-again c = (omega arith, omega arith, absent-on (c .before .before .before .before .before .before .args .marks .now) _ _ _ (c .before .before .before .before .loop .inv .2) (c .before .gap .ensures .1))
+loop-again c = (omega arith, omega arith, absent-on (c .before .before .before .before .before .args .marks .now) _ _ _ (c .before .before .before .loop .inv .2) (c .before .gap .ensures .1))
 
-returns-3 : tie.Need-returns-3 Inv-loop μ-loop
-returns-3 c = c .before .loop .inv
+returns-2 : tie.Need-returns-2 Inv-loop μ-loop
+returns-2 c = (omega arith, omega arith, λ i u v. c .before .loop .inv .2 i u (omega arith))
 
 pub next-pair-spec : {M : Type 1} → statement M
 next-pair-spec =
@@ -49,10 +46,9 @@ next-pair-spec =
     μ-loop
     add-n
     loop-holds
-    returns
     gap-requires
-    returns-2
+    returns
     add-n-2
     loop-less
     loop-again
-    returns-3)
+    returns-2)
