@@ -1,7 +1,8 @@
 // The program: reads old.csv and new.csv, and prints the condition of the two charts, or a refusal. It opens, reads and writes; what it
 // prints is made by the crate report, in portions that together are `printed` of that crate's specs.
 ghost use Rattle.io.specs.Counts.{Counts};
-ghost use Rattle.report.specs.Both.{Few};
+ghost use Rattle.text.specs.Texts.{readInto};
+ghost use Rattle.report.specs.Both.{Few, BothAs};
 ghost use Rattle.report.specs.Printed.{Small};
 use builder::answers::Built;
 use builder::answers::Summary;
@@ -9,7 +10,7 @@ use builder::build;
 use chart::charts::Head;
 use libc::STDOUT_FILENO;
 use report::charts::Both;
-use report::charts::read_both;
+use text::answers::Read;
 
 // Reads to the end of the file, or as much as the text holds, and answers the count of bytes: none where a read fails.
 fn fill(fd: i32, text: &mut [u8]) -> usize
@@ -41,6 +42,20 @@ fn load(path: &[u8], text: &mut [u8]) -> usize
     let n = fill(fd, text);
     libc::close(fd);
     n
+}
+
+// The charts of two texts, the old one first: their rows go to the front of the tables, which have 768 entries each. A refusal leaves the
+// table of the chart that is refused as it was, and ends the program.
+fn read_both(old_text: &[u8], new_text: &[u8], old: &mut [u32], new: &mut [u32]) -> Both
+    ensures { λ r. ⌜ BothAs (readInto (now («old_text» .entry)) (now (old .entry))) (readInto (now («new_text» .entry)) (now (new .entry))) r (now (old .entry)) (now (old .exit)) (now (new .entry)) (now (new .exit)) ⌝ }
+{
+    match text::read(old_text, old) {
+        Read::Refused(number, position) => Both::Refused(number, 0, position as u32),
+        Read::Chart(head, rows) => match text::read(new_text, new) {
+            Read::Refused(number, position) => Both::Refused(number, 1, position as u32),
+            Read::Chart(other, more) => Both::Charts(head, rows, other, more),
+        },
+    }
 }
 
 // Both charts. At most 16,384 bytes of a file are read: more do not change what is printed.

@@ -7,7 +7,7 @@ use inner::lines::put_line;
 use inner::transitions::Extent;
 use inner::transitions::put_pairs;
 
-pub mod charts; // charts.rt: both charts, from the texts of both files
+pub mod charts; // charts.rt: what reading the texts of both files answers
 pub mod inner; // inner.rt: what the portions are made of
 
 // The record of a refusal, at the front of the bytes, and their count.

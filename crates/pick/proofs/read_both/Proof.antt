@@ -1,9 +1,9 @@
 -- What the reader answers of each text. Assumes nothing.
 use Rattle.report.proofs.Reading.{position-small, old-refused, new-refused, both-charts}
 use native.Mathlib.Omega.{arith}
 use borrow.Author.Needs.{needs}
-use Rattle.report.proofs.charts.read_both.Statement.{statement}
-use Rattle.report.proofs.charts.read_both.Tie as tie
+use Rattle.pick.proofs.read_both.Statement.{statement}
+use Rattle.pick.proofs.read_both.Tie as tie
 
 read-requires : tie.Need-read-requires
 read-requires c κs = search needs
