@@ -1,4 +1,4 @@
-// The C interface (include/picker.h): numbers and lent memory in, one number out. Every function calls one entry point, and none has a `requires`.
+// The C interface (include/picker.h): numbers and lent memory in, one number out. Every function calls one entry point, the lookup copies besides, and none has a `requires`.
 ghost use mathlib.Core.Path.{_≡_};
 ghost use mathlib.Core.Option.{none};
 ghost use Prim.Native.Nat.{_%_, _^_, _<_};

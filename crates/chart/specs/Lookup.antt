@@ -11,7 +11,7 @@ use Rattle.chart.specs.declared.places.Place.the-variants.{Old, New}
 use Rattle.chart.specs.Charts.{Chart, size, from, leaving}
 use Rattle.chart.specs.Faults.{refusal}
 
--- the chart is faultless ("a length not a multiple of 6 included") and has the place
+-- the chart is not faulty ("a length not a multiple of 6 included") and has the place
 unfoldable pub openTo : Chart → ℕ → Bool
 openTo C p = missing (refusal C) && ltb p (C .places)
 

@@ -107,7 +107,7 @@ module _ (old new : Chart) (G : Graph) where
   unfoldable pub rowFits : ℕ → List ℕ → ℕ → Test
   rowFits m rows k = leads m (operation rows k) (record { 0 = to rows k }) (target G m k) and ranked (G .marks) m (target G m k)
 
--- what the rules are judged upon: two faultless charts, and a graph of the stated lengths whose targets are nodes or 65535
+-- what the rules are judged upon, once all other refusals have been tested (a `requires` of inner functions): two faultless charts, and a graph of the stated lengths whose targets are nodes or 65535
 pub record Admitted (old new : Chart) (G : Graph) : Type 0 where
   pub old-faultless : FaultlessChart old
   pub new-faultless : FaultlessChart new

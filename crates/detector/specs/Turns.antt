@@ -26,7 +26,7 @@ leadsTo new n r = record { 0 = to (rowsOf new n) r }
 unfoldable pub lowest : List ℕ → Option ℕ
 lowest w = firstFrom (λ i x. not (eqb x 0)) 0 w
 
--- what is found is the lowest waiting pair with old place p
+-- what is found is the lowest waiting pair with old place p: the contract of a private function
 abbrev pub LowestOf : List ℕ → ℕ → Option ℕ → Type 0
 LowestOf w p (some n) = (n / 64 ≡ p) × (0 < getD w n 0) × ((i : ℕ) → 64 * p ≤ i → i < n → getD w i 0 ≡ 0)
 LowestOf w p none = (i : ℕ) → 64 * p ≤ i → i < 64 * p + 64 → getD w i 0 ≡ 0

@@ -14,7 +14,7 @@ use Rattle.checker.specs.Records.{index}
 unfoldable pub plainMark : ℕ → ℕ → ℕ
 plainMark i x = elim (eqb x 0) [ true ↦ 0 | false ↦ elim (ltb i 4096) [ true ↦ 4 | false ↦ 2 ] ]
 
--- one of them, v, for what is not 0
+-- one of them, v, for what is not 0: for a private function, as the code goes through marks of one sort at a time
 unfoldable pub plainAs : ℕ → ℕ → ℕ
 plainAs v x = elim (eqb x 0) [ true ↦ 0 | false ↦ v ]
 
@@ -40,6 +40,8 @@ opened m n = set m n 1
 unfoldable pub allOpened : List ℕ → List ℕ → List ℕ
 allOpened t m = repeated (nextOpening t) opened 4096 m
 
+-- ---- how the code opens pairs, in another order: contracts of private functions, of which no rule speaks. `any-order` (proofs/Orders.antt) says
+-- that it ends in the same marks
 -- n pairs opened one after another, in any order, each beyond and with an open or kept target when it is (lines 3 to 5)
 pub data Opened (t x : List ℕ) : ℕ → List ℕ → Type 0 where
   none-yet : Opened t x 0 x
@@ -75,13 +77,13 @@ unfoldable pub covered : List ℕ → List ℕ → List ℕ
 covered m [] = m
 covered m (n ∷ l) = covered (cover m n) l
 
--- the same of pair i alone, over the targets t
+-- the same of pair i alone, over the targets t: for a private function
 unfoldable pub coverFrom : List ℕ → List ℕ → ℕ → List ℕ
 coverFrom t m i = elim (eqb (getD m i 0) 1) [ true ↦ cover (cover m (getD t (index i 0) 0)) (getD t (index i 1) 0) | false ↦ m ]
 
--- Algorithm 1 from the start pair n, the marks between turns and the final targets
 unfoldable pub allCovered : List ℕ → List ℕ → List ℕ
 allCovered t m = covered m (transitions m t)
 
+-- Algorithm 1 from the start pair n, the marks between turns and the final targets
 unfoldable pub finalMarks : ℕ → List ℕ → List ℕ → List ℕ
 finalMarks n t m = allCovered t (allOpened t (set (plainMarks m) n 1))

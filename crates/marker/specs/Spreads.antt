@@ -1,4 +1,4 @@
--- Pairs opened by passes and by rounds between them (lines 2 to 5 of Algorithm 1).
+-- Pairs opened by passes and by rounds between them (lines 2 to 5 of Algorithm 1): contracts of inner functions, of which no rule speaks.
 use mathlib.Core.Path.{_≡_}
 use mathlib.Core.Bool.{true, false}
 use mathlib.Core.List.{List}

@@ -25,6 +25,7 @@ Implies f g = (v : List ℕ) → Values v → Meets v f → Meets v g
 abbrev pub ExactlyOne : Operation → Operation → Type 0
 ExactlyOne f g = (v : List ℕ) → Values v → holds f (var v) ≡ not (holds g (var v))
 
+-- ---- two assumptions whose rows show it: no rule speaks of them, and a reader may pass them over (contracts of inner/opposed.rt)
 -- codes of two assumptions that compare with the same sort of operand ("16 + r compares va with c; 32 + r compares va with vb"), by
 -- opposite relations
 pub record OppositeCodes (f g : ℕ) : Type 0 where

@@ -45,7 +45,7 @@ pub enum Met {
     Refused(u32),
 }
 
-// Kinds of codes are told apart here and nowhere else; the tables of limit_b and limit_c go by the codes themselves.
+// Kinds of codes are told apart here and nowhere else; the tables of limit_b, limit_c and opposite (inner/opposed.rt) go by the codes themselves.
 pub fn kind_of(code: u32) -> Kind
     ensures { λ r. ⌜ r ≡ kind code ⌝ }
 {

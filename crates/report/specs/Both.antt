@@ -27,7 +27,7 @@ toldBoth (answer.Charts old rows new more) =
     })
 toldBoth (answer.Refused number chart position) = refused number chart position
 
--- the row counts are those of faultless charts
+-- the row counts are those of faultless charts: what main has to know of an answer
 abbrev pub Few : Both → Type 0
 Few (answer.Charts old rows new more) = (rows ≤ 128) × (more ≤ 128)
 Few (answer.Refused number chart position) = Unit

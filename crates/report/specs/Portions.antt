@@ -6,7 +6,8 @@ use lib.ListN.{length, take}
 use Rattle.text.specs.Written.{Put}
 use Rattle.report.specs.Transitions.{remaining}
 
--- the bytes, and no others, are put at the front of a buffer, and r is their count
+-- the bytes, and no others, are put at the front of a buffer, and r is their count. All is said by `put`; the rest follows from it, and is what
+-- main has to know
 pub record Front (before bytes after : List ℕ) (r : ℕ) : Type 0 where
   pub put : Put before 0 bytes after r
   pub is : take r after ≡ bytes
@@ -21,7 +22,7 @@ pub record Portioned (t marks targets : List ℕ) (n : ℕ) (before after : List
   pub rest : bytes ++ remaining t marks targets next ≡ remaining t marks targets n
   pub onward : n < 4096 → n < next
 
--- What is written of the transitions from pair n on: one portion after the other, each the bytes that a call left at the front of a buffer,
+-- What main writes of the transitions from pair n on (`condition-printed`, proofs/Whole.antt): one portion after the other, each the bytes that a call left at the front of a buffer,
 -- until there are no more pairs.
 pub data Portions (t marks targets : List ℕ) : ℕ → List ℕ → Type 0 where
   last : {n : ℕ} → 4096 ≤ n → Portions t marks targets n []

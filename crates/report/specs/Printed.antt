@@ -54,7 +54,7 @@ orRefusal (refused number chart position) = refusalLine number chart position
 unfoldable pub printed : List ℕ → List ℕ → List ℕ
 printed old new = orRefusal (mapped conditionOf (bothRead old new))
 
--- ---- what is printed of a build is small
+-- ---- what is printed of a build is small: what main has to know of it
 pub record Small (s : Summary) : Type 0 where
   pub start : s .start ≤ 4160
   pub opened : s .opened ≤ 4160

@@ -20,7 +20,7 @@ byteAt text at = getD text at 256
 unfoldable pub digitOf : ℕ → ℕ
 digitOf b = elim (leb 48 b && leb b 57) [ true ↦ b - 48 | false ↦ 10 ]
 
--- r tells the digit that a byte is: above 9 where it is none
+-- r tells the digit that a byte is: above 9 where it is none. The contract of a private function, of which no rule speaks
 pub record TellsDigit (r b : ℕ) : Type 0 where
   pub is : r ≤ 9 → r ≡ digitOf b
   pub none : 9 < r → 9 < digitOf b

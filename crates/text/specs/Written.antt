@@ -40,6 +40,7 @@ unfoldable pub fieldsText : ℕ → List ℕ → List ℕ
 fieldsText k [] = []
 fieldsText k (x ∷ l) = fieldText k x ++ fieldsText (suc k) l
 
+-- ---- what the private functions of the writer promise: no rule speaks of it
 -- the bytes that so many fields from field k on take at most: ten digits and a comma each, and one more for each record that ends
 abbrev pub room : ℕ → ℕ → ℕ
 room k n = 11 * n + ((k + n) / 6 - k / 6)

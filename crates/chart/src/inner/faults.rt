@@ -73,7 +73,7 @@ fn strays(n: u32, rows: &[u32], i: usize) -> bool
     (n <= from_at(rows, i)) | (n <= to_at(rows, i))
 }
 
-// Whether row i stands before a row with a lower "from" than the one before it.
+// Whether row i has a lower "from" than the row before it.
 fn descends(rows: &[u32], i: usize) -> bool
     requires { ⌜ i < size (now rows) ⌝ }
     ensures { λ r. ⌜ r ≡ ltb (from (now (rows .entry)) i) (fromBefore (now (rows .entry)) i) ⌝ }

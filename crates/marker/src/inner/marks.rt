@@ -67,7 +67,7 @@ fn in_q(marks: &[u8], n: u16) -> bool
     x == 2
 }
 
-// Whether pair i is beyond and has such a target. Both are asked in any case, which spares a jump.
+// Whether pair i is beyond and has such a target. Both targets are asked in any case, which spares a jump between them.
 fn opens(marks: &[u8], targets: &[u16], i: usize) -> bool
     requires { ⌜ (length (now marks) ≡ 4160) × (length (now targets) ≡ 8192) × (i < 4096) ⌝ }
     ensures { λ r. ⌜ r ≡ opening (now (targets .entry)) (now (marks .entry)) i (getD (now (marks .entry)) i 0) ⌝ }

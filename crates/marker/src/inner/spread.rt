@@ -104,7 +104,7 @@ fn spread_once(marks: &mut [u8], targets: &[u16], leads: &[u64], places: u64) ->
     next
 }
 
-// Rounds, until one opens nothing. The first looks at every new place.
+// Rounds, until one opens nothing. The first looks at every new place that leads to one.
 pub fn spread(marks: &mut [u8], targets: &[u16], rest: &[u64])
     requires { ⌜ (length (now marks) ≡ 4160) × (length (now targets) ≡ 8192) × HoldsBeyond (now rest) (now marks) ⌝ }
     ensures { λ _. ⌜ Spread (now (targets .entry)) (now (marks .entry)) 0 (now (marks .exit)) ⌝ }
