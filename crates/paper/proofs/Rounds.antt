@@ -1,15 +1,17 @@
--- A turn of a build is one round of Algorithm 2's loop, lines 3 to 18, and all turns are one run of it. Assumes nothing.
-use mathlib.Core.Path.{_≡_, refl, sym, subst, _∙_}
+-- A turn of a build is one round of Algorithm 2's loop, lines 3 to 18, with the lowest waiting pair, and all turns are one run of it. Assumes nothing.
+use mathlib.Core.Path.{_≡_, refl, sym, ap, subst, _∙_}
+use mathlib.Core.Bool.{true, not}
 use mathlib.Core.Logic.{dite}
 use mathlib.Core.Option.{some}
 use Prim.Native.Nat.{ℕ, zero, suc, _%_, _^_, _≤_, _<_}
 use native.Mathlib.Omega.{arith}
-use native.Mathlib.Decide.{ℕ-discrete}
-use borrow.Author.Tests.{le-ltb}
-use lib.ListN.{set, replicate}
+use native.Mathlib.Decide.{ℕ-discrete, decLt}
+use borrow.Author.Tests.{le-ltb, eqb-true, not-false}
+use lib.Dec.{eqb}
+use lib.ListN.{length, getD, set, replicate}
 use Rattle.base.proofs.Tests.{T-true}
 use Rattle.base.proofs.Repeat.{repeated-keeps}
-use Rattle.base.proofs.Walks.{zeros-at, same-at}
+use Rattle.base.proofs.Walks.{zeros-at, same-at, first-is}
 use Rattle.chart.specs.Places.{keptNumber, newOf}
 use Rattle.chart.specs.Charts.{Chart, size}
 use Rattle.chart.specs.Faultless.{FaultlessChart}
@@ -17,17 +19,17 @@ use Rattle.align.proofs.Parts.{two-at-most}
 use Rattle.checker.specs.Records.{index}
 use Rattle.checker.specs.Promise.{Words}
 use Rattle.graph.specs.Graphs.{Graph, marked, unwait}
-use Rattle.detector.specs.Turns.{rowsOf, next, setNow, begun, rowDone, secondDone, taken, explored}
+use Rattle.detector.specs.Turns.{rowsOf, next, lowest, setNow, begun, rowDone, secondDone, taken, explored}
 use Rattle.detector.proofs.Ones.{one-there, one-other}
-use Rattle.graph.proofs.Graphs.{markAt, setAt, Shaped, marked-yes, marked-no, unwait-shaped}
+use Rattle.graph.proofs.Graphs.{markAt, setAt, Shaped, marked-yes, marked-no, is-marked, unwait-shaped}
 use Rattle.detector.proofs.Turns.{set-now, set-had, set-now-small, next-waits}
 use Rattle.detector.proofs.Measure.{row-lighter}
 use Rattle.detector.proofs.Invariant.{Inv, Every, turn-inv, begun-inv}
-use Rattle.paper.specs.Nodes.{_∈_, _∉_, onlyPair, pairOf, Numbered}
+use Rattle.paper.specs.Nodes.{_∈_, _∉_, onlyPair, pairOf, number, Numbered}
 use Rattle.paper.specs.Lines5to18.{Lines5to18}
-use Rattle.paper.specs.Algorithm2.{State, called, popped, ForEach, none-yet, one-more, Run, line1, lines3to18}
+use Rattle.paper.specs.Algorithm2.{State, called, popped, ForEach, none-yet, one-more, Lowest, Run, line1, lines3to18}
 use Rattle.paper.specs.Algorithm2 as algorithm2
-use Rattle.paper.proofs.Members.{only-pair, numbered, same-pair, other-pair}
+use Rattle.paper.proofs.Members.{only-pair, numbered, same-pair, other-pair, pair-is, number-below}
 use Rattle.paper.proofs.Reading.{pop-sets}
 use Rattle.paper.proofs.Rows.{Reads, InHand, unwait-hand, Row, row-read, stepped, cameTo}
 
@@ -126,16 +128,28 @@ module _ (old new : Chart) (F : FaultlessChart old) (G : FaultlessChart new) whe
     unfolding taken secondDone first v v₁
     round-read = round .reads
 
-    round-run : Run old new (Lines5to18 old) s → pairOf n ∈ s .waitlist → Run old new (Lines5to18 old) (round .state)
+    round-run : Run old new (Lines5to18 old) Lowest s → pairOf n ∈ s .waitlist → Lowest s (pairOf n) → Run old new (Lines5to18 old) Lowest (round .state)
     unfolding s₀
-    round-run r w = lines3to18 (pairOf n) r w (round .loop)
+    round-run r w c = lines3to18 (pairOf n) r w c (round .loop)
 
   -- ---- the run
   pub record Ran (g : Graph) : Type 0 where
     pub state : State
-    pub run : Run old new (Lines5to18 old) state
+    pub run : Run old new (Lines5to18 old) Lowest state
     pub reads : Reads old new state g
     pub inv : Inv old new Every g
+
+  -- the pair that a turn takes is the lowest of the waitlist
+  pops-lowest : (s : State) (g : Graph) (n : ℕ) → Reads old new s g → length (g .waiting) ≡ 4096 → next g ≡ some n → Lowest s (pairOf n)
+  unfolding next lowest
+  pops-lowest s g n R z e m w =
+      let f = first-is (λ i x. not (eqb x 0)) (g .waiting) n e in
+      let B = R .sets .waits-numbered m w in
+      dite (decLt (number m) n)
+      (λ l. let y : marked (g .waiting) (number m) ≡ true = sym (R .sets .waits (number m) (number-below m B)) ∙ ap (s .waitlist) (pair-is m B) ∙ w in
+      let k = eqb-true (getD (g .waiting) (number m) 0) 0 (not-false _ (f .lowest (number m) l)) in
+      absurd (omega (arith, is-marked (g .waiting) (number m) y)))
+      (λ l. omega arith)
 
   turn-ran : Words (old .table) → Words (new .table) → (g : Graph) (n : ℕ) → Ran g → next g ≡ some n → Ran (taken old new g n)
   turn-ran wo wn g n A e =
@@ -147,7 +161,8 @@ module _ (old new : Chart) (F : FaultlessChart old) (G : FaultlessChart new) whe
       let f = A .reads .sets .Δ (newOf n) (omega arith) ∙ marked-no (g .marks) (keptNumber (newOf n)) z in
       record {
         state = round wo wn (A .state) g n l (I .shaped) (A .reads) (in-hand g n p z) f .state;
-        run = round-run wo wn (A .state) g n l (I .shaped) (A .reads) (in-hand g n p z) f (A .run) (A .reads .sets .waits n l ∙ marked-yes (g .waiting) n (L .waits));
+        run = round-run wo wn (A .state) g n l (I .shaped) (A .reads) (in-hand g n p z) f (A .run) (A .reads .sets .waits n l ∙ marked-yes (g .waiting) n (L .waits))
+            (pops-lowest (A .state) g n (A .reads) (I .shaped .sized .waiting) e);
         reads = round-read wo wn (A .state) g n l (I .shaped) (A .reads) (in-hand g n p z) f;
         inv = turn-inv old new F G g n I e;
       }

@@ -1,5 +1,5 @@
--- Demand 2 in the source's words: what a build leaves is what Algorithms 2 and 1 return. For any two faultless charts Algorithm 2 has a run
--- that ends (the one that pops the lowest waiting pair each time); the record of the build is the graph that its lines 19 to 21 return, and its
+-- Demand 2 in the source's words: what a build leaves is what Algorithms 2 and 1 return. For any two faultless charts Algorithm 2, popping
+-- the lowest waiting pair each time, has a run that ends; the record of the build is the graph that its lines 19 to 21 return, and its
 -- marks are the condition that Algorithm 1 makes of that graph. What each of these words means is `Returned`, in specs/Returned.antt. That the
 -- code leaves this record is the contract of `builder::build`. Assumes nothing.
 use mathlib.Core.Path.{_≡_, refl, sym, ap, subst, _∙_}

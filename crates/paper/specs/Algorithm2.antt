@@ -1,11 +1,12 @@
 -- The source's Algorithm 2, the difference detector, line by line. P is the old chart, P' the new one; ℓ_err and ℓ'_err are their alarms.
--- Left open, as there, is which waiting pair line 3 pops; and a parameter stands for lines 5 to 18, which are transcribed by themselves in
--- Lines5to18.antt. Lines are counted as the listing counts them; the source's prose counts those of PROCESS one lower.
+-- Two parameters: the source leaves open which waiting pair line 3 pops, and document 01 takes the lowest (`Lowest`); lines 5 to 18 are
+-- transcribed by themselves in Lines5to18.antt. Lines are counted as the listing counts them; the source's prose counts those of PROCESS one
+-- lower.
 use mathlib.Core.Bool.{Bool, true, false, _&&_, _||_, not}
 use mathlib.Core.Logic.{_⊎_}
 use mathlib.Core.List.{List}
 use mathlib.Core.Option.{Option, none, some}
-use Prim.Native.Nat.{ℕ, suc}
+use Prim.Native.Nat.{ℕ, suc, _≤_}
 use lib.Dec.{eqb}
 use Rattle.operations.specs.declared.Operation.{Operation}
 use Rattle.chart.specs.declared.places.OldPlace.{OldPlace}
@@ -13,7 +14,7 @@ use Rattle.chart.specs.declared.places.NewPlace.{NewPlace}
 use Rattle.chart.specs.Charts.{Chart, start, size, to, operation, leaving}
 use Rattle.align.specs.declared.spots.Spot.{Spot}
 use Rattle.align.specs.Sets.{joined, holdsAll}
-use Rattle.paper.specs.Nodes.{Set, _∈_, _∉_, ∅, _∪_, _∖_, Pair, pair, Node, aligned, indicator, Edge, edge, onlyPlace, onlyPair, onlyEdge, onlyNode, withPlace}
+use Rattle.paper.specs.Nodes.{Set, _∈_, _∉_, ∅, _∪_, _∖_, Pair, pair, Node, aligned, indicator, Edge, edge, onlyPlace, onlyPair, onlyEdge, onlyNode, withPlace, number}
 
 -- the variables of line 1. V_δ gives each pair a set of variables, as a number whose bit i tells of vi (align/specs/Sets.antt)
 pub record State : Type 0 where
@@ -27,6 +28,14 @@ pub record State : Type 0 where
 -- ℓ of the pair (ℓ, ℓ'_2) with V_diff
 abbrev pub Step : Type 1
 Step = OldPlace → ℕ → Operation → Option Spot → Type 0
+
+-- which waiting pairs line 3 may pop, a parameter
+abbrev pub Choice : Type 1
+Choice = State → Pair → Type 0
+
+-- document 01's choice: "Take the lowest waiting pair"
+abbrev pub Lowest : Choice
+Lowest s n = (m : Pair) → m ∈ s .waitlist → number n ≤ number m
 
 -- line 3
 unfoldable pub popped : State → Pair → State
@@ -111,10 +120,11 @@ module _ (old new : Chart) where
       one-more : {k : ℕ} {t : State} (o : Option Spot) → ForEach s n k t → lines5to18 (n .old) (t .Vδ n) (operation (edges (n .new)) k) o
           → ForEach s n (suc k) (called t n k o)
 
-    -- the states that the loop of line 2 can come to, whichever waiting pairs line 3 pops
-    pub data Run : State → Type 0 where
-      line1 : Run begun
-      lines3to18 : {s t : State} (n : Pair) → Run s → n ∈ s .waitlist → ForEach (popped s n) n (size (edges (n .new))) t → Run t
+    -- the states that the loop of line 2 can come to, where line 3 pops waiting pairs of this choice
+    pub data Run (line3 : Choice) : State → Type 0 where
+      line1 : Run line3 begun
+      lines3to18 : {s t : State} (n : Pair) → Run line3 s → n ∈ s .waitlist → line3 s n
+          → ForEach (popped s n) n (size (edges (n .new))) t → Run line3 t
 
 -- line 2: the waitlist is empty
 abbrev pub Ended : State → Type 0

@@ -7,7 +7,7 @@ use Rattle.chart.specs.Charts.{Chart}
 use Rattle.checker.specs.Records.{Record, mark, setAt, target}
 use Rattle.paper.specs.Nodes.{Set, _∈_, _∉_, Pair, Node, aligned, Edge, edge, number, nodeNumber, pairOf, Numbered, NodeNumbered}
 use Rattle.paper.specs.Lines5to18.{Lines5to18}
-use Rattle.paper.specs.Algorithm2.{State, DifferenceGraph, Run, Ended, returned}
+use Rattle.paper.specs.Algorithm2.{State, DifferenceGraph, Lowest, Run, Ended, returned}
 use Rattle.paper.specs.Algorithm1.{Search, F, Transition}
 
 module _ (R : Record) where
@@ -42,11 +42,11 @@ module _ (R : Record) where
     pub each : (i r : ℕ) → i < 4096 → r < 2 → mark (R .graph) i ≡ 1 → target (R .graph) i r ≢ 65535
         → (x : Node) × (nodeNumber x ≡ target (R .graph) i r) × Transition G Q (edge (pairOf i) r x)
 
--- one run of Algorithm 2 to its end, and the graph that it returns; and of Algorithm 1 on that graph some search that ends, while every one
--- that ends finds the same condition
+-- the run of Algorithm 2 that always pops the lowest waiting pair, to its end, and the graph that it returns; and of Algorithm 1 on that graph
+-- some search that ends, while every one that ends finds the same condition
 pub record Returned (old new : Chart) (R : Record) : Type 0 where
   pub state : State
-  pub ran : Run old new (Lines5to18 old) state
+  pub ran : Run old new (Lines5to18 old) Lowest state
   pub ended : Ended state
   pub graph : IsGraph R (returned old new state) (state .Vδ)
   pub Q : Set Node
