@@ -143,10 +143,20 @@ implication-means f g F G = go (never f) (implies f g) (never-exact f F) (implie
 pub exclusive-means : (f g : Operation) → Operands f → Operands g → (exclusive f g ≡ true) ↔ ExactlyOne f g
 exclusive-means f g F G = (λ e. exclusive-exact f g F G .0 (T-true e), λ h. is-true (exclusive f g) (exclusive-exact f g F G .1 h))
 
--- what the two tests of the code ensure: their answer, and what it means
+-- no values meet it where the test says so, and only there
+pub never-means : (f : Operation) → Operands f → (never f ≡ true) ↔ NeverHolds f
+never-means f F = (λ e. never-exact f F .0 (T-true e), λ h. is-true (never f) (never-exact f F .1 h))
+
+-- what the three tests of the code ensure: their answer, and what it means
+with-meaning : {A : Type 0} {r x : A} (P : A → Type 0) → P x → r ≡ x → (r ≡ x) × P r
+with-meaning P p e = (e, subst P (sym e) p)
+
+pub never-tested : (f : Operation) {r : Bool} → r ≡ never f → (r ≡ never f) × (Operands f → (r ≡ true) ↔ NeverHolds f)
+never-tested f = with-meaning (λ (r : Bool). Operands f → (r ≡ true) ↔ NeverHolds f) (never-means f)
+
 module _ (f g : Operation) where
   pub tested : {r : Implication} → r ≡ implication f g → (r ≡ implication f g) × (Operands f → Operands g → Means r f g)
-  tested e = (e, λ F G. subst (λ (r : Implication). Means r f g) (sym e) (implication-means f g F G))
+  tested = with-meaning (λ (r : Implication). Operands f → Operands g → Means r f g) (implication-means f g)
 
   pub one-tested : {r : Bool} → r ≡ exclusive f g → (r ≡ exclusive f g) × (Operands f → Operands g → (r ≡ true) ↔ ExactlyOne f g)
-  one-tested e = (e, λ F G. subst (λ (r : Bool). (r ≡ true) ↔ ExactlyOne f g) (sym e) (exclusive-means f g F G))
+  one-tested = with-meaning (λ (r : Bool). Operands f → Operands g → (r ≡ true) ↔ ExactlyOne f g) (exclusive-means f g)

@@ -2,7 +2,7 @@
 ghost use mathlib.Core.Path.{_≡_};
 ghost use mathlib.Core.Bool.{true};
 ghost use mathlib.Core.Logic.{_↔_};
-ghost use Rattle.operations.specs.Assumptions.{Operands, Means, ExactlyOne};
+ghost use Rattle.operations.specs.Assumptions.{Operands, NeverHolds, Means, ExactlyOne};
 ghost use Rattle.operations.specs.Trials.{never, exclusive, implication};
 use crate::Operation;
 use crate::inner::opposed::opposed;
@@ -22,7 +22,8 @@ pub enum Implication {
 
 // Whether no values meet f.
 pub fn never(f: Operation) -> bool
-    ensures { λ r. ⌜ r ≡ never f ⌝ }
+    ensures is { λ r. ⌜ r ≡ never f ⌝ }
+    ensures means { λ r. ⌜ (Operands f → (r ≡ true) ↔ NeverHolds f) ⌝ }
 {
     !possible(f, true)
 }

@@ -9,16 +9,16 @@ never-requires : tie.Need-never-requires
 never-requires c κs = search needs
 
 returns : tie.Need-returns
-returns c = tested _ _ (rw (← c .before .never .ensures, c .if1 .taken))
+returns c = tested _ _ (rw (← c .before .never .ensures .0, c .if1 .taken))
 
 follows-requires : tie.Need-follows-requires
 follows-requires c κs = search needs
 
 returns-2 : tie.Need-returns-2
-returns-2 c = let n = sym (c .before .before .before .never .ensures) ∙ c .before .before .if1 .left in tested _ _ (rw (n, ← c .before .follows .ensures n, c .if2 .taken))
+returns-2 c = let n = sym (c .before .before .before .never .ensures .0) ∙ c .before .before .if1 .left in tested _ _ (rw (n, ← c .before .follows .ensures n, c .if2 .taken))
 
 returns-3 : tie.Need-returns-3
-returns-3 c = let n = sym (c .before .before .before .never .ensures) ∙ c .before .before .if1 .left in tested _ _ (rw (n, ← c .before .follows .ensures n, c .if2 .left))
+returns-3 c = let n = sym (c .before .before .before .never .ensures .0) ∙ c .before .before .if1 .left in tested _ _ (rw (n, ← c .before .follows .ensures n, c .if2 .left))
 
 pub implies-spec : {M : Type 1} → statement M
 implies-spec = tie.close (tie.spec never-requires returns follows-requires returns-2 returns-3)

@@ -22,7 +22,7 @@ never-requires : tie.Need-never-requires Inv-loop μ-loop
 never-requires c κs = search needs
 
 returns : tie.Need-returns Inv-loop μ-loop
-returns c = never-implies _ _ (sym (c .before .never .ensures) ∙ c .if1 .taken)
+returns c = never-implies _ _ (sym (c .before .never .ensures .0) ∙ c .if1 .taken)
 
 loop-holds : tie.Need-loop-holds Inv-loop μ-loop
 loop-holds c = none-at-first _ _
@@ -37,7 +37,7 @@ operation-at-requires : tie.Need-operation-at-requires Inv-loop μ-loop
 operation-at-requires c κs = search needs
 
 implies-requires : tie.Need-implies-requires Inv-loop μ-loop
-implies-requires c κs = sym (c .before .before .before .before .never .ensures) ∙ c .before .before .before .if1 .left
+implies-requires c κs = sym (c .before .before .before .before .never .ensures .0) ∙ c .before .before .before .if1 .left
 
 returns-2 : tie.Need-returns-2 Inv-loop μ-loop
 returns-2 c = found-here _ _ (c .before .before .before .before .loop .inv) (search needs) (rw (c .before .before .operation-at .ensures) at (c .before .implies .ensures)) (c .if2 .taken)
