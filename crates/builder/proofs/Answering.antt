@@ -23,15 +23,15 @@ use Rattle.chart.specs.Faultless.{FaultlessChart}
 use Rattle.chart.proofs.Faultless.{faultless}
 use Rattle.checker.specs.Records.{recordOf}
 use Rattle.checker.specs.Checks.{sized, inChart, refusal as checkRefusal}
-use Rattle.builder.specs.declared.answers.Summary.{Summary}
+use Rattle.condition.specs.declared.Summary.{Summary}
 use Rattle.builder.specs.declared.answers.Built.the-variants as builts
 use Rattle.builder.specs.declared.answers.Verdict.{Verdict}
 use Rattle.builder.specs.declared.answers.Verdict.the-variants as verdicts
 use Rattle.graph.specs.Graphs.{Graph, graph, Sized}
 use Rattle.detector.specs.Turns.{explored}
-use Rattle.builder.specs.Builds.{finished, startOf, built, recorded}
-use Rattle.builder.specs.Answers.{toldVerdict, lent, summary, refusal, answered, left}
-use Rattle.builder.proofs.Demand3.{record-passes}
+use Rattle.condition.specs.Builds.{finished, startOf, built, recorded, summary}
+use Rattle.condition.proofs.Demand3.{record-passes}
+use Rattle.builder.specs.Answers.{toldVerdict, lent, refusal, answered, left}
 
 -- ---- the lengths
 module _ (o n m t s w : List ℕ) where

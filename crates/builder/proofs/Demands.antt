@@ -10,8 +10,8 @@ use Rattle.checker.specs.Records.{Record}
 use Rattle.checker.specs.Checks.{refusal}
 use Rattle.checker.specs.Promise.{Words, Promise}
 use Rattle.checker.proofs.Demand3.{demand-3-first}
-use Rattle.builder.specs.Builds.{recorded}
-use Rattle.builder.proofs.Demand3.{record-passes}
+use Rattle.condition.specs.Builds.{recorded}
+use Rattle.condition.proofs.Demand3.{record-passes}
 
 pub first-half : (old new : Chart) → Words (old .table) → Words (new .table) → (R : Record) → refusal old new R ≡ none → Promise old new R
 first-half = demand-3-first

@@ -8,18 +8,17 @@ use Rattle.base.specs.Answers.{Answer, given, refused}
 use Rattle.base.specs.Options.{orElse}
 use Rattle.base.specs.Refusals.{Refusal, refusedIf}
 use Rattle.base.specs.Says.{Test, eq, _and_, bool}
-use Rattle.base.specs.Walks.{count}
 use Rattle.chart.specs.Charts.{Chart}
 use Rattle.chart.specs.Faults.{fault}
 use Rattle.checker.specs.Records.{graphOf}
 use Rattle.checker.specs.Checks.{sized, inChart}
-use Rattle.builder.specs.declared.answers.Summary.{Summary}
+use Rattle.condition.specs.declared.Summary.{Summary}
+use Rattle.condition.specs.Builds.{built, recorded, summary}
 use Rattle.builder.specs.declared.answers.Built.{Built}
 use Rattle.builder.specs.declared.answers.Built.the-variants as builts
 use Rattle.builder.specs.declared.answers.Verdict.{Verdict}
 use Rattle.builder.specs.declared.answers.Verdict.the-variants as verdicts
 use Rattle.graph.specs.Graphs.{Graph}
-use Rattle.builder.specs.Builds.{built, recorded}
 
 -- what the code's answers say
 abbrev pub told : Built → Answer Summary
@@ -33,10 +32,6 @@ toldVerdict (verdicts.Unsound n c p) = some (record { number = n; chart = c; pos
 -- "21, a lent length differs from the stated one [..], or a chart table's isn't a multiple of 6"
 unfoldable pub lent : List ℕ → List ℕ → Graph → Test
 lent old new g = eq (length (g .waiting)) 4096 and sized old new (graphOf (g .marks) (g .targets) (g .sets))
-
--- "The answer has the start and the counts of marks 1, 2 and 3."
-unfoldable pub summary : ℕ → List ℕ → Summary
-summary start marks = record { start = start; opened = count 1 marks; kept = count 2 marks; covered = count 3 marks }
 
 module _ (old new : Chart) (g : Graph) where
   -- the refusal that is due, if any: 21 "Always first", then "the old chart comes before the new"

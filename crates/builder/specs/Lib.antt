@@ -1,3 +1,2 @@
--- The definitions of a build, in the order in which to read them.
-pub mod Builds
+-- What a build answers and leaves.
 pub mod Answers

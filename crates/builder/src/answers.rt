@@ -1,12 +1,5 @@
 // What a build answers.
-
-// The start, and the counts of open, kept and covered nodes.
-pub struct Summary {
-    pub start: usize,
-    pub opened: usize,
-    pub kept: usize,
-    pub covered: usize,
-}
+use condition::Summary;
 
 pub enum Built {
     Done(Summary),

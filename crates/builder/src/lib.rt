@@ -9,24 +9,23 @@ ghost use Rattle.chart.specs.Faultless.{FaultlessChart};
 ghost use Rattle.checker.specs.Records.{recordOf};
 ghost use Rattle.checker.specs.Checks.{inChart, refusal as checkRefusal};
 ghost use Rattle.builder.specs.declared.answers.Built.the-variants.{Done};
-ghost use Rattle.builder.specs.declared.answers.Summary.{Summary};
+ghost use Rattle.condition.specs.declared.Summary.{Summary};
 ghost use Rattle.graph.specs.Graphs.{graph, Sized};
-ghost use Rattle.builder.specs.Builds.{built, recorded};
-ghost use Rattle.builder.specs.Answers.{told, toldVerdict, lent, summary, refusal, answered, left};
+ghost use Rattle.condition.specs.Builds.{built, recorded, summary};
+ghost use Rattle.builder.specs.Answers.{told, toldVerdict, lent, refusal, answered, left};
 use answers::Built;
-use answers::Summary;
 use answers::Verdict;
 use chart::charts::Head;
 use chart::charts::Judged;
 use chart::inner::faults::fault;
 use chart::inner::rows;
+use condition::Summary;
+use condition::inner::finish::finish;
 use detector::inner::explore::explore;
 use detector::inner::explore::first_pair;
-use inner::finish::finish;
 use words::inner::members;
 
 pub mod answers; // answers.rt: what a build answers
-pub mod inner; // inner.rt: what a build is made of
 
 // Whether every lent length is the stated one.
 fn lent(

@@ -27,14 +27,14 @@ use Rattle.checker.specs.Records.{Record, recordOf}
 use Rattle.checker.specs.Rules.{startFits}
 use Rattle.checker.specs.Checks.{sized, inChart, recordFault, refusal as checkRefusal}
 use Rattle.checker.proofs.Passed.{passed}
-use Rattle.builder.specs.declared.answers.Summary.{Summary}
+use Rattle.condition.specs.declared.Summary.{Summary}
 use Rattle.builder.specs.declared.answers.Built.{Built}
 use Rattle.builder.specs.declared.answers.Built.the-variants as builts
 use Rattle.builder.specs.declared.answers.Verdict.the-variants as verdicts
 use Rattle.graph.specs.Graphs.{graph}
-use Rattle.builder.specs.Builds.{recorded}
-use Rattle.builder.specs.Answers.{told, lent, summary, refusal, answered}
-use Rattle.builder.proofs.Demand3.{record-passes}
+use Rattle.condition.specs.Builds.{recorded, summary}
+use Rattle.condition.proofs.Demand3.{record-passes}
+use Rattle.builder.specs.Answers.{told, lent, refusal, answered}
 use Rattle.builder.proofs.Answering.{accepted}
 use Rattle.capi.specs.Numbers.{number, ofBuild}
 use Rattle.capi.proofs.Refusals.{Small, due-small, in-chart-small}

@@ -6,7 +6,7 @@ use lib.ListN.{length}
 use Rattle.base.specs.Answers.{Answer, given, refused}
 use Rattle.base.specs.Refusals.{Refusal}
 use Rattle.chart.specs.Charts.{Chart, size}
-use Rattle.builder.specs.declared.answers.Summary.{Summary}
+use Rattle.condition.specs.declared.Summary.{Summary}
 
 -- a chart as it is lent: two numbers beside its table
 abbrev pub chartOf : ℕ → ℕ → List ℕ → Chart

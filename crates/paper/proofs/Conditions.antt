@@ -15,13 +15,13 @@ use Rattle.checker.specs.Rules.{headOf}
 use Rattle.checker.specs.Promise.{Words}
 use Rattle.graph.specs.Graphs.{firstPair}
 use Rattle.detector.specs.Turns.{explored}
-use Rattle.builder.specs.Builds.{finalTargets, alone}
+use Rattle.condition.specs.Builds.{finalTargets, alone}
 use Rattle.graph.proofs.Graphs.{markAt}
 use Rattle.detector.proofs.Invariant.{explored-inv}
 use Rattle.marker.proofs.Least.{Closed}
 use Rattle.marker.proofs.Marks.{rank-pair}
-use Rattle.builder.proofs.Demand3.{marks, left, final}
-use Rattle.builder.proofs.Right.{open-closed, open-least, covered-only, covered-all}
+use Rattle.condition.proofs.Demand3.{marks, left, final}
+use Rattle.condition.proofs.Right.{open-closed, open-least, covered-only, covered-all}
 use Rattle.paper.specs.Nodes.{Set, _∈_, _∉_, Pair, Node, aligned, indicator, Edge, edge, onlyNode, number, nodeNumber, pairOf, Numbered, NodeNumbered}
 use Rattle.paper.specs.Algorithm2.{DifferenceGraph, nodes, indicators, whole}
 use Rattle.paper.specs.Algorithm1.{Search, F, Transition}

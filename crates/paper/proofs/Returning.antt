@@ -21,11 +21,11 @@ use Rattle.checker.specs.Rules.{headOf}
 use Rattle.checker.specs.Promise.{Words}
 use Rattle.graph.specs.Graphs.{firstPair, firstKept, marked}
 use Rattle.detector.specs.Turns.{rowsOf, leadsTo, explored}
-use Rattle.builder.specs.Builds.{redirected, finalTargets, alone}
+use Rattle.condition.specs.Builds.{redirected, finalTargets, alone}
 use Rattle.graph.proofs.Graphs.{markAt, targetAt, marked-yes, marked-no, is-marked, not-marked}
 use Rattle.detector.proofs.Invariant.{Inv, Every, ToKept, ToPair}
 use Rattle.marker.proofs.Marks.{rank-there}
-use Rattle.builder.proofs.Demand3.{marks, left, final}
+use Rattle.condition.proofs.Demand3.{marks, left, final}
 use Rattle.paper.specs.Nodes.{_∈_, _∉_, Pair, pair, Node, aligned, indicator, Edge, edge, number, nodeNumber, pairOf, Numbered, NodeNumbered}
 use Rattle.paper.specs.Algorithm2.{State, nodes, indicators, Replaced, Line20, whole}
 use Rattle.paper.specs.Returned.{Marked, Targeted, IsGraph}

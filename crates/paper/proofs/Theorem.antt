@@ -16,8 +16,8 @@ use Rattle.checker.specs.Promise.{Words}
 use Rattle.graph.specs.Graphs.{Graph, graph, firstPair, firstKept, marked}
 use Rattle.detector.specs.Turns.{explored}
 use Rattle.marker.specs.Marks.{finalMarks}
-use Rattle.builder.specs.Builds.{finalTargets, alone, finished, built, startOf, recorded}
-use Rattle.builder.specs.Builds as builds
+use Rattle.condition.specs.Builds.{finalTargets, alone, finished, built, startOf, recorded}
+use Rattle.condition.specs.Builds as builds
 use Rattle.graph.proofs.Graphs.{marked-no}
 use Rattle.detector.proofs.Measure.{nothing-waits}
 use Rattle.paper.specs.Nodes.{Set, _∉_, Pair, Node, edge, number, NodeNumbered}

@@ -20,13 +20,13 @@ use Rattle.chart.specs.Faults.{fault}
 use Rattle.chart.proofs.Bounds.{Slight, fault-slight}
 use Rattle.checker.specs.Checks.{inChart}
 use Rattle.checker.specs.Rules.{headOf, startPair, startKept}
-use Rattle.builder.specs.declared.answers.Summary.{Summary}
+use Rattle.condition.specs.declared.Summary.{Summary}
 use Rattle.builder.specs.declared.answers.Built.{Built}
 use Rattle.builder.specs.declared.answers.Built.the-variants as builts
 use Rattle.graph.specs.Graphs.{Graph, graph}
 use Rattle.detector.specs.Turns.{explored}
-use Rattle.builder.specs.Builds.{alone, built, startOf, recorded}
-use Rattle.builder.specs.Answers.{told, lent, summary, refusal, answered, left}
+use Rattle.condition.specs.Builds.{alone, built, startOf, recorded, summary}
+use Rattle.builder.specs.Answers.{told, lent, refusal, answered, left}
 use Rattle.report.specs.Printed.{Small}
 
 count-length : (v : ℕ) (l : List ℕ) → count v l ≤ length l

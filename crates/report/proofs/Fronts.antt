@@ -11,7 +11,7 @@ use Rattle.text.specs.Written.{fieldsText, Put}
 use Rattle.text.proofs.Puts.{put-then, put-length}
 use Rattle.report.specs.Lines.{line, refusalLine}
 use Rattle.report.specs.Transitions.{firstRow, transition, ofPair}
-use Rattle.builder.specs.declared.answers.Summary.{Summary}
+use Rattle.condition.specs.declared.Summary.{Summary}
 use Rattle.report.specs.Printed.{summaryLine}
 use Rattle.report.specs.Portions.{Front}
 

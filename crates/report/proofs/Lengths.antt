@@ -23,7 +23,7 @@ use Rattle.text.specs.Texts.{readText}
 use Rattle.text.proofs.Theorems.{read-exactly}
 use Rattle.checker.specs.Checks.{sized}
 use Rattle.checker.specs.Checks as checks
-use Rattle.builder.specs.Builds.{recorded}
+use Rattle.condition.specs.Builds.{recorded}
 use Rattle.builder.proofs.Demands.{second-half}
 use Rattle.report.specs.Printed.{Pair, bothOf, bothRead}
 

@@ -11,8 +11,7 @@ use lib.Seq.{take-all}
 use Rattle.base.specs.Answers.{given, refused}
 use Rattle.text.specs.Texts.{readText}
 use Rattle.text.proofs.Theorems.{cut-text}
-use Rattle.builder.specs.Answers.{summary}
-use Rattle.builder.specs.Builds.{recorded}
+use Rattle.condition.specs.Builds.{recorded, summary}
 use Rattle.report.specs.Lines.{refusalLine}
 use Rattle.report.specs.Transitions.{transitionsFrom, remaining}
 use Rattle.report.specs.Printed.{Pair, bothRead, summaryLine, transitions, condition, conditionOf, printed}

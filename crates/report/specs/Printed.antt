@@ -6,9 +6,8 @@ use Rattle.base.specs.Chains.{andThen, mapped}
 use Rattle.chart.specs.Charts.{Chart}
 use Rattle.text.specs.Texts.{readText}
 use Rattle.checker.specs.Records.{Record}
-use Rattle.builder.specs.declared.answers.Summary.{Summary}
-use Rattle.builder.specs.Answers.{summary}
-use Rattle.builder.specs.Builds.{recorded}
+use Rattle.condition.specs.declared.Summary.{Summary}
+use Rattle.condition.specs.Builds.{recorded, summary}
 use Rattle.report.specs.Lines.{line, refusalLine}
 use Rattle.report.specs.Transitions.{remaining}
 

@@ -1,11 +1,11 @@
--- `builder::inner::finish::redirect_word` meets its contract. Assumes nothing.
+-- `condition::inner::finish::redirect_word` meets its contract. Assumes nothing.
 use native.Mathlib.Omega.{arith}
 use lib.ListN.{length-set}
-use Rattle.builder.proofs.Finishing.{Redirecting, word-start, word-again, word-less, word-end}
+use Rattle.condition.proofs.Finishing.{Redirecting, word-start, word-again, word-less, word-end}
 use borrow.Author.Needs.{needs}
 use native.Mathlib.Omega.{arith}
-use Rattle.builder.proofs.inner.finish.redirect_word.Statement.{statement}
-use Rattle.builder.proofs.inner.finish.redirect_word.Tie as tie
+use Rattle.condition.proofs.inner.finish.redirect_word.Statement.{statement}
+use Rattle.condition.proofs.inner.finish.redirect_word.Tie as tie
 
 abbrev Inv-loop : tie.InvT-loop
 Inv-loop marks targets₀ p word rest₀ targets rest = Redirecting marks targets₀ p word targets rest

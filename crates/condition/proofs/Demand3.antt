@@ -27,14 +27,14 @@ use Rattle.checker.specs.Checks.{sized, refusal}
 use Rattle.graph.specs.Graphs.{Graph, firstPair, firstKept, marked}
 use Rattle.detector.specs.Turns.{rowsOf, leadsTo, stepOf, explored}
 use Rattle.marker.specs.Marks.{finalMarks}
-use Rattle.builder.specs.Builds.{redirected, finalTargets, alone, lone, finished, built, startOf, recorded}
+use Rattle.condition.specs.Builds.{redirected, finalTargets, alone, lone, finished, built, startOf, recorded}
 use Rattle.detector.proofs.Ones.{one-there, one-only}
 use Rattle.graph.proofs.Graphs.{markAt, targetAt, marked-yes, marked-no, not-marked}
 use Rattle.detector.proofs.Turns.{leads-below}
 use Rattle.detector.proofs.Measure.{nothing-waits}
 use Rattle.detector.proofs.Invariant.{ToKept, ToPair, ToStep, Led, Stepped, explored-inv}
 use Rattle.marker.proofs.Marks.{rank-there, Final, final-marks}
-use Rattle.builder.proofs.Passes.{Rules, passes}
+use Rattle.condition.proofs.Passes.{Rules, passes}
 
 -- ---- the final targets
 map-at : (f : ℕ → ℕ) (l : List ℕ) (j : ℕ) → j < length l → getD (map f l) j 0 ≡ f (getD l j 0)

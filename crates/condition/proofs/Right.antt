@@ -14,13 +14,13 @@ use Rattle.checker.specs.Records.{mark, target}
 use Rattle.checker.specs.Rules.{headOf}
 use Rattle.graph.specs.Graphs.{firstPair}
 use Rattle.detector.specs.Turns.{rowsOf, leadsTo, stepOf, explored}
-use Rattle.builder.specs.Builds.{finalTargets, alone}
+use Rattle.condition.specs.Builds.{finalTargets, alone}
 use Rattle.graph.proofs.Graphs.{markAt, setAt}
 use Rattle.detector.proofs.Invariant.{ToStep, explored-inv}
 use Rattle.detector.proofs.Turns.{leads-below}
 use Rattle.marker.proofs.Marks.{rank-there, Final}
 use Rattle.marker.proofs.Least.{Closed, least-open, Reached, covered-reached}
-use Rattle.builder.proofs.Demand3.{starts, targets-length, marks, left, final, steps}
+use Rattle.condition.proofs.Demand3.{starts, targets-length, marks, left, final, steps}
 
 -- unless the start is the lone kept node
 module _ (old new : Chart) (F : FaultlessChart old) (H : FaultlessChart new) (joint : alone (headOf old) (headOf new) (explored old new .marks) ≡ false) where

@@ -1,8 +1,8 @@
--- `builder::inner::finish::is_alone` meets its contract. Assumes nothing.
-use Rattle.builder.proofs.Finishing.{alone-kept, alone-not}
+-- `condition::inner::finish::is_alone` meets its contract. Assumes nothing.
+use Rattle.condition.proofs.Finishing.{alone-kept, alone-not}
 use borrow.Author.Needs.{needs}
-use Rattle.builder.proofs.inner.finish.is_alone.Statement.{statement}
-use Rattle.builder.proofs.inner.finish.is_alone.Tie as tie
+use Rattle.condition.proofs.inner.finish.is_alone.Statement.{statement}
+use Rattle.condition.proofs.inner.finish.is_alone.Tie as tie
 
 first-kept-requires : tie.Need-first-kept-requires
 first-kept-requires c κs = search needs

@@ -1,10 +1,10 @@
--- `builder::inner::finish::count_row` meets its contract. Assumes nothing.
+-- `condition::inner::finish::count_row` meets its contract. Assumes nothing.
 use Prim.Native.Nat.{_+_, _-_, _≤_}
-use Rattle.builder.proofs.Finishing.{Counting, count-start, count-one, count-row}
+use Rattle.condition.proofs.Finishing.{Counting, count-start, count-one, count-row}
 use borrow.Author.Needs.{needs}
 use native.Mathlib.Omega.{arith}
-use Rattle.builder.proofs.inner.finish.count_row.Statement.{statement}
-use Rattle.builder.proofs.inner.finish.count_row.Tie as tie
+use Rattle.condition.proofs.inner.finish.count_row.Statement.{statement}
+use Rattle.condition.proofs.inner.finish.count_row.Tie as tie
 
 abbrev Inv-loop : tie.InvT-loop
 Inv-loop marks i v n₀ k₀ n k = Counting v marks i n k × (k ≤ i + 64)

@@ -5,6 +5,7 @@ use Prim.Native.Nat.{ℕ}
 use lib.Dec.{ltb}
 use lib.ListN.{set, replicate}
 use Rattle.base.specs.Says.{bool}
+use Rattle.base.specs.Walks.{count}
 use Rattle.chart.specs.declared.charts.Head.{Head}
 use Rattle.chart.specs.Charts.{Chart}
 use Rattle.chart.specs.Places.{keptNumber, newOf}
@@ -14,6 +15,7 @@ use Rattle.checker.specs.Rules.{headOf, oldStart, newStart, startPair, startKep
 use Rattle.graph.specs.Graphs.{Graph, graph, marked}
 use Rattle.detector.specs.Turns.{explored}
 use Rattle.marker.specs.Marks.{finalMarks}
+use Rattle.condition.specs.declared.Summary.{Summary}
 
 -- lines 20 and 21: "At the end a target whose new place is kept becomes that kept node."
 unfoldable pub redirected : List ℕ → ℕ → ℕ
@@ -44,6 +46,10 @@ module _ (old new : Head) where
   -- "and that is the start; else the start is 0"
   unfoldable pub startOf : List ℕ → ℕ
   startOf m = elim (alone m) [ true ↦ startKept new | false ↦ startPair old new ]
+
+-- "The answer has the start and the counts of marks 1, 2 and 3."
+unfoldable pub summary : ℕ → List ℕ → Summary
+summary start marks = record { start = start; opened = count 1 marks; kept = count 2 marks; covered = count 3 marks }
 
 module _ (old new : Chart) where
   -- what a build without refusal leaves, whatever the buffers held

@@ -1,10 +1,10 @@
--- `builder::inner::finish::finish` meets its contract. Assumes nothing.
+-- `condition::inner::finish::finish` meets its contract. Assumes nothing.
 use mathlib.Core.Path.{sym, _∙_}
 use lib.Seq.{length-take-le}
-use Rattle.builder.proofs.Finishing.{used-most, used-targets, used-holds, used-here, finish-alone, finish-joint, summed-alone, summed-joint}
+use Rattle.condition.proofs.Finishing.{used-most, used-targets, used-holds, used-here, finish-alone, finish-joint, summed-alone, summed-joint}
 use borrow.Author.Needs.{needs}
-use Rattle.builder.proofs.inner.finish.finish.Statement.{statement}
-use Rattle.builder.proofs.inner.finish.finish.Tie as tie
+use Rattle.condition.proofs.inner.finish.finish.Statement.{statement}
+use Rattle.condition.proofs.inner.finish.finish.Tie as tie
 
 is-alone-requires : tie.Need-is-alone-requires
 is-alone-requires c κs = search needs

@@ -1,11 +1,11 @@
--- `builder::inner::finish::redirect_all` meets its contract. Assumes nothing.
+-- `condition::inner::finish::redirect_all` meets its contract. Assumes nothing.
 use Prim.Native.Nat.{_-_}
 use lib.ListN.{length}
-use Rattle.builder.proofs.Finishing.{Through, all-start, all-asks, all-again, all-end}
+use Rattle.condition.proofs.Finishing.{Through, all-start, all-asks, all-again, all-end}
 use borrow.Author.Needs.{needs}
 use native.Mathlib.Omega.{arith}
-use Rattle.builder.proofs.inner.finish.redirect_all.Statement.{statement}
-use Rattle.builder.proofs.inner.finish.redirect_all.Tie as tie
+use Rattle.condition.proofs.inner.finish.redirect_all.Statement.{statement}
+use Rattle.condition.proofs.inner.finish.redirect_all.Tie as tie
 
 abbrev Inv-loop : tie.InvT-loop
 Inv-loop marks targets₀ seen p₀ targets p = Through marks targets₀ targets p

@@ -1,11 +1,11 @@
--- `builder::inner::finish::redirect` meets its contract. Assumes nothing.
+-- `condition::inner::finish::redirect` meets its contract. Assumes nothing.
 use mathlib.Core.Path.{ap}
 use Rattle.chart.specs.declared.places.NewPlace.{NewPlace}
-use Rattle.builder.proofs.Finishing.{redirect-kept, redirect-not}
+use Rattle.condition.proofs.Finishing.{redirect-kept, redirect-not}
 use native.Mathlib.Omega.{arith}
 use borrow.Author.Needs.{needs}
-use Rattle.builder.proofs.inner.finish.redirect.Statement.{statement}
-use Rattle.builder.proofs.inner.finish.redirect.Tie as tie
+use Rattle.condition.proofs.inner.finish.redirect.Statement.{statement}
+use Rattle.condition.proofs.inner.finish.redirect.Tie as tie
 
 new-of-requires : tie.Need-new-of-requires
 new-of-requires c κs = search needs

@@ -1,8 +1,8 @@
--- `builder::inner::finish::redirect_kept` meets its contract. Assumes nothing.
-use Rattle.builder.proofs.Finishing.{all-stay}
+-- `condition::inner::finish::redirect_kept` meets its contract. Assumes nothing.
+use Rattle.condition.proofs.Finishing.{all-stay}
 use borrow.Author.Needs.{needs}
-use Rattle.builder.proofs.inner.finish.redirect_kept.Statement.{statement}
-use Rattle.builder.proofs.inner.finish.redirect_kept.Tie as tie
+use Rattle.condition.proofs.inner.finish.redirect_kept.Statement.{statement}
+use Rattle.condition.proofs.inner.finish.redirect_kept.Tie as tie
 
 blank-requires : tie.Need-blank-requires
 blank-requires c κs = search needs

@@ -1,8 +1,8 @@
--- `builder::inner::finish::used` meets its contract. Assumes nothing.
-use Rattle.builder.proofs.Finishing.{Ends, used-start, used-less, used-all}
+-- `condition::inner::finish::used` meets its contract. Assumes nothing.
+use Rattle.condition.proofs.Finishing.{Ends, used-start, used-less, used-all}
 use borrow.Author.Needs.{needs}
-use Rattle.builder.proofs.inner.finish.used.Statement.{statement}
-use Rattle.builder.proofs.inner.finish.used.Tie as tie
+use Rattle.condition.proofs.inner.finish.used.Statement.{statement}
+use Rattle.condition.proofs.inner.finish.used.Tie as tie
 
 abbrev Inv-loop : tie.InvT-loop
 Inv-loop seen n₀ n = Ends seen n

@@ -31,8 +31,7 @@ use Rattle.marker.specs.Spans.{remade}
 use Rattle.marker.specs.Seen.{Holds}
 use Rattle.marker.specs.declared.inner.marks.Counts.{Counts}
 use Rattle.marker.specs.Marks.{finalMarks}
-use Rattle.builder.specs.Builds.{redirected, finalTargets, alone, lone, finished, startOf}
-use Rattle.builder.specs.Answers.{summary}
+use Rattle.condition.specs.Builds.{redirected, finalTargets, alone, lone, finished, startOf, summary}
 use Rattle.graph.proofs.Parts.{graph-eq}
 use Rattle.graph.proofs.Stores.{Passing, passing-none, passing-all}
 use Rattle.marker.proofs.Spans.{Remaking, remaking-start, remaking-more, remaking-gap, remaking-end, passing-gap, passing-span}

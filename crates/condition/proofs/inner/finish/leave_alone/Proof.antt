@@ -1,8 +1,8 @@
--- `builder::inner::finish::leave_alone` meets its contract. Assumes nothing.
-use Rattle.builder.proofs.Finishing.{lone-is}
+-- `condition::inner::finish::leave_alone` meets its contract. Assumes nothing.
+use Rattle.condition.proofs.Finishing.{lone-is}
 use borrow.Author.Needs.{needs}
-use Rattle.builder.proofs.inner.finish.leave_alone.Statement.{statement}
-use Rattle.builder.proofs.inner.finish.leave_alone.Tie as tie
+use Rattle.condition.proofs.inner.finish.leave_alone.Statement.{statement}
+use Rattle.condition.proofs.inner.finish.leave_alone.Tie as tie
 
 fill8-requires : tie.Need-fill8-requires
 fill8-requires c κs = search needs

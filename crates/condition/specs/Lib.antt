@@ -1,0 +1,2 @@
+-- The condition of a whole build.
+pub mod Builds
