@@ -3,4 +3,5 @@ pub mod Comparisons
 pub mod Rows
 pub mod Faults
 pub mod Faultless
+pub mod Conflicts
 pub mod Bounds

@@ -3,5 +3,6 @@ pub mod Places
 pub mod Charts
 pub mod Runs
 pub mod Faults
+pub mod Conflicts
 pub mod Faultless
 pub mod Lookup
