@@ -2,7 +2,7 @@
 use mathlib.Core.Path.{_≡_}
 use mathlib.Core.Bool.{Bool, cond, _&&_}
 use mathlib.Core.List.{List, []}
-use Prim.Native.Nat.{ℕ, zero, suc, _+_, _-_, _≤_, _<_}
+use Prim.Native.Nat.{ℕ, zero, suc, _+_, _-_, _*_, _≤_, _<_}
 use lib.Dec.{eqb, ltb}
 use lib.ListN.{length, getD}
 use Rattle.base.specs.Options.{missing}
@@ -21,6 +21,12 @@ unfoldable pub lookup : Chart → Chart → ℕ → ℕ → List ℕ
 lookup old new chart p =
     cond (eqb chart 0) (cond (openTo old p) (leaving (old .table) p) [])
     (cond (eqb chart 1) (cond (openTo new p) (leaving (new .table) p) []) [])
+
+-- "as a part of that chart's table": it points at the first entry of one of the table's rows, each of six entries of four bytes
+pub record Stands (part table : ℕ × ℕ) : Type 0 where
+  pub row : ℕ
+  pub block : part .0 ≡ table .0
+  pub offset : part .1 ≡ table .1 + row * 6 * 4
 
 -- ---- the inner form
 -- the table of the chart that a place is in, and the place's number

@@ -2,10 +2,11 @@
 // `inner` is what the crates above may call once a chart is known to be faultless.
 ghost use mathlib.Core.Path.{_≡_};
 ghost use mathlib.Core.Bool.{cond};
+ghost use lib.Dec.{eqb};
 ghost use mathlib.Core.List.{[]};
 ghost use Rattle.chart.specs.Charts.{charted, leaving};
 ghost use Rattle.chart.specs.Faults.{refusal, told};
-ghost use Rattle.chart.specs.Lookup.{openTo, lookup};
+ghost use Rattle.chart.specs.Lookup.{openTo, lookup, Stands};
 use charts::Head;
 use charts::Judged;
 
@@ -35,7 +36,8 @@ fn open_to(head: Head, rows: &[u32], place: u32) -> bool
 
 // The rows that leave a place of a chart, as a part of its table; an empty part where the chart is faulty or has no such place.
 fn rows_open(head: Head, rows: &[u32], place: u32) -> &[u32]
-    ensures { λ r. ⌜ now r ≡ cond (openTo (charted head (now (rows .entry))) place) (leaving (now (rows .entry)) place) [] ⌝ }
+    ensures stands { λ r. ⌜ Stands (r .ptr) (rows .entry .ptr) ⌝ }
+    ensures is { λ r. ⌜ now r ≡ cond (openTo (charted head (now (rows .entry))) place) (leaving (now (rows .entry)) place) [] ⌝ }
 {
     if open_to(head, rows, place) {
         return inner::rows::rows_in(rows, place);
@@ -53,7 +55,8 @@ pub fn lookup<'a>(
     chart: u32,
     place: u32,
 ) -> &'a [u32]
-    ensures { λ r. ⌜ now r ≡ lookup (charted old (now («old_rows» .entry))) (charted new (now («new_rows» .entry))) chart place ⌝ }
+    ensures stands { λ r. ⌜ Stands (r .ptr) (cond (eqb chart 1) («new_rows» .entry .ptr) («old_rows» .entry .ptr)) ⌝ }
+    ensures is { λ r. ⌜ now r ≡ lookup (charted old (now («old_rows» .entry))) (charted new (now («new_rows» .entry))) chart place ⌝ }
 {
     if chart == 0 {
         return rows_open(old, old_rows, place);

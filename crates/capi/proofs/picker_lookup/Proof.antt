@@ -16,14 +16,14 @@ lookup-requires c κs = search needs
 
 copy-requires : tie.Need-copy-requires
 copy-requires c κs =
-    let s = part-short (record { places = c .before .before .before .before .before .before .args .old-places; alarm = c .before .before .before .before .before .before .args .old-alarm; table = c .before .before .before .before .before .before .args .old-rows .now }) (record { places = c .before .before .before .before .before .before .args .new-places; alarm = c .before .before .before .before .before .before .args .new-alarm; table = c .before .before .before .before .before .before .args .new-rows .now }) (c .before .before .before .before .before .before .args .chart) (c .before .before .before .before .before .before .args .place) (λ k. omega (arith, c .before .before .before .before .before .shared-slice-known .given k)) (λ k. omega (arith, c .before .before .before .before .shared-slice-known2 .given k)) (c .before .lookup .ensures) in
+    let s = part-short (record { places = c .before .before .before .before .before .before .args .old-places; alarm = c .before .before .before .before .before .before .args .old-alarm; table = c .before .before .before .before .before .before .args .old-rows .now }) (record { places = c .before .before .before .before .before .before .args .new-places; alarm = c .before .before .before .before .before .before .args .new-alarm; table = c .before .before .before .before .before .before .args .new-rows .now }) (c .before .before .before .before .before .before .args .chart) (c .before .before .before .before .before .before .args .place) (λ k. omega (arith, c .before .before .before .before .before .shared-slice-known .given k)) (λ k. omega (arith, c .before .before .before .before .shared-slice-known2 .given k)) (c .before .lookup .ensures .1) in
     omega (arith, c .before .before .if1 .left)
 
 same-length : tie.Need-same-length
 same-length c = search needs
 
 returns-2 : tie.Need-returns-2
-returns-2 c = part-handed _ _ _ _ _ (c .before .before .before .before .before .if1 .left) (c .before .before .before .before .lookup .ensures) (c .before .before .copy .ensures)
+returns-2 c = part-handed _ _ _ _ _ (c .before .before .before .before .before .if1 .left) (c .before .before .before .before .lookup .ensures .1) (c .before .before .copy .ensures)
 
 pub picker-lookup-spec : {M : Type 1} → statement M
 picker-lookup-spec =

@@ -1,23 +1,30 @@
 -- `chart::lookup` meets its contract, chart by chart. Assumes nothing.
+use mathlib.Core.Path.{_≡_, refl}
+use mathlib.Core.Logic.{_≢_}
+use Prim.Native.Nat.{ℕ}
+use native.Mathlib.Omega.{arith}
 use borrow.Author.Tests.{eq-eqb, ne-eqb}
 use Rattle.chart.specs.Lookup.{lookup}
 use borrow.Author.Needs.{needs}
 use Rattle.chart.proofs.lookup.Statement.{statement}
 use Rattle.chart.proofs.lookup.Tie as tie
 
+other : {n : ℕ} → n ≡ 0 → n ≢ 1
+other e f = omega arith
+
 rows-open-requires : tie.Need-rows-open-requires
 rows-open-requires c κs = search needs
 
 returns : tie.Need-returns
 unfolding lookup
-returns c = rw (eq-eqb _ _ (c .before .if1 .taken)) (c .rows-open .ensures)
+returns c = (rw (ne-eqb _ _ (other (c .before .if1 .taken))) (c .rows-open .ensures .0), rw (eq-eqb _ _ (c .before .if1 .taken)) (c .rows-open .ensures .1))
 
 rows-open-requires-2 : tie.Need-rows-open-requires-2
 rows-open-requires-2 c κs = search needs
 
 returns-2 : tie.Need-returns-2
 unfolding lookup
-returns-2 c = rw (ne-eqb _ _ (c .before .before .if1 .left), eq-eqb _ _ (c .before .if2 .taken)) (c .rows-open2 .ensures)
+returns-2 c = (rw (eq-eqb _ _ (c .before .if2 .taken)) (c .rows-open2 .ensures .0), rw (ne-eqb _ _ (c .before .before .if1 .left), eq-eqb _ _ (c .before .if2 .taken)) (c .rows-open2 .ensures .1))
 
 sub-result : tie.Need-sub-result
 sub-result c = search needs
@@ -30,7 +37,7 @@ part-result-end c = search needs
 
 returns-3 : tie.Need-returns-3
 unfolding lookup
-returns-3 c = rw (ne-eqb _ _ (c .before .before .if1 .left), ne-eqb _ _ (c .before .if2 .left))
+returns-3 c = (rw (ne-eqb _ _ (c .before .if2 .left)) (record { row = 0; block = refl; offset = omega arith }), rw (ne-eqb _ _ (c .before .before .if1 .left), ne-eqb _ _ (c .before .if2 .left)))
 
 pub lookup-spec : {M : Type 1} → statement M
 lookup-spec =

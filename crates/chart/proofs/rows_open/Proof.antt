@@ -1,5 +1,6 @@
 -- `chart::rows_open` meets its contract: by its test. Assumes nothing.
-use mathlib.Core.Path.{sym, _∙_}
+use mathlib.Core.Path.{refl, sym, _∙_}
+use native.Mathlib.Omega.{arith}
 use Rattle.chart.proofs.Faultless.{opened}
 use borrow.Author.Needs.{needs}
 use Rattle.chart.proofs.rows_open.Statement.{statement}
@@ -12,7 +13,7 @@ rows-in-requires : tie.Need-rows-in-requires
 rows-in-requires c κs = opened _ _ (sym (c .before .open-to .ensures) ∙ c .if1 .taken)
 
 returns : tie.Need-returns
-returns c = rw (sym (c .before .before .open-to .ensures) ∙ c .before .if1 .taken) (c .rows-in .ensures)
+returns c = (c .rows-in .ensures .1, rw (sym (c .before .before .open-to .ensures) ∙ c .before .if1 .taken) (c .rows-in .ensures .0))
 
 sub-result : tie.Need-sub-result
 sub-result c = search needs
@@ -24,7 +25,7 @@ part-result-end : tie.Need-part-result-end
 part-result-end c = search needs
 
 returns-2 : tie.Need-returns-2
-returns-2 c = rw (sym (c .before .before .open-to .ensures) ∙ c .before .if1 .left)
+returns-2 c = (record { row = 0; block = refl; offset = omega arith }, rw (sym (c .before .before .open-to .ensures) ∙ c .before .if1 .left))
 
 pub rows-open-spec : {M : Type 1} → statement M
 rows-open-spec =

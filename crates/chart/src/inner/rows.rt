@@ -6,7 +6,7 @@ ghost use lib.Dec.{eqb};
 ghost use lib.ListN.{length, getD, take, drop};
 ghost use Rattle.operations.specs.Operations.{same};
 ghost use Rattle.chart.specs.Charts.{size, from, to, operation, leaving};
-ghost use Rattle.chart.specs.Lookup.{Ascending, Lower, Indexable, Ends, Carried, Indexed, tableOf, numberOf};
+ghost use Rattle.chart.specs.Lookup.{Ascending, Lower, Indexable, Ends, Carried, Indexed, tableOf, numberOf, Stands};
 use crate::places::NewPlace;
 use crate::places::OldPlace;
 use crate::places::Place;
@@ -113,7 +113,8 @@ fn past(rows: &[u32], place: u32, first: usize) -> usize
 // The rows from `first` up to `end`, as a part of the table.
 fn part(rows: &[u32], first: usize, end: usize) -> &[u32]
     requires { ⌜ (first ≤ end) × (end ≤ size (now rows)) ⌝ }
-    ensures { λ r. ⌜ now r ≡ take (end * 6 - first * 6) (drop (first * 6) (now (rows .entry))) ⌝ }
+    ensures is { λ r. ⌜ now r ≡ take (end * 6 - first * 6) (drop (first * 6) (now (rows .entry))) ⌝ }
+    ensures stands { λ r. ⌜ (r .ptr .0 ≡ rows .entry .ptr .0) × (r .ptr .1 ≡ rows .entry .ptr .1 + first * 6 * 4) ⌝ }
 {
     let a = first * 6;
     let e = end * 6;
@@ -123,7 +124,8 @@ fn part(rows: &[u32], first: usize, end: usize) -> &[u32]
 // The rows that leave a place, as a part of their table: sought there, for whoever has no index.
 pub fn rows_in(rows: &[u32], place: u32) -> &[u32]
     requires { ⌜ Ascending (now rows) ⌝ }
-    ensures { λ r. ⌜ now r ≡ leaving (now (rows .entry)) place ⌝ }
+    ensures is { λ r. ⌜ now r ≡ leaving (now (rows .entry)) place ⌝ }
+    ensures stands { λ r. ⌜ Stands (r .ptr) (rows .entry .ptr) ⌝ }
 {
     let first = lower(rows, place);
     part(rows, first, past(rows, place, first))

@@ -22,7 +22,7 @@ part-requires : tie.Need-part-requires
 part-requires c κs = search needs
 
 returns : tie.Need-returns
-returns c = rw (← c .before .before .before .wide .ensures, ← c .before .wide2 .ensures) (c .part .ensures)
+returns c = rw (← c .before .before .before .wide .ensures, ← c .before .wide2 .ensures) (c .part .ensures .0)
 
 pub rows-at-spec : {M : Type 1} → statement M
 rows-at-spec =

@@ -15,7 +15,10 @@ part-requires : tie.Need-part-requires
 part-requires c κs = (ordered _ _ _ _ (c .before .lower .ensures) (c .past .ensures), c .past .ensures .inside)
 
 returns : tie.Need-returns
-returns c = c .part .ensures ∙ sym (part _ _ _ _ (c .before .before .lower .ensures) (c .before .past .ensures) (c .before .before .before .before .pre))
+returns c = (
+  c .part .ensures .0 ∙ sym (part _ _ _ _ (c .before .before .lower .ensures) (c .before .past .ensures) (c .before .before .before .before .pre)),
+  record { row = _; block = c .part .ensures .1 .0; offset = c .part .ensures .1 .1 },
+)
 
 pub rows-in-spec : {M : Type 1} → statement M
 rows-in-spec = tie.close (tie.spec lower-requires past-requires part-requires returns)
