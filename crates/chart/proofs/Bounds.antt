@@ -9,7 +9,8 @@ use lib.Dec.{eqb, leb, ltb}
 use lib.ListN.{length}
 use Rattle.base.specs.Options.{orElse, firstOf}
 use Rattle.base.specs.Tests.{someBelow}
-use Rattle.base.specs.Refusals.{Fault, due}
+use Rattle.base.specs.declared.Refusal.{Refusal}
+use Rattle.base.specs.Refusals.{sole, due}
 use Rattle.base.proofs.OnSome.{OnSome, when-on, or-on, first-on}
 use Rattle.base.proofs.Options.{both-missing, not-due}
 use Rattle.base.proofs.Tests.{or-false}
@@ -18,13 +19,13 @@ use Rattle.chart.specs.Charts.{Chart, size, from, to, operation}
 use Rattle.chart.specs.Faults.{countFault, alarmFault, fromBefore, rowFault, clash, conflictFault, rowsFault, fault, refusal}
 
 -- a fault's number and position
-pub record Slight (f : Fault) : Type 0 where
+pub record Slight (f : Refusal) : Type 0 where
   pub some-number : 1 ≤ f .number
   pub few : f .number ≤ 21
   pub row : f .position < 128
 
 due-slight : (b : Bool) (n p : ℕ) → 1 ≤ n → n ≤ 21 → p < 128 → OnSome Slight (due b n p)
-due-slight b n p l h g = when-on Slight b (record { number = n; position = p }) (record { some-number = l; few = h; row = g })
+due-slight b n p l h g = when-on Slight b (sole n p) (record { some-number = l; few = h; row = g })
 
 few-rows : (C : Chart) → countFault C ≡ none → size (C .table) ≤ 128
 unfolding countFault

@@ -10,6 +10,7 @@ use mathlib.Core.Logic.{dite}
 use borrow.Author.Tests.{eq-eqb, ne-eqb, le-ltb, le-leb, lt-leb, leb-true, eqb-false, not-true, not-false}
 use lib.Dec.{eqb, leb, ltb}
 use Rattle.base.specs.Options.{missing}
+use Rattle.base.specs.Refusals.{sole}
 use Rattle.base.specs.Tests.{someBelow}
 use Rattle.base.proofs.Tests.{T-true, and-true, None-since, none-here, none-left}
 use Rattle.operations.specs.declared.Operation.{Operation}
@@ -48,11 +49,11 @@ module _ (C : Chart) (i : ℕ) (s d : Bool) (es : s ≡ leb (C .places) (from (C
       rw (sym es ∙ zs, sym ed ∙ zd, ap isKnown (sym eo) ∙ b .0, ap operandsFit (sym eo) ∙ b .1)
 
   module _ (k : Bool) (ek : k ≡ isKnown o) where
-    pub row-unknown : k ≡ false → some (record { number = 6; position = i }) ≡ rowFault C i
+    pub row-unknown : k ≡ false → some (sole 6 i) ≡ rowFault C i
     unfolding rowFault
     row-unknown h = rw (sym es ∙ zs, sym ed ∙ zd, ap isKnown (sym eo) ∙ sym ek ∙ h)
 
-    pub row-unfit : r ≡ false → k ≡ true → some (record { number = 7; position = i }) ≡ rowFault C i
+    pub row-unfit : r ≡ false → k ≡ true → some (sole 7 i) ≡ rowFault C i
     unfolding rowFault
     row-unfit f h =
         let t : isKnown o ≡ true = sym ek ∙ h in
@@ -124,7 +125,7 @@ module _ (t : List ℕ) (A : Ascending t) (i : ℕ) (u : i < size t) (r : Bool) 
 
 -- fault 8 at row i, or none there
 module _ (t : List ℕ) (i : ℕ) where
-  pub conflict-here : {r : Bool} → r ≡ someBelow i (clash t i) → r ≡ true → some (record { number = 8; position = i }) ≡ conflictFault t i
+  pub conflict-here : {r : Bool} → r ≡ someBelow i (clash t i) → r ≡ true → some (sole 8 i) ≡ conflictFault t i
   unfolding conflictFault
   conflict-here e t = rw (← e, t)
 

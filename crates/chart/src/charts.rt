@@ -1,4 +1,5 @@
 // A chart's head, and what judging a chart answers.
+use base::Refusal;
 
 // What a chart is beside its rows.
 pub struct Head {
@@ -6,11 +7,8 @@ pub struct Head {
     pub alarm: u32,
 }
 
-// What judging a chart finds.
+// What judging a chart finds: no refusal is due, or the first that is. A table that is not whole rows is the caller's mistake, 21.
 pub enum Judged {
     Faultless,
-    // A table that is not whole rows: the caller's mistake.
-    Ragged,
-    // The first fault: its number, and the row where one is named.
-    Faulty { number: u32, position: usize },
+    Refused(Refusal),
 }

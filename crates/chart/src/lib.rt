@@ -14,12 +14,12 @@ pub mod places; // places.rt: places of the old and of the new chart
 pub mod charts; // charts.rt: a chart's head, and what judging a chart answers
 pub mod inner; // inner.rt: for the crates above
 
-// The first fault of a chart, 1 to 8, with its row; a table that is not whole rows is told apart (21, the caller's).
+// The refusal that is due for a chart: 21, the caller's, for a table that is not whole rows, else the first fault, 1 to 8, with its row.
 pub fn judge(head: Head, rows: &[u32]) -> Judged
     ensures { λ r. ⌜ told r ≡ refusal (charted head (now (rows .entry))) ⌝ }
 {
     if rows.len() % 6 != 0 {
-        return Judged::Ragged;
+        return inner::faults::faulty(21, 0);
     }
     inner::faults::fault(head, rows)
 }

@@ -7,7 +7,8 @@ use lib.Dec.{eqb}
 use lib.ListN.{length}
 use Rattle.base.specs.Answers.{Answer, given, refused}
 use Rattle.base.specs.Options.{orElse}
-use Rattle.base.specs.Refusals.{Fault, due, unless}
+use Rattle.base.specs.declared.Refusal.{Refusal}
+use Rattle.base.specs.Refusals.{due, unless}
 use Rattle.operations.specs.declared.Operation.{Operation}
 use Rattle.operations.specs.declared.Written.{Written}
 use Rattle.operations.specs.declared.Written.the-variants as written
@@ -17,7 +18,7 @@ use Rattle.operations.specs.Operations.{isAssignment, isAssumption, oper
 use Rattle.operations.specs.Values.{var}
 
 -- refusals: 21 other than 64 values, 6 a code of another sort than is asked for, 7 an operand that does not fit
-unfoldable pub operationFault : Bool → Operation → List ℕ → Option Fault
+unfoldable pub operationFault : Bool → Operation → List ℕ → Option Refusal
 operationFault sort o v =
     orElse (due (not (eqb (length v) 64)) 21 0) (orElse (due (not sort) 6 0) (due (not (operandsFit o)) 7 0))
 
@@ -32,9 +33,9 @@ metBy o v = unless (operationFault (isAssumption o) o v) (holds o (var v))
 -- what the code's answers say
 abbrev pub toldWritten : Written → Answer ℕ
 toldWritten (written.Value x) = given x
-toldWritten (written.Refused n) = refused n 0 0
+toldWritten (written.Refused r) = refused r
 
 abbrev pub toldMet : Met → Answer Bool
 toldMet met.Yes = given true
 toldMet met.No = given false
-toldMet (met.Refused n) = refused n 0 0
+toldMet (met.Refused r) = refused r

@@ -6,6 +6,8 @@ ghost use Prim.Native.Nat.{ℕ, _^_, _<_};
 ghost use lib.Dec.{ltb};
 ghost use Rattle.operations.specs.Operations.{kind, isKnown, isAssignment, isAssumption, withConstant, operandB, assignedC, operandC, fits, operandsFit};
 ghost use Rattle.operations.specs.Answers.{writtenBy, toldWritten, metBy, toldMet};
+use base::Refusal;
+use base::sole;
 
 pub mod assumptions; // assumptions.rt: the exact test of two assumptions
 pub mod inner; // inner.rt: for the crates above
@@ -32,17 +34,17 @@ pub enum Operand {
     Unused,
 }
 
-// The value that an assignment writes, or a refusal's number.
+// The value that an assignment writes, or a refusal.
 pub enum Written {
     Value(u32),
-    Refused(u32),
+    Refused(Refusal),
 }
 
-// Whether the values meet an assumption, or a refusal's number.
+// Whether the values meet an assumption, or a refusal.
 pub enum Met {
     Yes,
     No,
-    Refused(u32),
+    Refused(Refusal),
 }
 
 // Kinds of codes are told apart here and nowhere else; the tables of limit_b, limit_c and opposite (inner/opposed.rt) go by the codes themselves.
@@ -236,13 +238,13 @@ pub fn value_written(o: Operation, values: &[u32]) -> Written
     ensures { λ r. ⌜ toldWritten r ≡ writtenBy o (now (values .entry)) ⌝ }
 {
     if values.len() != 64 {
-        return Written::Refused(21);
+        return Written::Refused(sole(21, 0));
     }
     if !is_assignment(o) {
-        return Written::Refused(6);
+        return Written::Refused(sole(6, 0));
     }
     if !operands_fit(o) {
-        return Written::Refused(7);
+        return Written::Refused(sole(7, 0));
     }
     Written::Value(inner::meaning::value(o, values))
 }
@@ -252,13 +254,13 @@ pub fn meets(o: Operation, values: &[u32]) -> Met
     ensures { λ r. ⌜ toldMet r ≡ metBy o (now (values .entry)) ⌝ }
 {
     if values.len() != 64 {
-        return Met::Refused(21);
+        return Met::Refused(sole(21, 0));
     }
     if !is_assumption(o) {
-        return Met::Refused(6);
+        return Met::Refused(sole(6, 0));
     }
     if !operands_fit(o) {
-        return Met::Refused(7);
+        return Met::Refused(sole(7, 0));
     }
     if inner::meaning::holds(o, values) {
         Met::Yes

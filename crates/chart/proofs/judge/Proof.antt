@@ -5,9 +5,12 @@ use borrow.Author.Needs.{needs}
 use Rattle.chart.proofs.judge.Statement.{statement}
 use Rattle.chart.proofs.judge.Tie as tie
 
+faulty-requires : tie.Need-faulty-requires
+faulty-requires c κs = search needs
+
 returns : tie.Need-returns
 unfolding refusal
-returns c = rw (ne-eqb _ _ (c .if1 .taken))
+returns c = rw (ne-eqb _ _ (c .before .if1 .taken)) (c .faulty .ensures)
 
 fault-requires : tie.Need-fault-requires
 fault-requires c κs = search needs
@@ -17,4 +20,4 @@ unfolding refusal
 returns-2 c = rw (eq-eqb _ _ (c .before .if1 .left)) (c .fault .ensures)
 
 pub judge-spec : {M : Type 1} → statement M
-judge-spec = tie.close (tie.spec returns fault-requires returns-2)
+judge-spec = tie.close (tie.spec faulty-requires returns fault-requires returns-2)

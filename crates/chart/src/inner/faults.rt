@@ -1,9 +1,11 @@
 // The first fault of a chart.
 ghost use mathlib.Core.Path.{_≡_};
 ghost use mathlib.Core.Bool.{true, false, _&&_, _||_};
+ghost use mathlib.Core.Option.{some};
 ghost use Prim.Native.Nat.{_-_, _<_};
 ghost use lib.Dec.{eqb, leb, ltb};
 ghost use Rattle.base.specs.Options.{missing, firstOf};
+ghost use Rattle.base.specs.Refusals.{sole};
 ghost use Rattle.base.specs.Tests.{someBelow};
 ghost use Rattle.operations.specs.Operations.{isAssumption};
 ghost use Rattle.operations.specs.Trials.{exclusive};
@@ -15,6 +17,7 @@ use crate::charts::Judged;
 use crate::inner::rows::from_at;
 use crate::inner::rows::operation_at;
 use crate::inner::rows::to_at;
+use base::sole;
 use operations::Operation;
 use operations::assumptions::exactly_one;
 use operations::inner::opposed::opposed;
@@ -24,12 +27,15 @@ pub fn is_faultless(j: Judged) -> bool
 {
     match j {
         Judged::Faultless => true,
-        Judged::Ragged => false,
-        Judged::Faulty {
-            number: _,
-            position: _,
-        } => false,
+        Judged::Refused(_) => false,
     }
+}
+
+// The fault with this number, at this row where one is named.
+pub fn faulty(number: u32, position: usize) -> Judged
+    ensures { λ r. ⌜ told r ≡ some (sole number position) ⌝ }
+{
+    Judged::Refused(sole(number, position))
 }
 
 // 1 and 2: the counts of places and rows.
@@ -38,16 +44,10 @@ fn count_fault(head: Head, rows: &[u32]) -> Judged
 {
     let n = rows.len() / 6;
     if (head.places == 0) | (n == 0) {
-        return Judged::Faulty {
-            number: 1,
-            position: 0,
-        };
+        return faulty(1, 0);
     }
     if (64 < head.places) | (128 < n) {
-        return Judged::Faulty {
-            number: 2,
-            position: 0,
-        };
+        return faulty(2, 0);
     }
     Judged::Faultless
 }
@@ -57,10 +57,7 @@ fn alarm_fault(head: Head) -> Judged
     ensures { λ r. ⌜ told r ≡ alarmFault (head .places) (head .alarm) ⌝ }
 {
     if head.places <= head.alarm {
-        return Judged::Faulty {
-            number: 3,
-            position: 0,
-        };
+        return faulty(3, 0);
     }
     Judged::Faultless
 }
@@ -90,31 +87,19 @@ fn row_fault(head: Head, rows: &[u32], i: usize) -> Judged
     ensures { λ r. ⌜ told r ≡ rowFault (charted head (now (rows .entry))) i ⌝ }
 {
     if strays(head.places, rows, i) {
-        return Judged::Faulty {
-            number: 4,
-            position: i,
-        };
+        return faulty(4, i);
     }
     if descends(rows, i) {
-        return Judged::Faulty {
-            number: 5,
-            position: i,
-        };
+        return faulty(5, i);
     }
     let o = operation_at(rows, i);
     if operations::is_right(o) {
         return Judged::Faultless;
     }
     if operations::is_known(o) {
-        return Judged::Faulty {
-            number: 7,
-            position: i,
-        };
+        return faulty(7, i);
     }
-    Judged::Faulty {
-        number: 6,
-        position: i,
-    }
+    faulty(6, i)
 }
 
 // 4 to 7, of the first row that has one.
@@ -209,10 +194,7 @@ fn first_conflict(rows: &[u32]) -> Judged
     let mut i = 0;
     while i < n {
         if conflicts(rows, i) {
-            return Judged::Faulty {
-                number: 8,
-                position: i,
-            };
+            return faulty(8, i);
         }
         i += 1;
     }

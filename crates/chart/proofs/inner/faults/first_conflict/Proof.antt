@@ -25,8 +25,13 @@ loop-holds c = search needs
 conflicts-requires : tie.Need-conflicts-requires Inv-loop μ-loop
 conflicts-requires c κs = (c .loop-test .taken, c .before .before .before .pre)
 
+faulty-requires : tie.Need-faulty-requires Inv-loop μ-loop
+faulty-requires c κs = search needs
+
 returns : tie.Need-returns Inv-loop μ-loop
-returns c = conflict-here _ (c .before .before .before .loop .i) (c .before .conflicts .ensures) (c .if1 .taken) ∙ sym (first-at _ _ (c .before .before .before .loop .i) (c .before .before .loop-test .taken) (c .before .before .before .loop .inv .1) (ap missing (sym (conflict-here _ (c .before .before .before .loop .i) (c .before .conflicts .ensures) (c .if1 .taken)))))
+returns c =
+    let here = conflict-here _ (c .before .before .before .before .loop .i) (c .before .before .conflicts .ensures) (c .before .if1 .taken) in
+    c .faulty .ensures ∙ here ∙ sym (first-at _ _ (c .before .before .before .before .loop .i) (c .before .before .before .loop-test .taken) (c .before .before .before .before .loop .inv .1) (ap missing (sym here)))
 
 add-i : tie.Need-add-i Inv-loop μ-loop
 add-i c = search needs
@@ -48,6 +53,7 @@ first-conflict-spec =
     μ-loop
     loop-holds
     conflicts-requires
+    faulty-requires
     returns
     add-i
     loop-less
