@@ -4,7 +4,7 @@ use crate::checker::Record;
 use crate::texts::{taken_apart, Refusal};
 use crate::Chart;
 
-mod linked {
+pub mod linked {
     extern "C" {
         pub fn picker_lookup(
             old_places: u32,

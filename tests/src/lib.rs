@@ -5,6 +5,7 @@ pub mod checker;
 pub mod conditions;
 pub mod drawn;
 pub mod model;
+pub mod stack;
 pub mod texts;
 
 /// The operation of a row.

@@ -3,7 +3,7 @@
 
 use crate::{model, Chart, Operation, Random};
 
-mod linked {
+pub mod linked {
     extern "C" {
         pub fn picker_read(text: *const u8, text_len: usize, table: *mut u32, table_len: usize) -> u64;
         pub fn picker_write(places: u32, alarm: u32, rows: *const u32, rows_len: usize, bytes: *mut u8, bytes_len: usize) -> u64;
