@@ -11,7 +11,7 @@ use Rattle.chart.specs.Charts.{Chart}
 use Rattle.checker.specs.Records.{Record, recordOf, mark, index}
 use Rattle.graph.specs.Graphs.{firstKept}
 use Rattle.detector.proofs.Ones.{one-there, one-only}
-use Rattle.paper.specs.Nodes.{Set, _∈_, Pair, Node, aligned, indicator, Edge, onlyNode, number, nodeNumber, NodeNumbered}
+use Rattle.paper.specs.Nodes.{SetOf, _isIn_, Pair, Node, aligned, indicator, Edge, onlyNode, number, nodeNumber, NodeNumbered}
 use Rattle.paper.specs.Algorithm2.{lone}
 use Rattle.paper.specs.Algorithm1.{Search}
 use Rattle.paper.specs.Returned.{Marked, Targeted, IsGraph, IsCondition}
@@ -33,11 +33,11 @@ module _ (old new : Chart) where
   first-mark : mark (single .graph) 4096 ≡ 2
   first-mark = one-there 4160 4096 2 (omega arith)
 
-  first-so : (P : ℕ → Type 0) → P 2 → (x : Node) → x ∈ onlyNode first → Marked single P x
+  first-so : (P : ℕ → Type 0) → P 2 → (x : Node) → x isIn onlyNode first → Marked single P x
   first-so P p x e = subst (λ (y : Node). Marked single P y) (only-node first x e) (omega arith, subst P (sym first-mark) p)
 
-  is-first : (x : Node) → NodeNumbered x → mark (single .graph) (nodeNumber x) ≢ 0 → x ∈ onlyNode first
-  is-first x B e = subst (λ (y : Node). y ∈ onlyNode first) (sym (single-node x B e)) (the-node first)
+  is-first : (x : Node) → NodeNumbered x → mark (single .graph) (nodeNumber x) ≢ 0 → x isIn onlyNode first
+  is-first x B e = subst (λ (y : Node). y isIn onlyNode first) (sym (single-node x B e)) (the-node first)
 
   no-target : (e : Edge) → Targeted single e → ⊥
   no-target e t = omega (arith, t .is, same-at 8192 65535 (index (number (e .pred)) (e .row)) (omega (arith, t .two, number-below (e .pred) (t .pred))), node-below (e .succ) (t .succ))
@@ -54,13 +54,13 @@ module _ (old new : Chart) where
         bare = λ n B e. zeros-at 4096 (number n);
       }
 
-  module _ {Q waits : Set Node} (search : Search (lone old new) Q waits) where
-    Q-kept : (x : Node) → x ∈ Q → Marked single (λ m. (m ≡ 1) ⊎ (m ≡ 2)) x
+  module _ {Q waits : SetOf Node} (search : Search (lone old new) Q waits) where
+    Q-kept : (x : Node) → x isIn Q → Marked single (λ m. (m ≡ 1) ⊎ (m ≡ 2)) x
     Q-kept =
         within (lone old new) (Marked single (λ m. (m ≡ 1) ⊎ (m ≡ 2))) (first-so (λ m. (m ≡ 1) ⊎ (m ≡ 2)) (inr refl) first (the-node first)) (first-so (λ m. (m ≡ 1) ⊎ (m ≡ 2)) (inr refl))
         (λ p x o D. absurd (D .edge)) search .1
 
-    kept-Q : (x : Node) → Marked single (λ m. (m ≡ 1) ⊎ (m ≡ 2)) x → x ∈ Q
+    kept-Q : (x : Node) → Marked single (λ m. (m ≡ 1) ⊎ (m ≡ 2)) x → x isIn Q
     kept-Q x M = first-found (lone old new) search x (in-first (onlyNode first x) (onlyNode first x) (is-first x (M .0) (λ e. ⊎-elim (λ a. omega arith) (λ a. omega arith) (M .1))))
 
     not-covered : (x : Node) → Marked single (λ m. m ≡ 3) x → ⊥

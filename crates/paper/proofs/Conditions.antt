@@ -22,7 +22,7 @@ use Rattle.marker.proofs.Least.{Closed}
 use Rattle.marker.proofs.Marks.{rank-pair}
 use Rattle.condition.proofs.Demand3.{marks, left, final}
 use Rattle.condition.proofs.Right.{open-closed, open-least, covered-only, covered-all}
-use Rattle.paper.specs.Nodes.{Set, _∈_, _∉_, Pair, Node, aligned, indicator, Edge, edge, onlyNode, number, nodeNumber, pairOf, Numbered, NodeNumbered}
+use Rattle.paper.specs.Nodes.{SetOf, _isIn_, _isNotIn_, Pair, Node, aligned, indicator, Edge, edge, onlyNode, number, nodeNumber, pairOf, Numbered, NodeNumbered}
 use Rattle.paper.specs.Algorithm2.{DifferenceGraph, nodes, indicators, whole}
 use Rattle.paper.specs.Algorithm1.{Search, F, Transition}
 use Rattle.paper.specs.Returned.{Marked, Targeted, IsGraph, IsCondition}
@@ -54,8 +54,8 @@ module _ (old new : Chart) (F′ : FaultlessChart old) (H : FaultlessChart new) 
       not-kept : G .Δ (aligned n) ≡ true → ⊥
       not-kept e = T-true e
 
-  module _ {Q waits : Set Node} (search : Search G Q waits) (emptied : (x : Node) → x ∉ waits) where
-    Q-open : (x : Node) → x ∈ Q → Open x
+  module _ {Q waits : SetOf Node} (search : Search G Q waits) (emptied : (x : Node) → x isNotIn waits) where
+    Q-open : (x : Node) → x isIn Q → Open x
     unfolding Open nodes
     Q-open =
         within G Open (numbered 0 (omega arith), inl (final old new F′ H joint .start)) (λ x e. let k = W .kept x .0 e in (k .0, inr (k .1)))
@@ -68,20 +68,20 @@ module _ (old new : Chart) (F′ : FaultlessChart old) (H : FaultlessChart new) 
     led : (i r : ℕ) → i < 4096 → r < 2 → (x : Node) → NodeNumbered x → to i r ≡ nodeNumber x → G .E (edge (pairOf i) r x)
     led i r l c x B e = W .edges (edge (pairOf i) r x) .1 (record { pred = numbered i l; two = c; succ = B; is = ap (λ (j : ℕ). to j r) (number-is i) ∙ e })
 
-    kept-Q : (x : Node) → NodeNumbered x → m (nodeNumber x) ≡ 2 → x ∈ Q
+    kept-Q : (x : Node) → NodeNumbered x → m (nodeNumber x) ≡ 2 → x isIn Q
     kept-Q x B e = first-found G search x (in-second (onlyNode (G .n₀) x) (G .Δ x) (W .kept x .1 (B, e)))
 
     Found : ℕ → Type 0
-    Found k = (k < 4096) × (aligned (pairOf k) ∈ Q)
+    Found k = (k < 4096) × (aligned (pairOf k) isIn Q)
 
     found-closed : Closed (explored old new .marks) (finalTargets (explored old new)) (explored-inv old new F′ H .shaped .sized .marks) Found
     unfolding Found
     found-closed i r l p c e = (l, ⊎-elim (λ f. by (aligned (pairOf (to i r))) (numbered (to i r) (f .0)) (sym (number-is (to i r))) (f .1)) (λ f. up (f .0) (f .1)) e)
       where
-        by : (x : Node) → NodeNumbered x → to i r ≡ nodeNumber x → x ∈ Q → aligned (pairOf i) ∈ Q
+        by : (x : Node) → NodeNumbered x → to i r ≡ nodeNumber x → x isIn Q → aligned (pairOf i) isIn Q
         by x B z q = closed G search (aligned (pairOf i)) x q (emptied x) (record { pair = pairOf i; row = r; is = refl; edge = led i r l c x B z })
 
-        up : 4096 ≤ to i r → 0 < markAt (explored old new) (to i r) → aligned (pairOf i) ∈ Q
+        up : 4096 ≤ to i r → 0 < markAt (explored old new) (to i r) → aligned (pairOf i) isIn Q
         up a b =
             let d : to i r < 4160 = dite (decLt (to i r) 4160) (λ z. z) (λ z. absurd (omega (arith, List·getD-eq-default (explored old new .marks) 0 {n = to i r} (omega (arith, explored-inv old new F′ H .shaped .sized .marks))))) in
             let z : to i r ≡ keptNumber (newOf (to i r)) = omega arith in
@@ -91,23 +91,23 @@ module _ (old new : Chart) (F′ : FaultlessChart old) (H : FaultlessChart new) 
     unfolding Found
     found-first = (omega arith, first-found G search (aligned (pairOf 0)) (in-first (onlyNode (G .n₀) (aligned (pairOf 0))) (G .Δ (aligned (pairOf 0))) (the-node (aligned (pairOf 0)))))
 
-    open-Q : (x : Node) → Open x → x ∈ Q
+    open-Q : (x : Node) → Open x → x isIn Q
     unfolding Open Found
     open-Q x o = ⊎-elim (λ e. one x (o .0) e) (λ e. kept-Q x (o .0) e) (o .1)
       where
-        one : (x : Node) → NodeNumbered x → m (nodeNumber x) ≡ 1 → x ∈ Q
+        one : (x : Node) → NodeNumbered x → m (nodeNumber x) ≡ 1 → x isIn Q
         one (aligned n) B e =
             let f = open-least old new F′ H joint Found found-first found-closed (number n) e in
-            subst (λ (k : Pair). aligned k ∈ Q) (pair-is n B) (f .1)
+            subst (λ (k : Pair). aligned k isIn Q) (pair-is n B) (f .1)
         one (indicator q) b e =
             absurd (let z = rank-pair (explored old new .marks) (marks old new F′ H joint) (final old new F′ H joint .ranks) (keptNumber q) (omega arith) (λ k. omega arith) in omega arith)
 
-    not-open : (x : Node) → NodeNumbered x → x ∉ Q → (m (nodeNumber x) ≡ 1 → ⊥) × (m (nodeNumber x) ≡ 2 → ⊥)
+    not-open : (x : Node) → NodeNumbered x → x isNotIn Q → (m (nodeNumber x) ≡ 1 → ⊥) × (m (nodeNumber x) ≡ 2 → ⊥)
     unfolding Open
     not-open x B o = (λ e. not-in (open-Q x (B, inl e)) o, λ e. not-in (open-Q x (B, inr e)) o)
 
     -- a pair of Q has mark 1
-    pair-one : (n : Pair) → aligned n ∈ Q → m (number n) ≡ 1
+    pair-one : (n : Pair) → aligned n isIn Q → m (number n) ≡ 1
     unfolding Open
     pair-one n e = let o = Q-open (aligned n) e in pair-open n (o .0) (o .1)
 
@@ -123,7 +123,7 @@ module _ (old new : Chart) (F′ : FaultlessChart old) (H : FaultlessChart new) 
         (λ z. let k = left-mark old new F′ H wo wn joint (nodeNumber x) (there .1) in absurd (o .1 (final old new F′ H joint .ranks .node (nodeNumber x) (omega arith) (k .0) (k .1)))) in (
           there .0,
           subst (λ (k : ℕ). m k ≡ 3) (t .is)
-              (covered-all old new F′ H joint (number (D .pair)) (D .row) (number-below (D .pair) (t .pred)) (pair-one (D .pair) (subst (λ (y : Node). y ∈ Q) (D .is) (f .«open»))) (t .two) (omega (arith, t .is))
+              (covered-all old new F′ H joint (number (D .pair)) (D .row) (number-below (D .pair) (t .pred)) (pair-one (D .pair) (subst (λ (y : Node). y isIn Q) (D .is) (f .«open»))) (t .two) (omega (arith, t .is))
               (subst (λ (k : ℕ). m k ≢ 0) (sym (t .is)) (there .1)) (subst (λ (k : ℕ). m k ≢ 1) (sym (t .is)) (o .0))),
         )
 

@@ -17,7 +17,7 @@ use Rattle.chart.specs.Charts.{Chart}
 use Rattle.align.specs.Sets.{joined}
 use Rattle.graph.specs.Graphs.{Graph, Sized, marked, keep, due, join, unwait}
 use Rattle.graph.proofs.Graphs.{setAt, marked-yes, marked-no, marked-same, keep-node, keep-nodes, keep-mark, keep-wait, keep-mark-other, keep-set-other, keep-wait-other, join-mark, join-set, join-due, join-not-due, join-mark-other, join-set-other, join-wait-other}
-use Rattle.paper.specs.Nodes.{Set, _∈_, _∉_, _∪_, Pair, onlyPlace, onlyPair, withPlace, pairOf, Numbered}
+use Rattle.paper.specs.Nodes.{SetOf, _isIn_, _isNotIn_, _plus_, Pair, onlyPlace, onlyPair, withPlace, pairOf, Numbered}
 use Rattle.paper.specs.Algorithm2.{State, toPlace, line29, toPair, popped}
 use Rattle.paper.proofs.Members.{in-either, only-pair, numbered, same-pair, other-pair}
 
@@ -25,12 +25,12 @@ use Rattle.paper.proofs.Members.{in-either, only-pair, numbered, same-p
 -- the buffers clear the sets of pairs that leave the graph, and V_δ does not: they are the same where the new place is not kept
 pub record Sets (s : State) (g : Graph) : Type 0 where
   pub N : (i : ℕ) → i < 4096 → s .Nₗ (pairOf i) ≡ marked (g .marks) i
-  pub N-numbered : (n : Pair) → n ∈ s .Nₗ → Numbered n
+  pub N-numbered : (n : Pair) → n isIn s .Nₗ → Numbered n
   pub Δ : (q : NewPlace) → q .0 < 64 → s .Δ q ≡ marked (g .marks) (keptNumber q)
-  pub Δ-numbered : (q : NewPlace) → q ∈ s .Δ → q .0 < 64
+  pub Δ-numbered : (q : NewPlace) → q isIn s .Δ → q .0 < 64
   pub waits : (i : ℕ) → i < 4096 → s .waitlist (pairOf i) ≡ marked (g .waiting) i
-  pub waits-numbered : (n : Pair) → n ∈ s .waitlist → Numbered n
-  pub Vδ : (i : ℕ) → i < 4096 → newOf i ∉ s .Δ → s .Vδ (pairOf i) ≡ setAt g i
+  pub waits-numbered : (n : Pair) → n isIn s .waitlist → Numbered n
+  pub Vδ : (i : ℕ) → i < 4096 → newOf i isNotIn s .Δ → s .Vδ (pairOf i) ≡ setAt g i
 
 module _ (old new : Chart) where
   -- ---- a new place becomes kept
@@ -66,7 +66,7 @@ module _ (old new : Chart) where
         }
 
   -- ---- the place of the successor is kept already
-  pub kept-sets : (s : State) (g : Graph) (pred : Pair) (r : ℕ) (succ : Pair) (v : ℕ) → succ .new ∈ s .Δ → Sets s g → Sets (toPair old new s pred r succ v) g
+  pub kept-sets : (s : State) (g : Graph) (pred : Pair) (r : ℕ) (succ : Pair) (v : ℕ) → succ .new isIn s .Δ → Sets s g → Sets (toPair old new s pred r succ v) g
   unfolding toPair line29
   kept-sets s g pred r succ v k R =
       record {
@@ -80,7 +80,7 @@ module _ (old new : Chart) where
       }
 
   -- ---- pair t joins
-  module _ (s : State) (g : Graph) (pred : Pair) (r t v : ℕ) (S : Sized g) (l : t < 4096) (free : newOf t ∉ s .Δ) (R : Sets s g) where
+  module _ (s : State) (g : Graph) (pred : Pair) (r t v : ℕ) (S : Sized g) (l : t < 4096) (free : newOf t isNotIn s .Δ) (R : Sets s g) where
     due-same : line29 old new s (pairOf t) v ≡ due (old .alarm) (g .marks) (g .sets) t v
     unfolding line29 due
     due-same = rw (free, R .N t l, R .Vδ t l free)
@@ -98,7 +98,7 @@ module _ (old new : Chart) where
     after = join (old .alarm) g t v
 
     waits-now : (d : Bool) → due (old .alarm) (g .marks) (g .sets) t v ≡ d → (i : ℕ) → i < 4096
-        → (elim d as (λ _. Set Pair) [ true ↦ s .waitlist ∪ onlyPair (pairOf t) | false ↦ s .waitlist ]) (pairOf i) ≡ marked (after .waiting) i
+        → (elim d as (λ _. SetOf Pair) [ true ↦ s .waitlist plus onlyPair (pairOf t) | false ↦ s .waitlist ]) (pairOf i) ≡ marked (after .waiting) i
     waits-now true e i b =
         joins (g .waiting) (after .waiting) i (s .waitlist (pairOf i)) (omega (arith, join-due (old .alarm) g t v S l e)) (λ z. join-wait-other (old .alarm) g t v S l i z) (R .waits i b)
     waits-now false e i b =
@@ -107,11 +107,11 @@ module _ (old new : Chart) where
         (marked-same (after .waiting) (g .waiting) i
         (dite (ℕ-discrete i t) (λ z. rw z (join-not-due (old .alarm) g t v S l e)) (λ z. join-wait-other (old .alarm) g t v S l i z)))
 
-    waits-numbered-now : (d : Bool) (n : Pair) → (elim d as (λ _. Set Pair) [ true ↦ s .waitlist ∪ onlyPair (pairOf t) | false ↦ s .waitlist ]) n ≡ true → Numbered n
+    waits-numbered-now : (d : Bool) (n : Pair) → (elim d as (λ _. SetOf Pair) [ true ↦ s .waitlist plus onlyPair (pairOf t) | false ↦ s .waitlist ]) n ≡ true → Numbered n
     waits-numbered-now true n e = joins-numbered (s .waitlist n) n (R .waits-numbered n) e
     waits-numbered-now false n e = R .waits-numbered n e
 
-    gains : (i : ℕ) → i < 4096 → newOf i ∉ s .Δ → (elim (onlyPair (pairOf t) (pairOf i)) as (λ _. ℕ) [ true ↦ joined (s .Vδ (pairOf i)) v | false ↦ s .Vδ (pairOf i) ]) ≡ setAt after i
+    gains : (i : ℕ) → i < 4096 → newOf i isNotIn s .Δ → (elim (onlyPair (pairOf t) (pairOf i)) as (λ _. ℕ) [ true ↦ joined (s .Vδ (pairOf i)) v | false ↦ s .Vδ (pairOf i) ]) ≡ setAt after i
     gains i b e =
         dite (ℕ-discrete i t)
         (λ z. rw (same-pair t i z) (rw z (ap (λ (x : ℕ). joined x v) (R .Vδ t l free) ∙ sym (join-set (old .alarm) g t v S l))))

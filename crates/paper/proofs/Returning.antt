@@ -26,7 +26,7 @@ use Rattle.graph.proofs.Graphs.{markAt, targetAt, marked-yes, marked-no, is-mar
 use Rattle.detector.proofs.Invariant.{Inv, Every, ToKept, ToPair}
 use Rattle.marker.proofs.Marks.{rank-there}
 use Rattle.condition.proofs.Demand3.{marks, left, final}
-use Rattle.paper.specs.Nodes.{_∈_, _∉_, Pair, pair, Node, aligned, indicator, Edge, edge, number, nodeNumber, pairOf, Numbered, NodeNumbered}
+use Rattle.paper.specs.Nodes.{_isIn_, _isNotIn_, Pair, pair, Node, aligned, indicator, Edge, edge, number, nodeNumber, pairOf, Numbered, NodeNumbered}
 use Rattle.paper.specs.Algorithm2.{State, nodes, indicators, Replaced, Line20, whole}
 use Rattle.paper.specs.Returned.{Marked, Targeted, IsGraph}
 use Rattle.paper.proofs.Members.{not-in, pair-is, number-below}
@@ -64,24 +64,24 @@ module _ (old new : Chart) (F : FaultlessChart old) (H : FaultlessChart new) (wo
   I = ran .inv
 
   -- ---- N_l and Δ where the loop has ended
-  in-N : (i : ℕ) → i < 4096 → 0 < markAt (explored old new) i → pairOf i ∈ last .Nₗ
+  in-N : (i : ℕ) → i < 4096 → 0 < markAt (explored old new) i → pairOf i isIn last .Nₗ
   in-N i l p = ran .reads .sets .N i l ∙ marked-yes (explored old new .marks) i p
 
-  N-in : (n : Pair) → n ∈ last .Nₗ → Numbered n × (0 < markAt (explored old new) (number n))
+  N-in : (n : Pair) → n isIn last .Nₗ → Numbered n × (0 < markAt (explored old new) (number n))
   N-in n e =
       let B = ran .reads .sets .N-numbered n e in
       let l = number-below n B in
       (B, is-marked (explored old new .marks) (number n) (sym (ran .reads .sets .N (number n) l) ∙ ap (last .Nₗ) (pair-is n B) ∙ e))
 
-  in-Δ : (q : NewPlace) → q .0 < 64 → 0 < markAt (explored old new) (keptNumber q) → q ∈ last .Δ
+  in-Δ : (q : NewPlace) → q .0 < 64 → 0 < markAt (explored old new) (keptNumber q) → q isIn last .Δ
   in-Δ q l p = ran .reads .sets .Δ q l ∙ marked-yes (explored old new .marks) (keptNumber q) p
 
-  Δ-in : (q : NewPlace) → q ∈ last .Δ → (q .0 < 64) × (0 < markAt (explored old new) (keptNumber q))
+  Δ-in : (q : NewPlace) → q isIn last .Δ → (q .0 < 64) × (0 < markAt (explored old new) (keptNumber q))
   Δ-in q e =
       let l = ran .reads .sets .Δ-numbered q e in
       (l, is-marked (explored old new .marks) (keptNumber q) (sym (ran .reads .sets .Δ q l) ∙ e))
 
-  free : (i : ℕ) → i < 4096 → 0 < markAt (explored old new) i → newOf i ∉ last .Δ
+  free : (i : ℕ) → i < 4096 → 0 < markAt (explored old new) i → newOf i isNotIn last .Δ
   free i l p = ran .reads .sets .Δ (newOf i) (omega arith) ∙ marked-no (explored old new .marks) (keptNumber (newOf i)) (I .apart i l p)
 
   module _ (joint : alone (headOf old) (headOf new) (explored old new .marks) ≡ false) where
@@ -141,10 +141,10 @@ module _ (old new : Chart) (F : FaultlessChart old) (H : FaultlessChart new) (wo
 
     -- ---- line 20, from an edge of E_l to a target
     abbrev Kind : Pair → ℕ → Node → Type 0
-    Kind n r x = (edge n r x ∈ last .Eₗ) ⊎ Replaced last n r x
+    Kind n r x = (edge n r x isIn last .Eₗ) ⊎ Replaced last n r x
 
     -- the edge to y shows that the target of this row is used
-    module _ (i r : ℕ) (l : i < 4096) (p : 0 < markAt (explored old new) i) (y : Node) (h : edge (pairOf i) r y ∈ last .Eₗ) where
+    module _ (i r : ℕ) (l : i < 4096) (p : 0 < markAt (explored old new) i) (y : Node) (h : edge (pairOf i) r y isIn last .Eₗ) where
       sound : reading.Sound old new (last .Δ) (edge (pairOf i) r y)
       sound = ran .reads .edges .sound (edge (pairOf i) r y) h
 
@@ -158,13 +158,13 @@ module _ (old new : Chart) (F : FaultlessChart old) (H : FaultlessChart new) (wo
       leads = goes i r l p two (sound .row) used
 
       -- to a place of Δ
-      kept-target : (q : NewPlace) → q .0 ≡ leadsTo new i r .0 → q ∈ last .Δ → target (left old new F H joint) i r ≡ keptNumber q
+      kept-target : (q : NewPlace) → q .0 ≡ leadsTo new i r .0 → q isIn last .Δ → target (left old new F H joint) i r ≡ keptNumber q
       kept-target q e k =
           let z : keptNumber (leadsTo new i r) ≡ keptNumber q = omega arith in
           ⊎-elim (λ K. K .is ∙ z) (λ P. absurd (omega (arith, Δ-in q k .1, rw z at (P .not-kept)))) leads
 
     -- to a pair
-    pair-target : (i r : ℕ) → i < 4096 → 0 < markAt (explored old new) i → (m : Pair) → m ∈ last .Nₗ → edge (pairOf i) r (aligned m) ∈ last .Eₗ → target (left old new F H joint) i r ≡ number m
+    pair-target : (i r : ℕ) → i < 4096 → 0 < markAt (explored old new) i → (m : Pair) → m isIn last .Nₗ → edge (pairOf i) r (aligned m) isIn last .Eₗ → target (left old new F H joint) i r ≡ number m
     pair-target i r l p m v h =
         let S = sound i r l p (aligned m) h in
         let M = N-in m v in
@@ -185,7 +185,7 @@ module _ (old new : Chart) (F : FaultlessChart old) (H : FaultlessChart new) (wo
       succ : NodeNumbered x
       is : target (left old new F H joint) i r ≡ nodeNumber x
 
-    to-target : (i r : ℕ) → i < 4096 → 0 < markAt (explored old new) i → (x : Node) → x ∈ nodes last → Kind (pairOf i) r x → Leads i r x
+    to-target : (i r : ℕ) → i < 4096 → 0 < markAt (explored old new) i → (x : Node) → x isIn nodes last → Kind (pairOf i) r x → Leads i r x
     unfolding nodes
     to-target i r l p (aligned m) v (inl h) = record { row = two i r l p (aligned m) h; succ = N-in m v .0; is = pair-target i r l p m v h }
     to-target i r l p (aligned m) v (inr b) = absurd b
@@ -216,24 +216,24 @@ module _ (old new : Chart) (F : FaultlessChart old) (H : FaultlessChart new) (wo
         a-row = dite (decLt r (size (rowsOf new i))) (λ z. z) (λ z. absurd (u (I .unused i r l c (inr (omega arith)))))
 
         -- some edge that leads to a place of Δ
-        to-place : (y : Node) → edge (pairOf i) r y ∈ last .Eₗ → (q : NewPlace) → q .0 ≡ leadsTo new i r .0 → q ∈ last .Δ → Kind (pairOf i) r (indicator q)
+        to-place : (y : Node) → edge (pairOf i) r y isIn last .Eₗ → (q : NewPlace) → q .0 ≡ leadsTo new i r .0 → q isIn last .Δ → Kind (pairOf i) r (indicator q)
         to-place (aligned m) h q e k =
             let z : m ≡ pair (m .old) q = ap (λ (x : ℕ). pair (m .old) (record { 0 = x })) (sound i r l there (aligned m) h .onto .0 ∙ sym e) in
-            inr (k, (m .old, subst (λ (n : Pair). edge (pairOf i) r (aligned n) ∈ last .Eₗ) z h))
+            inr (k, (m .old, subst (λ (n : Pair). edge (pairOf i) r (aligned n) isIn last .Eₗ) z h))
         to-place (indicator p) h q e k =
             let z : p ≡ q = ap (λ (x : ℕ). record { 0 = x }) (sound i r l there (indicator p) h .onto .0 ∙ sym e) in
-            inl (subst (λ (x : NewPlace). edge (pairOf i) r (indicator x) ∈ last .Eₗ) z h)
+            inl (subst (λ (x : NewPlace). edge (pairOf i) r (indicator x) isIn last .Eₗ) z h)
 
         aims : reading.Aims old new (last .Eₗ) i r (targetAt (explored old new) i r)
         aims = ran .reads .edges .aims i r l c (free i l there) u
 
-        to-edge : (x : Node) → NodeNumbered x → target (left old new F H joint) i r ≡ nodeNumber x → (x ∈ nodes last) × Kind (pairOf i) r x
+        to-edge : (x : Node) → NodeNumbered x → target (left old new F H joint) i r ≡ nodeNumber x → (x isIn nodes last) × Kind (pairOf i) r x
         unfolding nodes
         to-edge (aligned n) B e =
             ⊎-elim (λ K. absurd (omega (arith, K .is, number-below n B)))
             (λ P. let z : pairOf (targetAt (explored old new) i r) ≡ n = ap pairOf (sym (P .is) ∙ e) ∙ pair-is n B in (
-              subst (λ (m : Pair). m ∈ last .Nₗ) z (in-N (targetAt (explored old new) i r) (P .below) (P .there)),
-              ⊎-elim (λ K. absurd (omega (arith, K .is, P .below))) (λ T. inl (subst (λ (m : Pair). edge (pairOf i) r (aligned m) ∈ last .Eₗ) z (T .edge))) aims,
+              subst (λ (m : Pair). m isIn last .Nₗ) z (in-N (targetAt (explored old new) i r) (P .below) (P .there)),
+              ⊎-elim (λ K. absurd (omega (arith, K .is, P .below))) (λ T. inl (subst (λ (m : Pair). edge (pairOf i) r (aligned m) isIn last .Eₗ) z (T .edge))) aims,
             )) (goes i r l there c a-row u)
         to-edge (indicator q) b e =
             ⊎-elim
@@ -250,7 +250,7 @@ module _ (old new : Chart) (F : FaultlessChart old) (H : FaultlessChart new) (wo
         let u = used-target i (e .row) l (T .two) (omega (arith, T .is, node-below (e .succ) (T .succ))) in
         let z = to-edge i (e .row) l (T .two) u (e .succ) (T .succ) (T .is) in
         record {
-          from = subst (λ (n : Pair). n ∈ last .Nₗ) (pair-is (e .pred) (T .pred)) (in-N i l (there i (e .row) l (T .two) u));
+          from = subst (λ (n : Pair). n isIn last .Nₗ) (pair-is (e .pred) (T .pred)) (in-N i l (there i (e .row) l (T .two) u));
           to = z .0;
           edge = subst (λ (n : Pair). Kind n (e .row) (e .succ)) (pair-is (e .pred) (T .pred)) (z .1);
         }
@@ -269,24 +269,24 @@ module _ (old new : Chart) (F : FaultlessChart old) (H : FaultlessChart new) (wo
     not-two : (k : ℕ) → k < 4096 → mark (left old new F H joint) k ≡ 2 → ⊥
     not-two k l e = ⊎-elim (λ a. omega arith) (λ a. ⊎-elim (λ b. omega arith) (λ b. omega arith) a) (pair-marks k l (left-mark k (λ z. omega arith) .1))
 
-    in-nodes : (x : Node) → x ∈ nodes last → Marked built-graph (λ m. m ≢ 0) x
+    in-nodes : (x : Node) → x isIn nodes last → Marked built-graph (λ m. m ≢ 0) x
     unfolding nodes
     in-nodes (aligned n) e =
         let N = N-in n e in
         (N .0, λ z. ⊎-elim (λ a. omega arith) (λ a. ⊎-elim (λ b. omega arith) (λ b. omega arith) a) (pair-marks (number n) (number-below n (N .0)) (N .1)))
     in-nodes (indicator q) e = let D = Δ-in q e in (D .0, λ z. omega (arith, node-mark q (D .0) (D .1)))
 
-    nodes-in : (x : Node) → Marked built-graph (λ m. m ≢ 0) x → x ∈ nodes last
+    nodes-in : (x : Node) → Marked built-graph (λ m. m ≢ 0) x → x isIn nodes last
     unfolding nodes
-    nodes-in (aligned n) M = subst (λ (m : Pair). m ∈ last .Nₗ) (pair-is n (M .0)) (in-N (number n) (number-below n (M .0)) (left-mark (number n) (M .1) .1))
+    nodes-in (aligned n) M = subst (λ (m : Pair). m isIn last .Nₗ) (pair-is n (M .0)) (in-N (number n) (number-below n (M .0)) (left-mark (number n) (M .1) .1))
     nodes-in (indicator q) M = in-Δ q (M .0) (left-mark (keptNumber q) (M .1) .1)
 
-    in-kept : (x : Node) → x ∈ indicators last → Marked built-graph (λ m. m ≡ 2) x
+    in-kept : (x : Node) → x isIn indicators last → Marked built-graph (λ m. m ≡ 2) x
     unfolding indicators
     in-kept (aligned n) e = absurd (T-true e)
     in-kept (indicator q) e = let D = Δ-in q e in (D .0, node-mark q (D .0) (D .1))
 
-    kept-in : (x : Node) → Marked built-graph (λ m. m ≡ 2) x → x ∈ indicators last
+    kept-in : (x : Node) → Marked built-graph (λ m. m ≡ 2) x → x isIn indicators last
     unfolding indicators
     kept-in (aligned n) M = absurd (not-two (number n) (number-below n (M .0)) (M .1))
     kept-in (indicator q) M = in-Δ q (M .0) (left-mark (keptNumber q) (λ z. omega (arith, M .1)) .1)

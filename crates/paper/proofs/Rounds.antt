@@ -25,7 +25,7 @@ use Rattle.graph.proofs.Graphs.{markAt, setAt, Shaped, marked-yes, marked-no, i
 use Rattle.detector.proofs.Turns.{set-now, set-had, set-now-small, next-waits}
 use Rattle.detector.proofs.Measure.{row-lighter}
 use Rattle.detector.proofs.Invariant.{Inv, Every, turn-inv, begun-inv}
-use Rattle.paper.specs.Nodes.{_∈_, _∉_, onlyPair, pairOf, number, Numbered}
+use Rattle.paper.specs.Nodes.{_isIn_, _isNotIn_, onlyPair, pairOf, number, Numbered}
 use Rattle.paper.specs.Lines5to18.{Lines5to18}
 use Rattle.paper.specs.Algorithm2.{State, called, popped, ForEach, none-yet, one-more, Lowest, Run, line1, lines3to18}
 use Rattle.paper.specs.Algorithm2 as algorithm2
@@ -35,7 +35,7 @@ use Rattle.paper.proofs.Rows.{Reads, InHand, unwait-hand, Row, row-read
 
 module _ (old new : Chart) (F : FaultlessChart old) (G : FaultlessChart new) where
   -- ---- a round
-  module _ (wo : Words (old .table)) (wn : Words (new .table)) (s : State) (g : Graph) (n : ℕ) (l : n < 4096) (S : Shaped g) (R : Reads old new s g) (H : InHand (unwait g n) n) (free : newOf n ∉ s .Δ) where
+  module _ (wo : Words (old .table)) (wn : Words (new .table)) (s : State) (g : Graph) (n : ℕ) (l : n < 4096) (S : Shaped g) (R : Reads old new s g) (H : InHand (unwait g n) n) (free : newOf n isNotIn s .Δ) where
     v : ℕ
     v = setAt g n
 
@@ -128,7 +128,7 @@ module _ (old new : Chart) (F : FaultlessChart old) (G : FaultlessChart new) whe
     unfolding taken secondDone first v v₁
     round-read = round .reads
 
-    round-run : Run old new (Lines5to18 old) Lowest s → pairOf n ∈ s .waitlist → Lowest s (pairOf n) → Run old new (Lines5to18 old) Lowest (round .state)
+    round-run : Run old new (Lines5to18 old) Lowest s → pairOf n isIn s .waitlist → Lowest s (pairOf n) → Run old new (Lines5to18 old) Lowest (round .state)
     unfolding s₀
     round-run r w c = lines3to18 (pairOf n) r w c (round .loop)
 

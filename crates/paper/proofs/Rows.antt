@@ -25,7 +25,7 @@ use Rattle.detector.specs.Turns as turns
 use Rattle.detector.proofs.Steps.{Fits}
 use Rattle.graph.proofs.Graphs.{markAt, Shaped, not-marked, keep-node, keep-nodes, keep-mark, keep-mark-other, keep-shaped, by-aim, join-mark, join-mark-other, join-target, join-shaped}
 use Rattle.detector.proofs.Turns.{leads-below, step-of-fits}
-use Rattle.paper.specs.Nodes.{_∈_, _∉_, _∪_, Pair, pair, aligned, indicator, edge, onlyPlace, pairOf}
+use Rattle.paper.specs.Nodes.{_isIn_, _isNotIn_, _plus_, Pair, pair, aligned, indicator, edge, onlyPlace, pairOf}
 use Rattle.paper.specs.Lines5to18.{Lines5to18}
 use Rattle.paper.specs.Algorithm2.{State, toPlace, line27, toPair, process, called}
 use Rattle.paper.proofs.Successors.{successor, one-successor}
@@ -104,7 +104,7 @@ module _ (old new : Chart) (F : FaultlessChart old) (G : FaultlessChart new) whe
     q-below : leadsTo new n r .0 < 64
     q-below = omega (arith, leads-below old new F G n v r a, G .few-places)
 
-    not-kept : newOf n ∉ s .Δ → markAt g (keptNumber (newOf n)) ≡ 0
+    not-kept : newOf n isNotIn s .Δ → markAt g (keptNumber (newOf n)) ≡ 0
     not-kept e = not-marked (g .marks) (keptNumber (newOf n)) (sym (R .sets .Δ (newOf n) (omega arith)) ∙ e)
 
     -- lines 23 to 25
@@ -130,22 +130,22 @@ module _ (old new : Chart) (F : FaultlessChart old) (G : FaultlessChart new) whe
     fails-row =
         let q = leadsTo new n r in
         let K = keep-sets old new s g (pairOf n) r q (S .sized) q-below (R .sets) in
-        let there : newOf n ∉ (s .Δ ∪ onlyPlace q) → 0 < markAt (keep g q) n =
+        let there : newOf n isNotIn (s .Δ plus onlyPlace q) → 0 < markAt (keep g q) n =
         λ e. hand-kept .there (not-marked (keep g q .marks) (keptNumber (newOf n)) (sym (K .Δ (newOf n) (omega arith)) ∙ e)) in
-        let fits : Sound old new (s .Δ ∪ onlyPlace q) (edge (pairOf n) r (indicator q)) = record { row = a; onto = (refl, rw (the-place q) (or-true (s .Δ q))) } in
+        let fits : Sound old new (s .Δ plus onlyPlace q) (edge (pairOf n) r (indicator q)) = record { row = a; onto = (refl, rw (the-place q) (or-true (s .Δ q))) } in
         let Z = keep-shaped g q S .sized in
         record {
           reads =
               record {
                 sets = aim-sets (keep g q) n r (keptNumber q) (toPlace s (pairOf n) r q) K;
                 edges =
-                    aim-edges old new (s .Eₗ) (s .Δ ∪ onlyPlace q) (keep g q) n r (keptNumber q) (indicator q) Z l c there fits (λ e. omega (arith, q-below))
+                    aim-edges old new (s .Eₗ) (s .Δ plus onlyPlace q) (keep g q) n r (keptNumber q) (indicator q) Z l c there fits (λ e. omega (arith, q-below))
                     (keep-edges old new (s .Eₗ) (s .Δ) g q (S .sized) q-below (R .edges))
                     (inl
                     (record {
                       is = refl;
                       succ = indicator q;
-                      edge = added old new (s .Eₗ) (s .Δ ∪ onlyPlace q) (keep g q) n r (keptNumber q) (indicator q) Z l c there fits (λ e. omega (arith, q-below));
+                      edge = added old new (s .Eₗ) (s .Δ plus onlyPlace q) (keep g q) n r (keptNumber q) (indicator q) Z l c there fits (λ e. omega (arith, q-below));
                     }));
               };
           hand = hand-aim (keep g q) (keptNumber q) hand-kept;
@@ -156,12 +156,12 @@ module _ (old new : Chart) (F : FaultlessChart old) (G : FaultlessChart new) whe
       place : h .place ≡ successor old (oldOf n) (operation (rowsOf new n) r)
       place = one-successor old (oldOf n) v (operation (rowsOf new n) r) .of h came
 
-      kept-row : leadsTo new n r ∈ s .Δ → Row old new n v (toPair old new s (pairOf n) r (pair (h .place) (leadsTo new n r)) (h .set)) (aim g n r (keptNumber (leadsTo new n r)))
+      kept-row : leadsTo new n r isIn s .Δ → Row old new n v (toPair old new s (pairOf n) r (pair (h .place) (leadsTo new n r)) (h .set)) (aim g n r (keptNumber (leadsTo new n r)))
       unfolding toPair
       kept-row k =
           let q = leadsTo new n r in
           let x = aligned (pair (h .place) q) in
-          let there : newOf n ∉ s .Δ → 0 < markAt g n = λ e. H .there (not-kept e) in
+          let there : newOf n isNotIn s .Δ → 0 < markAt g n = λ e. H .there (not-kept e) in
           let fits : Sound old new (s .Δ) (edge (pairOf n) r x) = record { row = a; onto = (refl, place) } in
           record {
             reads =
@@ -180,14 +180,14 @@ module _ (old new : Chart) (F : FaultlessChart old) (G : FaultlessChart new) whe
             held = λ z. rw (k, toPair) own;
           }
 
-      module _ (t : ℕ) (is : t ≡ pairNumber (h .place) (leadsTo new n r)) (T : Fits 64 h) (f : leadsTo new n r ∉ s .Δ) where
+      module _ (t : ℕ) (is : t ≡ pairNumber (h .place) (leadsTo new n r)) (T : Fits 64 h) (f : leadsTo new n r isNotIn s .Δ) where
         below : t < 4096
         below = omega (arith, T .place, q-below)
 
         new-place : newOf t ≡ leadsTo new n r
         new-place = ap (λ (y : ℕ). record { 0 = y }) (omega (arith, q-below))
 
-        free : newOf t ∉ s .Δ
+        free : newOf t isNotIn s .Δ
         free = ap (s .Δ) new-place ∙ f
 
         abbrev j : Graph
@@ -210,7 +210,7 @@ module _ (old new : Chart) (F : FaultlessChart old) (G : FaultlessChart new) whe
         unfolding toPair
         joins-row =
             let x = aligned (pairOf t) in
-            let there : newOf n ∉ s .Δ → 0 < markAt j n = λ e. hand-joined .there (join-mark-other (old .alarm) g t (h .set) (S .sized) below (keptNumber (newOf n)) (λ z. omega (arith, below)) ∙ not-kept e) in
+            let there : newOf n isNotIn s .Δ → 0 < markAt j n = λ e. hand-joined .there (join-mark-other (old .alarm) g t (h .set) (S .sized) below (keptNumber (newOf n)) (λ z. omega (arith, below)) ∙ not-kept e) in
             let fits : Sound old new (s .Δ) (edge (pairOf n) r x) =
             record { row = a; onto = (omega (arith, q-below), ap (λ (y : ℕ). record { 0 = y }) (omega (arith, q-below)) ∙ place) } in
             let Z = join-shaped (old .alarm) g t (h .set) (T .set) S .sized in

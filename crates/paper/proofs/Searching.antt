@@ -17,7 +17,7 @@ use Rattle.base.proofs.Sums.{sum, sum-lt, sum-most}
 use Rattle.base.proofs.Tests.{T-true, is-true, and-true}
 use Rattle.chart.specs.Places.{newOf}
 use Rattle.checker.specs.Records.{Record, target}
-use Rattle.paper.specs.Nodes.{Set, _∈_, _∉_, _∪_, _∖_, Pair, Node, aligned, indicator, Edge, edge, onlyNode, number, nodeNumber, pairOf, Numbered, NodeNumbered}
+use Rattle.paper.specs.Nodes.{SetOf, _isIn_, _isNotIn_, _plus_, _minus_, Pair, Node, aligned, indicator, Edge, edge, onlyNode, number, nodeNumber, pairOf, Numbered, NodeNumbered}
 use Rattle.paper.specs.Algorithm2.{DifferenceGraph}
 use Rattle.paper.specs.Algorithm1.{Precedes, Turn, Search, line1, lines3to5}
 use Rattle.paper.specs.Returned.{Targeted}
@@ -26,8 +26,8 @@ use Rattle.paper.proofs.Members.{in-either, in-first, in-second, not-in
 -- ---- what any search finds
 module _ (G : DifferenceGraph) where
   -- no more than every set that has n_0 and Δ and is so closed
-  pub within : (S : Node → Type 0) → S (G .n₀) → ((x : Node) → x ∈ G .Δ → S x) → ((p x : Node) → S x → Precedes G p x → S p)
-      → {Q W : Set Node} → Search G Q W → ((x : Node) → x ∈ W → S x) × ((x : Node) → x ∈ Q → S x)
+  pub within : (S : Node → Type 0) → S (G .n₀) → ((x : Node) → x isIn G .Δ → S x) → ((p x : Node) → S x → Precedes G p x → S p)
+      → {Q W : SetOf Node} → Search G Q W → ((x : Node) → x isIn W → S x) × ((x : Node) → x isIn Q → S x)
   within S a b c line1 = (first, first)
     where
       first : (x : Node) → onlyNode (G .n₀) x || G .Δ x ≡ true → S x
@@ -38,21 +38,21 @@ module _ (G : DifferenceGraph) where
         λ x e. ⊎-elim (λ h. ih .1 x h) (λ h. c x n (ih .0 n (t .pops)) h) (t .adds x .0 e),
       )
 
-  pub first-found : {Q W : Set Node} → Search G Q W → (x : Node) → onlyNode (G .n₀) x || G .Δ x ≡ true → x ∈ Q
+  pub first-found : {Q W : SetOf Node} → Search G Q W → (x : Node) → onlyNode (G .n₀) x || G .Δ x ≡ true → x isIn Q
   first-found line1 x e = e
   first-found (lines3to5 n s t) x e = t .adds x .1 (inl (first-found s x e))
 
-  pub closed : {Q W : Set Node} → Search G Q W → (p x : Node) → x ∈ Q → x ∉ W → Precedes G p x → p ∈ Q
+  pub closed : {Q W : SetOf Node} → Search G Q W → (p x : Node) → x isIn Q → x isNotIn W → Precedes G p x → p isIn Q
   closed line1 p x q w d = absurd (not-in q w)
   closed (lines3to5 {Q} {W} {Q′} {W′} n s t) p x q w d =
       ⊎-elim (λ h. ⊎-elim (λ k. popped h k) (λ k. t .adds p .1 (inl (closed s p x h k d))) (in-or-not (W x)))
       (λ h. ⊎-elim (λ k. ⊎-elim (λ j. popped k j) (λ j. t .adds p .1 (inl (closed s p x k j d))) (in-or-not (W x))) (λ k. absurd (not-in (t .waits x .1 (inr (h, k))) w)) (in-or-not (Q x)))
       (t .adds x .0 q)
     where
-      popped : x ∈ Q → x ∈ W → p ∈ Q′
+      popped : x isIn Q → x isIn W → p isIn Q′
       popped h k =
           ⊎-elim (λ e. t .adds p .1 (inr (subst (λ (y : Node). Precedes G p y) (sym (only-node n x e)) d)))
-          (λ e. absurd (not-in (t .waits x .1 (inl (k, λ z. not-in (subst (λ (y : Node). y ∈ onlyNode n) (sym z) (the-node n)) e))) w))
+          (λ e. absurd (not-in (t .waits x .1 (inl (k, λ z. not-in (subst (λ (y : Node). y isIn onlyNode n) (sym z) (the-node n)) e))) w))
           (in-or-not (onlyNode n x))
 
 -- ---- nodes by number
@@ -68,16 +68,16 @@ pub node-below : (x : Node) → NodeNumbered x → nodeNumber x < 4160
 node-below (aligned n) B = omega (arith, number-below n B)
 node-below (indicator q) b = omega arith
 
-small : Set Pair
+small : SetOf Pair
 small n = ltb (n .old .0) 64 && ltb (n .new .0) 64
 
-small-numbered : (n : Pair) → n ∈ small → Numbered n
+small-numbered : (n : Pair) → n isIn small → Numbered n
 unfolding small
 small-numbered n e =
     let z = and-true (ltb (n .old .0) 64) _ e in
     record { old = ltb-true (n .old .0) 64 (z .0); new = ltb-true (n .new .0) 64 (z .1) }
 
-numbered-small : (n : Pair) → Numbered n → n ∈ small
+numbered-small : (n : Pair) → Numbered n → n isIn small
 unfolding small
 numbered-small n B = rw (lt-ltb (n .old .0) 64 (B .old), lt-ltb (n .new .0) 64 (B .new))
 
@@ -120,23 +120,23 @@ rest-lt false false = omega arith
 
 -- ---- a search to the end
 pub record Found (G : DifferenceGraph) : Type 0 where
-  pub Q : Set Node
-  pub W : Set Node
+  pub Q : SetOf Node
+  pub W : SetOf Node
   pub search : Search G Q W
-  pub emptied : (x : Node) → x ∉ W
+  pub emptied : (x : Node) → x isNotIn W
 
 module _ (R : Record) (G : DifferenceGraph) (edges : (e : Edge) → G .E e ↔ Targeted R e) where
-  precedes : Node → Set Node
+  precedes : Node → SetOf Node
   precedes x (aligned n) = small n && (eqb (target (R .graph) (number n) 0) (nodeNumber x) || eqb (target (R .graph) (number n) 1) (nodeNumber x))
   precedes x (indicator q) = false
 
-  precedes-numbered : (x p : Node) → p ∈ precedes x → NodeNumbered p
+  precedes-numbered : (x p : Node) → p isIn precedes x → NodeNumbered p
   unfolding precedes
   precedes-numbered x (aligned n) e = small-numbered n (and-true (small n) _ e .0)
   precedes-numbered x (indicator q) e = absurd (T-true e)
 
   module _ (x : Node) (B : NodeNumbered x) where
-    precedes-so : (p : Node) → p ∈ precedes x → Precedes G p x
+    precedes-so : (p : Node) → p isIn precedes x → Precedes G p x
     unfolding precedes
     precedes-so (indicator q) e = absurd (T-true e)
     precedes-so (aligned n) e =
@@ -152,11 +152,11 @@ module _ (R : Record) (G : DifferenceGraph) (edges : (e : Edge) → G .E e ↔ T
               edge = edges (edge n r x) .1 (record { pred = A; two = b; succ = B; is = eqb-true (target (R .graph) (number n) r) (nodeNumber x) h });
             }
 
-    so-precedes : (p : Node) → Precedes G p x → p ∈ precedes x
+    so-precedes : (p : Node) → Precedes G p x → p isIn precedes x
     unfolding precedes
     so-precedes p D =
         let t = edges (edge (D .pair) (D .row) x) .0 (D .edge) in
-        subst (λ (y : Node). y ∈ precedes x) (sym (D .is)) (rw (numbered-small (D .pair) (t .pred)) (by (D .row) (t .two) (t .is)))
+        subst (λ (y : Node). y isIn precedes x) (sym (D .is)) (rw (numbered-small (D .pair) (t .pred)) (by (D .row) (t .two) (t .is)))
       where
         by : (r : ℕ) → r < 2 → target (R .graph) (number (D .pair)) r ≡ nodeNumber x
             → eqb (target (R .graph) (number (D .pair)) 0) (nodeNumber x) || eqb (target (R .graph) (number (D .pair)) 1) (nodeNumber x) ≡ true
@@ -165,25 +165,25 @@ module _ (R : Record) (G : DifferenceGraph) (edges : (e : Edge) → G .E e ↔ T
         by (suc (suc r)) b h = absurd (omega arith)
 
   record Now : Type 0 where
-    Q : Set Node
-    W : Set Node
+    Q : SetOf Node
+    W : SetOf Node
 
   find : Now → Option ℕ
   find s = firstOf 4160 (λ i. when (s .W (nodeOf i)) i)
 
   act : Now → ℕ → Now
-  act s i = record { Q = s .Q ∪ precedes (nodeOf i); W = (s .W ∖ onlyNode (nodeOf i)) ∪ (precedes (nodeOf i) ∖ s .Q) }
+  act s i = record { Q = s .Q plus precedes (nodeOf i); W = (s .W minus onlyNode (nodeOf i)) plus (precedes (nodeOf i) minus s .Q) }
 
   record Good (s : Now) : Type 0 where
     search : Search G (s .Q) (s .W)
-    numbered : (x : Node) → x ∈ s .W → NodeNumbered x
+    numbered : (x : Node) → x isIn s .W → NodeNumbered x
 
-  found : (s : Now) (i : ℕ) → find s ≡ some i → (i < 4160) × (nodeOf i ∈ s .W)
+  found : (s : Now) (i : ℕ) → find s ≡ some i → (i < 4160) × (nodeOf i isIn s .W)
   unfolding find
   found s i e =
-      All-firstOf {P = λ k. (k < 4160) × (nodeOf k ∈ s .W)} 4160 {f = λ k. when (s .W (nodeOf k)) k} (λ k l. All-when (s .W (nodeOf k)) k (λ t. (l, is-true (s .W (nodeOf k)) t))) .of i e
+      All-firstOf {P = λ k. (k < 4160) × (nodeOf k isIn s .W)} 4160 {f = λ k. when (s .W (nodeOf k)) k} (λ k l. All-when (s .W (nodeOf k)) k (λ t. (l, is-true (s .W (nodeOf k)) t))) .of i e
 
-  turn : (s : Now) (x : Node) → x ∈ s .W → NodeNumbered x → Turn G (s .Q) (s .W) x (s .Q ∪ precedes x) ((s .W ∖ onlyNode x) ∪ (precedes x ∖ s .Q))
+  turn : (s : Now) (x : Node) → x isIn s .W → NodeNumbered x → Turn G (s .Q) (s .W) x (s .Q plus precedes x) ((s .W minus onlyNode x) plus (precedes x minus s .Q))
   turn s x w B =
       record {
         pops = w;
@@ -192,7 +192,7 @@ module _ (R : Record) (G : DifferenceGraph) (edges : (e : Edge) → G .E e ↔ T
           λ e. ⊎-elim (λ h. in-first (s .Q n) (precedes x n) h) (λ h. in-second (s .Q n) (precedes x n) (so-precedes x B n h)) e,
         );
         waits = λ n. (
-          λ e. ⊎-elim (λ h. let z = and-true (s .W n) _ h in inl (z .0, λ y. not-in (subst (λ (m : Node). m ∈ onlyNode x) (sym y) (the-node x)) (not-true (onlyNode x n) (z .1))))
+          λ e. ⊎-elim (λ h. let z = and-true (s .W n) _ h in inl (z .0, λ y. not-in (subst (λ (m : Node). m isIn onlyNode x) (sym y) (the-node x)) (not-true (onlyNode x n) (z .1))))
               (λ h. let z = and-true (precedes x n) _ h in inr (precedes-so x B n (z .0), not-true (s .Q n) (z .1))) (in-either (s .W n && not (onlyNode x n)) _ e),
           λ e. ⊎-elim (λ h. in-first (s .W n && not (onlyNode x n)) _ (rw (h .0, other n (h .1)))) (λ h. in-second (s .W n && not (onlyNode x n)) _ (rw (so-precedes x B n (h .0), h .1))) e,
         );
@@ -226,18 +226,18 @@ module _ (R : Record) (G : DifferenceGraph) (edges : (e : Edge) → G .E e ↔ T
             (λ j l. rest-le (s .Q (nodeOf j)) (s .W (nodeOf j)) (precedes (nodeOf i) (nodeOf j)) (onlyNode (nodeOf i) (nodeOf j))));
       }
 
-  pub search-ends : NodeNumbered (G .n₀) → ((x : Node) → x ∈ G .Δ → NodeNumbered x) → Found G
+  pub search-ends : NodeNumbered (G .n₀) → ((x : Node) → x isIn G .Δ → NodeNumbered x) → Found G
   unfolding weight find
   search-ends a b =
       record {
         Q = last .Q;
         W = last .W;
         search = good .search;
-        emptied = λ x. ⊎-elim (λ h. absurd (not-in (subst (λ (y : Node). y ∈ last .W) (sym (node-is x (good .numbered x h))) h) (none-waits (nodeNumber x) (node-below x (good .numbered x h))))) (λ h. h) (in-or-not (last .W x));
+        emptied = λ x. ⊎-elim (λ h. absurd (not-in (subst (λ (y : Node). y isIn last .W) (sym (node-is x (good .numbered x h))) h) (none-waits (nodeNumber x) (node-below x (good .numbered x h))))) (λ h. h) (in-or-not (last .W x));
       }
     where
       first : Now
-      first = record { Q = onlyNode (G .n₀) ∪ G .Δ; W = onlyNode (G .n₀) ∪ G .Δ }
+      first = record { Q = onlyNode (G .n₀) plus G .Δ; W = onlyNode (G .n₀) plus G .Δ }
 
       first-good : Good first
       first-good = record { search = line1; numbered = λ x e. ⊎-elim (λ h. subst NodeNumbered (only-node (G .n₀) x h) a) (b x) (in-either (onlyNode (G .n₀) x) (G .Δ x) e) }
@@ -248,7 +248,7 @@ module _ (R : Record) (G : DifferenceGraph) (edges : (e : Edge) → G .E e ↔ T
       good : Good last
       good = repeated-keeps find act Good act-good 12480 first first-good
 
-      none-waits : (i : ℕ) → i < 4160 → nodeOf i ∉ last .W
+      none-waits : (i : ℕ) → i < 4160 → nodeOf i isNotIn last .W
       none-waits i l = not-due (last .W (nodeOf i)) i (none-of (λ k. when (last .W (nodeOf k)) k) 4160 i (rests find act weight Good falls 12480 first first-good light) l)
         where
           light : weight first ≤ 12480

@@ -36,7 +36,7 @@ use Rattle.align.proofs.Parts.{before, stands, same-row, row-of, row-same, oper
 use Rattle.checker.specs.Promise.{Words}
 use Rattle.detector.proofs.Steps.{row-a}
 use Rattle.graph.proofs.Graphs.{join-small}
-use Rattle.paper.specs.Nodes.{Set, _∈_, ∅, _∪_}
+use Rattle.paper.specs.Nodes.{SetOf, _isIn_, emptySet, _plus_}
 use Rattle.paper.specs.Lines5to18.{Meet, IsWith, IsWithout, onlyOld, InG, Line13, Loop, line12, line14, Lines11to14, Line15, Lines5to18, line7, line8, line10, line16, line17, line18, line13-cut}
 use Rattle.paper.proofs.Members.{in-first, in-second}
 
@@ -65,7 +65,7 @@ with-small : (s v : ℕ) → s < 2 ^ 64 → v < 64 → with s v < 2 ^ 64
 unfolding with
 with-small s v b l = join-small s (alone v) b (alone-small v l)
 
-onlyOld-is : (p : OldPlace) (i : ℕ) → i ≡ p .0 → record { 0 = i } ∈ onlyOld p
+onlyOld-is : (p : OldPlace) (i : ℕ) → i ≡ p .0 → record { 0 = i } isIn onlyOld p
 unfolding onlyOld
 onlyOld-is p i e = eq-eqb (p .0) i (sym e)
 
@@ -172,17 +172,17 @@ module _ (old : Chart) (F : FaultlessChart old) where
   module _ (ℓ₁ : OldPlace) (start : ℕ) where
     -- the loop has ended, or has come to a place twice
     data Walked : Option Spot → Type 0 where
-      came : {h : Spot} {been : Set OldPlace} → Loop old ℓ₁ start been (h .place) (h .set) → onward old h ≡ none → h .set < 2 ^ 64 → Walked (some h)
-      twice : {been : Set OldPlace} {p : OldPlace} {s : ℕ} → Loop old ℓ₁ start been p s → p ∈ been → Walked none
+      came : {h : Spot} {been : SetOf OldPlace} → Loop old ℓ₁ start been (h .place) (h .set) → onward old h ≡ none → h .set < 2 ^ 64 → Walked (some h)
+      twice : {been : SetOf OldPlace} {p : OldPlace} {s : ℕ} → Loop old ℓ₁ start been p s → p isIn been → Walked none
 
-    walk : (n met : ℕ) (h : Spot) (been : Set OldPlace) → Loop old ℓ₁ start been (h .place) (h .set) → h .set < 2 ^ 64 → met < 2 ^ 64
-        → ((i : ℕ) → In i met → record { 0 = i } ∈ (been ∪ onlyOld (h .place))) → unmet met < n → Walked (follow old n met h)
+    walk : (n met : ℕ) (h : Spot) (been : SetOf OldPlace) → Loop old ℓ₁ start been (h .place) (h .set) → h .set < 2 ^ 64 → met < 2 ^ 64
+        → ((i : ℕ) → In i met → record { 0 = i } isIn (been plus onlyOld (h .place))) → unmet met < n → Walked (follow old n met h)
     unfolding follow
     walk zero met h been L b c m u = absurd (omega arith)
     walk (suc n) met h been L b c m u = go (λ met′ h′ been′ L′ b′ c′ m′ u′. walk n met′ h′ been′ L′ b′ c′ m′ u′) (onward old h) refl
       where
-        go : ((met′ : ℕ) (h′ : Spot) (been′ : Set OldPlace) → Loop old ℓ₁ start been′ (h′ .place) (h′ .set) → h′ .set < 2 ^ 64 → met′ < 2 ^ 64
-            → ((i : ℕ) → In i met′ → record { 0 = i } ∈ (been′ ∪ onlyOld (h′ .place))) → unmet met′ < n → Walked (follow old n met′ h′))
+        go : ((met′ : ℕ) (h′ : Spot) (been′ : SetOf OldPlace) → Loop old ℓ₁ start been′ (h′ .place) (h′ .set) → h′ .set < 2 ^ 64 → met′ < 2 ^ 64
+            → ((i : ℕ) → In i met′ → record { 0 = i } isIn (been′ plus onlyOld (h′ .place))) → unmet met′ < n → Walked (follow old n met′ h′))
             → (o : Option Spot) → onward old h ≡ o
             → Walked (elim o as (λ _. Option Spot) [ none ↦ some h | some h′ ↦ elim (meets met (alone (h′ .place .0))) as (λ _. Option Spot) [ true ↦ none | false ↦ follow old n (with met (h′ .place .0)) h′ ] ])
         go ih none e = came L e b
@@ -191,8 +191,8 @@ module _ (old : Chart) (F : FaultlessChart old) where
             G : Goes h h′
             G = onward-goes h h′ b e
 
-            more : Set OldPlace
-            more = been ∪ onlyOld (h .place)
+            more : SetOf OldPlace
+            more = been plus onlyOld (h .place)
 
             L′ : Loop old ℓ₁ start more (h′ .place) (h′ .set)
             L′ = line14 L (G .line) (G .sets)
@@ -308,4 +308,4 @@ module _ (old : Chart) (F : FaultlessChart old) where
           ])
       go true t = lines5to10 old p s o b (fits .a) t (find (rowsAt old p) (λ o′. same o′ o)) refl
       go false t =
-          on t (walk p s 64 (alone (p .0)) h ∅ line12 b (alone-small (p .0) l) (λ i k. onlyOld-is p i (alone-only i (p .0) k)) few)
+          on t (walk p s 64 (alone (p .0)) h emptySet line12 b (alone-small (p .0) l) (λ i k. onlyOld-is p i (alone-only i (p .0) k)) few)

@@ -20,7 +20,7 @@ use Rattle.condition.specs.Builds.{finalTargets, alone, finished, built, startO
 use Rattle.condition.specs.Builds as builds
 use Rattle.graph.proofs.Graphs.{marked-no}
 use Rattle.detector.proofs.Measure.{nothing-waits}
-use Rattle.paper.specs.Nodes.{Set, _∉_, Pair, Node, edge, number, NodeNumbered}
+use Rattle.paper.specs.Nodes.{SetOf, _isNotIn_, Pair, Node, edge, number, NodeNumbered}
 use Rattle.paper.specs.Algorithm2.{DifferenceGraph, Ended, line19, lone, whole, returned}
 use Rattle.paper.specs.Algorithm1.{Search}
 use Rattle.paper.specs.Returned.{IsGraph, IsCondition, Returned}
@@ -34,7 +34,7 @@ use Rattle.paper.proofs.Alone.{lone-graph, lone-condition}
 record Ends (R : Record) (G : DifferenceGraph) (Vδ : Pair → ℕ) : Type 0 where
   graph : IsGraph R G Vδ
   found : Found G
-  condition : {Q W : Set Node} → Search G Q W → ((n : Node) → n ∉ W) → IsCondition R G Q
+  condition : {Q W : SetOf Node} → Search G Q W → ((n : Node) → n isNotIn W) → IsCondition R G Q
 
 searched : {R : Record} {G : DifferenceGraph} {Vδ : Pair → ℕ} → IsGraph R G Vδ → NodeNumbered (G .n₀) → Found G
 searched {R} {G} g a = search-ends R G (g .edges) a (λ x e. g .kept x .0 e .0)

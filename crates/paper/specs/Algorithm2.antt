@@ -14,14 +14,14 @@ use Rattle.chart.specs.declared.places.NewPlace.{NewPlace}
 use Rattle.chart.specs.Charts.{Chart, start, size, to, operation, leaving}
 use Rattle.align.specs.declared.spots.Spot.{Spot}
 use Rattle.align.specs.Sets.{joined, holdsAll}
-use Rattle.paper.specs.Nodes.{Set, _∈_, _∉_, ∅, _∪_, _∖_, Pair, pair, Node, aligned, indicator, Edge, edge, onlyPlace, onlyPair, onlyEdge, onlyNode, withPlace, number}
+use Rattle.paper.specs.Nodes.{SetOf, _isIn_, _isNotIn_, emptySet, _plus_, _minus_, Pair, pair, Node, aligned, indicator, Edge, edge, onlyPlace, onlyPair, onlyEdge, onlyNode, withPlace, number}
 
 -- the variables of line 1. V_δ gives each pair a set of variables, as a number whose bit i tells of vi (align/specs/Sets.antt)
 pub record State : Type 0 where
-  pub waitlist : Set Pair
-  pub Nₗ : Set Pair
-  pub Eₗ : Set Edge
-  pub Δ : Set NewPlace
+  pub waitlist : SetOf Pair
+  pub Nₗ : SetOf Pair
+  pub Eₗ : SetOf Edge
+  pub Δ : SetOf NewPlace
   pub Vδ : Pair → ℕ
 
 -- lines 5 to 18, a parameter: from ℓ_1, V_δ of the pair and the operation op' of the edge to what PROCESS is called with, `none` for ℓ'_2 or
@@ -35,11 +35,11 @@ Choice = State → Pair → Type 0
 
 -- document 01's choice: "Take the lowest waiting pair"
 abbrev pub Lowest : Choice
-Lowest s n = (m : Pair) → m ∈ s .waitlist → number n ≤ number m
+Lowest s n = (m : Pair) → m isIn s .waitlist → number n ≤ number m
 
 -- line 3
 unfoldable pub popped : State → Pair → State
-popped s n = record { waitlist = s .waitlist ∖ onlyPair n; Nₗ = s .Nₗ; Eₗ = s .Eₗ; Δ = s .Δ; Vδ = s .Vδ }
+popped s n = record { waitlist = s .waitlist minus onlyPair n; Nₗ = s .Nₗ; Eₗ = s .Eₗ; Δ = s .Δ; Vδ = s .Vδ }
 
 -- ---- PROCESS((pred, g', succ), V_diff), lines 22 to 33
 -- lines 23 to 25: succ is in L'
@@ -47,11 +47,11 @@ unfoldable pub toPlace : State → Pair → ℕ → NewPlace → State
 toPlace s pred g succ =
     record {
       -- line 24
-      Δ = s .Δ ∪ onlyPlace succ;
-      Eₗ = s .Eₗ ∪ onlyEdge (edge pred g (indicator succ));
+      Δ = s .Δ plus onlyPlace succ;
+      Eₗ = s .Eₗ plus onlyEdge (edge pred g (indicator succ));
       -- line 25
-      Nₗ = s .Nₗ ∖ withPlace succ;
-      waitlist = s .waitlist ∖ withPlace succ;
+      Nₗ = s .Nₗ minus withPlace succ;
+      waitlist = s .waitlist minus withPlace succ;
       Vδ = s .Vδ;
     }
 
@@ -71,7 +71,7 @@ module _ (old new : Chart) where
 
   -- line 1. Document 01: "Waiting: node 0, set empty, in the graph, even where place 0 is the old alarm."
   unfoldable pub begun : State
-  begun = record { waitlist = onlyPair (pair ℓ₀ ℓ₀′); Nₗ = onlyPair (pair ℓ₀ ℓ₀′); Eₗ = ∅; Δ = ∅; Vδ = λ n. 0 }
+  begun = record { waitlist = onlyPair (pair ℓ₀ ℓ₀′); Nₗ = onlyPair (pair ℓ₀ ℓ₀′); Eₗ = emptySet; Δ = emptySet; Vδ = λ n. 0 }
 
   -- the test of line 29: succ is not in L × Δ, not in {ℓ_err} × L', and not in N_l or V_diff is not within V_δ(succ)
   unfoldable pub line29 : State → Pair → ℕ → Bool
@@ -82,12 +82,12 @@ module _ (old new : Chart) where
   toPair s pred g succ v =
       record {
         -- lines 29 and 30
-        waitlist = elim (line29 s succ v) [ true ↦ s .waitlist ∪ onlyPair succ | false ↦ s .waitlist ];
+        waitlist = elim (line29 s succ v) [ true ↦ s .waitlist plus onlyPair succ | false ↦ s .waitlist ];
         -- lines 31 and 32, where succ is not in L × Δ
-        Nₗ = elim (s .Δ (succ .new)) [ true ↦ s .Nₗ | false ↦ s .Nₗ ∪ onlyPair succ ];
+        Nₗ = elim (s .Δ (succ .new)) [ true ↦ s .Nₗ | false ↦ s .Nₗ plus onlyPair succ ];
         Vδ = λ n. elim (not (s .Δ (succ .new)) && onlyPair succ n) [ true ↦ joined (s .Vδ n) v | false ↦ s .Vδ n ];
         -- line 33
-        Eₗ = s .Eₗ ∪ onlyEdge (edge pred g (aligned succ));
+        Eₗ = s .Eₗ plus onlyEdge (edge pred g (aligned succ));
         Δ = s .Δ;
       }
 
@@ -123,40 +123,40 @@ module _ (old new : Chart) where
     -- the states that the loop of line 2 can come to, where line 3 pops waiting pairs of this choice
     pub data Run (line3 : Choice) : State → Type 0 where
       line1 : Run line3 begun
-      lines3to18 : {s t : State} (n : Pair) → Run line3 s → n ∈ s .waitlist → line3 s n
+      lines3to18 : {s t : State} (n : Pair) → Run line3 s → n isIn s .waitlist → line3 s n
           → ForEach (popped s n) n (size (edges (n .new))) t → Run line3 t
 
 -- line 2: the waitlist is empty
 abbrev pub Ended : State → Type 0
-Ended s = (n : Pair) → n ∉ s .waitlist
+Ended s = (n : Pair) → n isNotIn s .waitlist
 
 -- ---- lines 19 to 21: the difference graph that is returned
 -- "A DG(P, P') = (N, E, n_0, Δ)" (Definition 4)
 pub record DifferenceGraph : Type 1 where
-  pub N : Set Node
+  pub N : SetOf Node
   pub E : Edge → Type 0
   pub n₀ : Node
-  pub Δ : Set Node
+  pub Δ : SetOf Node
 
 -- N_l ∪ Δ, and Δ as nodes
-unfoldable pub nodes : State → Set Node
+unfoldable pub nodes : State → SetOf Node
 nodes s (aligned n) = s .Nₗ n
 nodes s (indicator q) = s .Δ q
 
-unfoldable pub indicators : State → Set Node
+unfoldable pub indicators : State → SetOf Node
 indicators s (aligned n) = false
 indicators s (indicator q) = s .Δ q
 
 -- line 20: n' ∈ Δ ∧ ∃ (n, g, (·, n')) ∈ E_l
 abbrev pub Replaced : State → Pair → ℕ → Node → Type 0
 Replaced s n r (aligned m) = ⊥
-Replaced s n r (indicator q) = (q ∈ s .Δ) × ((p : OldPlace) × (edge n r (aligned (pair p q)) ∈ s .Eₗ))
+Replaced s n r (indicator q) = (q isIn s .Δ) × ((p : OldPlace) × (edge n r (aligned (pair p q)) isIn s .Eₗ))
 
 -- line 20. Document 01: "At the end a target whose new place is kept becomes that kept node."
 pub record Line20 (s : State) (e : Edge) : Type 0 where
-  pub from : e .pred ∈ s .Nₗ
-  pub to : e .succ ∈ nodes s
-  pub edge : (e ∈ s .Eₗ) ⊎ Replaced s (e .pred) (e .row) (e .succ)
+  pub from : e .pred isIn s .Nₗ
+  pub to : e .succ isIn nodes s
+  pub edge : (e isIn s .Eₗ) ⊎ Replaced s (e .pred) (e .row) (e .succ)
 
 module _ (old new : Chart) where
   -- the test of line 19: ℓ'_0 ∈ Δ ∨ (ℓ'_0 = ℓ'_err ∧ ℓ_0 ≠ ℓ_err)

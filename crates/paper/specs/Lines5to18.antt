@@ -16,7 +16,7 @@ use Rattle.chart.specs.Charts.{Chart, size, from, operation}
 use Rattle.chart.specs.Charts as charts
 use Rattle.align.specs.declared.spots.Spot.{Spot}
 use Rattle.align.specs.Sets.{bit, readSet}
-use Rattle.paper.specs.Nodes.{Set, _∈_, ∅, _∪_}
+use Rattle.paper.specs.Nodes.{SetOf, _isIn_, emptySet, _plus_}
 
 -- ---- sets of the variables v0 to v63: "bit i for vi"
 abbrev pub Has : ℕ → ℕ → Type 0
@@ -37,7 +37,7 @@ abbrev pub IsWithout : ℕ → ℕ → ℕ → Type 0
 IsWithout s v t = (i : ℕ) → i < 64 → Has t i ↔ (Has s i × (i ≢ v))
 
 -- {ℓ}
-unfoldable pub onlyOld : OldPlace → Set OldPlace
+unfoldable pub onlyOld : OldPlace → SetOf OldPlace
 onlyOld p q = eqb (p .0) (q .0)
 
 module _ (old : Chart) where
@@ -56,10 +56,10 @@ module _ (old : Chart) where
     pub assignment : isAssignment opₐ ≡ true
 
   -- lines 12 to 14: ℓ_p and V_diff after some turns of the loop, and the places where ℓ_p has been before
-  pub data Loop (ℓ₁ : OldPlace) (Vδ : ℕ) : Set OldPlace → OldPlace → ℕ → Type 0 where
-    line12 : Loop ℓ₁ Vδ ∅ ℓ₁ Vδ
-    line14 : {been : Set OldPlace} {ℓₚ ℓₛ : OldPlace} {Vdiff Vdiff′ : ℕ} {opₐ : Operation}
-        → Loop ℓ₁ Vδ been ℓₚ Vdiff → Line13 ℓₚ opₐ ℓₛ → IsWith Vdiff (opₐ .a) Vdiff′ → Loop ℓ₁ Vδ (been ∪ onlyOld ℓₚ) ℓₛ Vdiff′
+  pub data Loop (ℓ₁ : OldPlace) (Vδ : ℕ) : SetOf OldPlace → OldPlace → ℕ → Type 0 where
+    line12 : Loop ℓ₁ Vδ emptySet ℓ₁ Vδ
+    line14 : {been : SetOf OldPlace} {ℓₚ ℓₛ : OldPlace} {Vdiff Vdiff′ : ℕ} {opₐ : Operation}
+        → Loop ℓ₁ Vδ been ℓₚ Vdiff → Line13 ℓₚ opₐ ℓₛ → IsWith Vdiff (opₐ .a) Vdiff′ → Loop ℓ₁ Vδ (been plus onlyOld ℓₚ) ℓₛ Vdiff′
 
   module _ (ℓ₁ : OldPlace) (Vδ : ℕ) (op′ : Operation) where
     -- lines 5 and 6: op' is assignment, and (ℓ_1, op', ℓ_2) ∈ G
@@ -70,7 +70,7 @@ module _ (old : Chart) where
     -- lines 11 to 14: op' is an assumption, and the loop has ended
     pub record Lines11to14 (ℓₚ : OldPlace) (Vdiff : ℕ) : Type 0 where
       pub assumption : isAssignment op′ ≡ false
-      pub been : Set OldPlace
+      pub been : SetOf OldPlace
       pub loop : Loop ℓ₁ Vδ been ℓₚ Vdiff
       pub ends : (opₐ : Operation) (ℓₛ : OldPlace) → Line13 ℓₚ opₐ ℓₛ → ⊥
 
@@ -103,5 +103,5 @@ module _ (old : Chart) where
       line18 : {ℓₚ : OldPlace} {Vdiff : ℕ}
           → Lines11to14 ℓₚ Vdiff → ((op : Operation) (ℓ₂ : OldPlace) → Line15 ℓₚ op ℓ₂ → ⊥) → Lines5to18 (to ℓₚ Vdiff)
       -- document 01's cut of the loop, which need not end: "Coming to a place twice here is a failed step."
-      line13-cut : {been : Set OldPlace} {ℓₚ : OldPlace} {Vdiff : ℕ}
-          → isAssignment op′ ≡ false → Loop ℓ₁ Vδ been ℓₚ Vdiff → ℓₚ ∈ been → Lines5to18 none
+      line13-cut : {been : SetOf OldPlace} {ℓₚ : OldPlace} {Vdiff : ℕ}
+          → isAssignment op′ ≡ false → Loop ℓ₁ Vδ been ℓₚ Vdiff → ℓₚ isIn been → Lines5to18 none

@@ -7,29 +7,29 @@ use Rattle.chart.specs.declared.places.OldPlace.{OldPlace}
 use Rattle.chart.specs.declared.places.NewPlace.{NewPlace}
 use Rattle.chart.specs.Places.{pairNumber, keptNumber, oldOf, newOf}
 
--- ---- a set, by its test of membership
-abbrev pub Set : Type 0 → Type 0
-Set A = A → Bool
+-- ---- a set, by its test of membership; and the source's ∈, ∉, ∅, ∪ and \
+abbrev pub SetOf : Type 0 → Type 0
+SetOf A = A → Bool
 
-infix 40 _∈_
-infix 40 _∉_
-infixl 60 _∪_
-infixl 60 _∖_
+infix 40 _isIn_
+infix 40 _isNotIn_
+infixl 60 _plus_
+infixl 60 _minus_
 module _ {A : Type 0} where
-  abbrev pub _∈_ : A → Set A → Type 0
-  _∈_ a s = s a ≡ true
+  abbrev pub _isIn_ : A → SetOf A → Type 0
+  _isIn_ a s = s a ≡ true
 
-  abbrev pub _∉_ : A → Set A → Type 0
-  _∉_ a s = s a ≡ false
+  abbrev pub _isNotIn_ : A → SetOf A → Type 0
+  _isNotIn_ a s = s a ≡ false
 
-  abbrev pub ∅ : Set A
-  ∅ a = false
+  abbrev pub emptySet : SetOf A
+  emptySet a = false
 
-  abbrev pub _∪_ : Set A → Set A → Set A
-  _∪_ s t a = s a || t a
+  abbrev pub _plus_ : SetOf A → SetOf A → SetOf A
+  _plus_ s t a = s a || t a
 
-  abbrev pub _∖_ : Set A → Set A → Set A
-  _∖_ s t a = s a && not (t a)
+  abbrev pub _minus_ : SetOf A → SetOf A → SetOf A
+  _minus_ s t a = s a && not (t a)
 
 -- ---- nodes and edges
 -- (ℓ, ℓ'), a member of L × L'
@@ -55,22 +55,22 @@ abbrev pub edge : Pair → ℕ → Node → Edge
 edge n r x = record { pred = n; row = r; succ = x }
 
 -- ---- {n}, and {(·, ℓ')}
-unfoldable pub onlyPlace : NewPlace → Set NewPlace
+unfoldable pub onlyPlace : NewPlace → SetOf NewPlace
 onlyPlace p q = eqb (p .0) (q .0)
 
-unfoldable pub onlyPair : Pair → Set Pair
+unfoldable pub onlyPair : Pair → SetOf Pair
 onlyPair m n = eqb (m .old .0) (n .old .0) && eqb (m .new .0) (n .new .0)
 
-unfoldable pub onlyNode : Node → Set Node
+unfoldable pub onlyNode : Node → SetOf Node
 onlyNode (aligned m) (aligned n) = onlyPair m n
 onlyNode (aligned m) (indicator q) = false
 onlyNode (indicator p) (aligned n) = false
 onlyNode (indicator p) (indicator q) = onlyPlace p q
 
-unfoldable pub onlyEdge : Edge → Set Edge
+unfoldable pub onlyEdge : Edge → SetOf Edge
 onlyEdge d e = onlyPair (d .pred) (e .pred) && (eqb (d .row) (e .row) && onlyNode (d .succ) (e .succ))
 
-unfoldable pub withPlace : NewPlace → Set Pair
+unfoldable pub withPlace : NewPlace → SetOf Pair
 withPlace q n = onlyPlace q (n .new)
 
 -- ---- "Node numbers: the pair (old p, new q) is 64 × p + q; the kept new place q is 4,096 + q."

@@ -5,7 +5,7 @@ use mathlib.Core.Logic.{_⊎_, _≢_, _↔_}
 use Prim.Native.Nat.{ℕ, _<_}
 use Rattle.chart.specs.Charts.{Chart}
 use Rattle.checker.specs.Records.{Record, mark, setAt, target}
-use Rattle.paper.specs.Nodes.{Set, _∈_, _∉_, Pair, Node, aligned, Edge, edge, number, nodeNumber, pairOf, Numbered, NodeNumbered}
+use Rattle.paper.specs.Nodes.{SetOf, _isIn_, _isNotIn_, Pair, Node, aligned, Edge, edge, number, nodeNumber, pairOf, Numbered, NodeNumbered}
 use Rattle.paper.specs.Lines5to18.{Lines5to18}
 use Rattle.paper.specs.Algorithm2.{State, DifferenceGraph, Lowest, Run, Ended, returned}
 use Rattle.paper.specs.Algorithm1.{Search, F, Transition}
@@ -25,17 +25,17 @@ module _ (R : Record) where
   -- the difference graph G, with the sets V_δ
   pub record IsGraph (G : DifferenceGraph) (Vδ : Pair → ℕ) : Type 0 where
     pub start : R .start ≡ nodeNumber (G .n₀)
-    pub nodes : (x : Node) → (x ∈ G .N) ↔ Marked (λ m. m ≢ 0) x
-    pub kept : (x : Node) → (x ∈ G .Δ) ↔ Marked (λ m. m ≡ 2) x
+    pub nodes : (x : Node) → (x isIn G .N) ↔ Marked (λ m. m ≢ 0) x
+    pub kept : (x : Node) → (x isIn G .Δ) ↔ Marked (λ m. m ≡ 2) x
     pub edges : (e : Edge) → G .E e ↔ Targeted e
     -- V_δ on N_l, and 0 elsewhere
-    pub sets : (n : Pair) → aligned n ∈ G .N → setAt (R .graph) (number n) ≡ Vδ n
-    pub bare : (n : Pair) → Numbered n → aligned n ∉ G .N → setAt (R .graph) (number n) ≡ 0
+    pub sets : (n : Pair) → aligned n isIn G .N → setAt (R .graph) (number n) ≡ Vδ n
+    pub bare : (n : Pair) → Numbered n → aligned n isNotIn G .N → setAt (R .graph) (number n) ≡ 0
 
   -- the condition that lines 6 and 7 make of it with Q
-  pub record IsCondition (G : DifferenceGraph) (Q : Set Node) : Type 0 where
+  pub record IsCondition (G : DifferenceGraph) (Q : SetOf Node) : Type 0 where
     -- marks 1 and 2 are Q, mark 3 is F
-    pub open-or-kept : (x : Node) → (x ∈ Q) ↔ Marked (λ m. (m ≡ 1) ⊎ (m ≡ 2)) x
+    pub open-or-kept : (x : Node) → (x isIn Q) ↔ Marked (λ m. (m ≡ 1) ⊎ (m ≡ 2)) x
     pub covered : (x : Node) → F G Q x ↔ Marked (λ m. m ≡ 3) x
     -- "The condition's transitions are the targets of open pairs": those of line 7; and each target of an open pair is one, 65535 excepted
     pub transitions : (e : Edge) → Transition G Q e ↔ (Targeted e × (mark (R .graph) (number (e .pred)) ≡ 1))
@@ -49,8 +49,8 @@ pub record Returned (old new : Chart) (R : Record) : Type 0 where
   pub ran : Run old new (Lines5to18 old) Lowest state
   pub ended : Ended state
   pub graph : IsGraph R (returned old new state) (state .Vδ)
-  pub Q : Set Node
-  pub waitlist : Set Node
+  pub Q : SetOf Node
+  pub waitlist : SetOf Node
   pub searched : Search (returned old new state) Q waitlist
-  pub emptied : (n : Node) → n ∉ waitlist
-  pub condition : {Q W : Set Node} → Search (returned old new state) Q W → ((n : Node) → n ∉ W) → IsCondition R (returned old new state) Q
+  pub emptied : (n : Node) → n isNotIn waitlist
+  pub condition : {Q W : SetOf Node} → Search (returned old new state) Q W → ((n : Node) → n isNotIn W) → IsCondition R (returned old new state) Q
