@@ -1,10 +1,12 @@
 -- The refusal that is due, step by step, as the code comes upon it. Assumes nothing.
-use mathlib.Core.Path.{_≡_, sym, ap, _∙_}
+use mathlib.Core.Path.{_≡_, refl, sym, ap, _∙_}
 use mathlib.Core.Bool.{Bool, true, false}
-use mathlib.Core.Option.{Option, none, some}
+use mathlib.Core.Option.{Option, none, some, Option·none-ne-some, Option·some-injective}
+use Prim.Native.Nat.{ℕ}
 use lib.ListN.{length}
 use Rattle.base.specs.Options.{orElse, missing, firstOf}
-use Rattle.base.specs.Refusals.{Refusal, Fault}
+use Rattle.base.specs.declared.Refusal.{Refusal}
+use Rattle.base.specs.Refusals.{sole}
 use Rattle.base.specs.Says.{bool, Says}
 use Rattle.base.proofs.Options.{gone, picked-first, picked-second}
 use Rattle.base.proofs.Says.{says}
@@ -13,33 +15,42 @@ use Rattle.chart.specs.Charts.{Chart}
 use Rattle.chart.specs.Faultless.{FaultlessChart}
 use Rattle.chart.specs.Faults.{fault}
 use Rattle.chart.proofs.Faultless.{faultless}
+use Rattle.checker.specs.declared.records.Checked.{Checked}
+use Rattle.checker.specs.declared.records.Checked.the-variants.{Passed, Refused}
 use Rattle.checker.specs.Records.{Record}
 use Rattle.checker.specs.Rules.{headOf, shaped, startFits, Admitted}
-use Rattle.checker.specs.Checks.{sized, inChart, pairFault, ruleFault, recordFault, refusal}
+use Rattle.checker.specs.Checks.{told, sized, inChart, ruleAt, pairFault, broken, ruleFault, recordFault, refusal}
 use Rattle.checker.specs.Promise.{Words, Promise}
 use Rattle.checker.proofs.Passed.{no-fault, unrefused}
 use Rattle.checker.proofs.Demand3.{demand-3-first}
 
+-- answers that say the same are the same
+pub told-one : (x y : Checked) → told x ≡ told y → x ≡ y
+told-one Passed Passed e = refl
+told-one Passed (Refused s) e = absurd (Option·none-ne-some s e)
+told-one (Refused r) Passed e = absurd (Option·none-ne-some r (sym e))
+told-one (Refused r) (Refused s) e = ap Refused (Option·some-injective r s e)
+
 module _ (old new : Chart) (R : Record) where
   -- ---- refusal 32
   module _ {b : Bool} (e : b ≡ bool (startFits (headOf old) (headOf new) (R .start) (R .graph .marks))) where
-    pub start-refused : b ≡ false → some (record { number = 32; chart = 0; position = 8192 }) ≡ ruleFault old new R
-    unfolding ruleFault
-    start-refused u = rw (sym e ∙ u)
+    pub start-broken : b ≡ false → some 8192 ≡ broken old new R
+    unfolding broken
+    start-broken u = rw (sym e ∙ u)
 
-    pub targets-judged : {r : Option Refusal} → b ≡ true → r ≡ firstOf 4096 (pairFault old new (R .graph)) → r ≡ ruleFault old new R
-    unfolding ruleFault
+    pub targets-judged : {r : Option ℕ} → b ≡ true → r ≡ firstOf 4096 (pairFault old new (R .graph)) → r ≡ broken old new R
+    unfolding broken
     targets-judged u h = rw (sym e ∙ u) h
 
   -- ---- refusal 31
   module _ {b : Bool} (e : b ≡ bool (shaped (headOf old) (headOf new) (R .start) (R .graph .marks) (R .graph .targets))) where
-    pub shape-refused : b ≡ false → some (record { number = 31; chart = 0; position = 0 }) ≡ recordFault old new R
+    pub shape-refused : b ≡ false → some (sole 31 0) ≡ recordFault old new R
     unfolding recordFault
     shape-refused u = rw (sym e ∙ u)
 
-    pub rules-judged : {r : Option Refusal} → b ≡ true → r ≡ ruleFault old new R → r ≡ recordFault old new R
-    unfolding recordFault
-    rules-judged u h = rw (sym e ∙ u) h
+    pub rules-judged : {r : Option ℕ} → b ≡ true → r ≡ broken old new R → ruleAt r ≡ recordFault old new R
+    unfolding recordFault ruleFault
+    rules-judged u h = rw (sym e ∙ u) (ap ruleAt h)
 
     -- what the rules are judged upon
     pub judged : b ≡ true → FaultlessChart old → FaultlessChart new → length (R .graph .marks) ≡ 4160 → length (R .graph .targets) ≡ 8192 → length (R .graph .sets) ≡ 4096
@@ -57,7 +68,7 @@ module _ (old new : Chart) (R : Record) where
 
   -- ---- 21, and the charts
   module _ {b : Bool} (e : b ≡ bool (sized (old .table) (new .table) (R .graph))) where
-    pub lengths-refused : b ≡ false → some (record { number = 21; chart = 0; position = 0 }) ≡ refusal old new R
+    pub lengths-refused : b ≡ false → some (sole 21 0) ≡ refusal old new R
     unfolding refusal
     lengths-refused u = rw (sym e ∙ u)
 
@@ -81,7 +92,7 @@ module _ (old new : Chart) (R : Record) where
       unfolding sized
       sets-sized = lengths .1 .1 .0
 
-      module _ {o : Option Refusal} {f : Option Fault} {p : Bool} (i : o ≡ inChart 0 f) (j : f ≡ fault old) (m : p ≡ missing o) where
+      module _ {o : Option Refusal} {f : Option Refusal} {p : Bool} (i : o ≡ inChart 0 f) (j : f ≡ fault old) (m : p ≡ missing o) where
         in-old : o ≡ inChart 0 (fault old)
         in-old = i ∙ ap (inChart 0) j
 
@@ -92,7 +103,7 @@ module _ (old new : Chart) (R : Record) where
         unfolding sized
         old-sound v = faultless old (unrefused old (lengths .1 .1 .1 .0) (no-fault 0 (fault old) (gone in-old m v)))
 
-        module _ {o′ : Option Refusal} {f′ : Option Fault} {p′ : Bool} (v : p ≡ true) (i′ : o′ ≡ inChart 1 f′) (j′ : f′ ≡ fault new) (m′ : p′ ≡ missing o′) where
+        module _ {o′ : Option Refusal} {f′ : Option Refusal} {p′ : Bool} (v : p ≡ true) (i′ : o′ ≡ inChart 1 f′) (j′ : f′ ≡ fault new) (m′ : p′ ≡ missing o′) where
           in-new : o′ ≡ inChart 1 (fault new)
           in-new = i′ ∙ ap (inChart 1) j′
 

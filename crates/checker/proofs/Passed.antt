@@ -11,7 +11,8 @@ use borrow.Author.Tests.{eq-eqb, ne-eqb, lt-ltb, not-false}
 use lib.Dec.{ltb}
 use lib.ListN.{length, List·getD-eq-default}
 use Rattle.base.specs.Options.{when, firstOf}
-use Rattle.base.specs.Refusals.{Refusal, refusedIf, Fault}
+use Rattle.base.specs.declared.Refusal.{Refusal}
+use Rattle.base.specs.Refusals.{due}
 use Rattle.base.specs.Says.{Test, bool, Says}
 use Rattle.base.proofs.Options.{both-missing, not-due, none-of}
 use Rattle.base.proofs.Says.{says}
@@ -23,7 +24,7 @@ use Rattle.chart.specs.Places.{newOf}
 use Rattle.chart.proofs.Faultless.{faultless}
 use Rattle.checker.specs.Records.{Record, mark}
 use Rattle.checker.specs.Rules.{headOf, markFits, marksFit, shaped, startFits, rowFits}
-use Rattle.checker.specs.Checks.{sized, inChart, targetFault, rowsFault, pairFault, ruleFault, recordFault, refusal}
+use Rattle.checker.specs.Checks.{sized, inChart, ruleAt, targetFault, rowsFault, pairFault, broken, ruleFault, recordFault, refusal}
 
 pub record Passed (old new : Chart) (R : Record) : Type 0 where
   pub old-faultless : FaultlessChart old
@@ -34,12 +35,16 @@ pub record Passed (old new : Chart) (R : Record) : Type 0 where
   pub rules : (m k : ℕ) → m < 4096 → mark (R .graph) m ≢ 0 → k < 2 → k < size (leaving (new .table) (newOf m .0))
       → Says (rowFits old new (R .graph) m (leaving (new .table) (newOf m .0)) k)
 
-pub no-fault : (chart : ℕ) (o : Option Fault) → inChart chart o ≡ none → o ≡ none
+pub no-fault : (chart : ℕ) (o : Option Refusal) → inChart chart o ≡ none → o ≡ none
 no-fault chart none e = refl
 no-fault chart (some f) e = let z : _≡_ {A = ℕ} 0 1 = cc in absurd (omega arith)
 
+no-rule : (o : Option ℕ) → ruleAt o ≡ none → o ≡ none
+no-rule none e = refl
+no-rule (some i) e = let z : _≡_ {A = ℕ} 0 1 = cc in absurd (omega arith)
+
 -- a test whose failure is not due has passed
-passed-test : (t : Test) (r : Refusal) → when (not (bool t)) r ≡ none → Says t
+passed-test : {A : Type 0} (t : Test) (r : A) → when (not (bool t)) r ≡ none → Says t
 passed-test t r e = says t (T-true (not-false (bool t) (not-due (not (bool t)) r e)))
 
 pub unrefused : (C : Chart) → length (C .table) % 6 ≡ 0 → fault C ≡ none → chartRefusal C ≡ none
@@ -54,13 +59,13 @@ module _ (old new : Chart) (R : Record) (e : refusal old new R ≡ none) where
   begins = startFits (headOf old) (headOf new) (R .start) (R .graph .marks)
 
   parts : Says (sized (old .table) (new .table) (R .graph)) × (fault old ≡ none) × (fault new ≡ none) × Says shape × Says begins × (firstOf 4096 (pairFault old new (R .graph)) ≡ none)
-  unfolding refusal recordFault ruleFault
+  unfolding refusal recordFault ruleFault broken
   parts =
-      let a = both-missing (refusedIf (not (bool (sized (old .table) (new .table) (R .graph)))) 21 0 0) _ e in
+      let a = both-missing (due (not (bool (sized (old .table) (new .table) (R .graph)))) 21 0) _ e in
       let b = both-missing (inChart 0 (fault old)) _ (a .1) in
       let c = both-missing (inChart 1 (fault new)) _ (b .1) in
-      let d = both-missing (refusedIf (not (bool shape)) 31 0 0) _ (c .1) in
-      let f = both-missing (refusedIf (not (bool begins)) 32 0 8192) (firstOf 4096 (pairFault old new (R .graph))) (d .1) in (
+      let d = both-missing (due (not (bool shape)) 31 0) _ (c .1) in
+      let f = both-missing (when (not (bool begins)) 8192) (firstOf 4096 (pairFault old new (R .graph))) (no-rule (broken old new R) (d .1)) in (
         passed-test (sized (old .table) (new .table) (R .graph)) _ (a .0),
         no-fault 0 (fault old) (b .0),
         no-fault 1 (fault new) (c .0),

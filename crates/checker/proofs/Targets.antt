@@ -11,7 +11,6 @@ use borrow.Author.Tests.{eq-eqb, ne-eqb, lt-ltb, le-ltb}
 use lib.Dec.{eqb}
 use lib.ListN.{getD}
 use Rattle.base.specs.Options.{missing, firstOf}
-use Rattle.base.specs.Refusals.{Refusal}
 use Rattle.base.specs.Says.{bool, Says}
 use Rattle.base.specs.Tests.{within}
 use Rattle.base.proofs.Options.{missing-none, none-of, none-everywhere}
@@ -176,7 +175,7 @@ module _ (old new : Chart) (G : Graph) (m : ℕ) (rows : List ℕ) (k : ℕ) whe
     unfolding targetFault
     row-fine u = rw (lt-ltb k (size rows) l, sym e ∙ u)
 
-    pub row-fails : r ≡ false → some (record { number = 32; chart = 0; position = index m k }) ≡ targetFault old new G m rows k
+    pub row-fails : r ≡ false → some (index m k) ≡ targetFault old new G m rows k
     unfolding targetFault
     row-fails u = rw (lt-ltb k (size rows) l, sym e ∙ u)
 
@@ -188,7 +187,7 @@ module _ (old new : Chart) (G : Graph) (m : ℕ) where
   unfolding pairFault
   absent e = sym (pick-true (eqb (mark G m) 0) none (rowsFault old new G m (leaving (new .table) (newOf m .0))) (eq-eqb (mark G m) 0 e))
 
-  pub present : {q : NewPlace} {rows : List ℕ} {r : Option Refusal} → (mark G m ≡ 0 → ⊥) → q ≡ newOf m → rows ≡ leaving (new .table) (q .0)
+  pub present : {q : NewPlace} {rows : List ℕ} {r : Option ℕ} → (mark G m ≡ 0 → ⊥) → q ≡ newOf m → rows ≡ leaving (new .table) (q .0)
       → r ≡ rowsFault old new G m rows → r ≡ pairFault old new G m
   unfolding pairFault
   present n e h f =
@@ -205,7 +204,7 @@ unfolding firstOf rowsFault
 both-rows old new G m rows = refl
 
 -- the walk over the pairs: one that has no fault, and absent ones after it
-pub passed-over : (old new : Chart) (G : Graph) (m r : ℕ) {o : Option Refusal} → firstOf m (pairFault old new G) ≡ none → o ≡ pairFault old new G m
+pub passed-over : (old new : Chart) (G : Graph) (m r : ℕ) {o : Option ℕ} → firstOf m (pairFault old new G) ≡ none → o ≡ pairFault old new G m
     → missing o ≡ true → ((i : ℕ) → m < i → i < r → mark G i ≡ 0) → firstOf r (pairFault old new G) ≡ none
 passed-over old new G m r {o} e h t a = none-everywhere (pairFault old new G) r (λ i l. go i l (decLt i m) (ℕ-discrete i m))
   where

@@ -1,8 +1,10 @@
 // The check of a record against two charts, and what a record that passes it promises. Here stands the entry point, which refuses bad
 // input itself; `inner` is what the crates above may call once charts and lengths are known to be right.
 ghost use mathlib.Core.Path.{_≡_};
-ghost use mathlib.Core.Option.{none};
+ghost use mathlib.Core.Option.{none, some};
 ghost use lib.ListN.{length};
+ghost use Rattle.base.specs.Options.{missing};
+ghost use Rattle.base.specs.Refusals.{sole};
 ghost use Rattle.base.specs.Says.{bool};
 ghost use Rattle.chart.specs.Charts.{charted};
 ghost use Rattle.chart.specs.Faultless.{FaultlessChart};
@@ -10,17 +12,35 @@ ghost use Rattle.chart.specs.Faults.{told as chartTold};
 ghost use Rattle.checker.specs.Records.{graphOf, recordOf};
 ghost use Rattle.checker.specs.Checks.{told, sized, inChart, recordFault, refusal};
 ghost use Rattle.checker.specs.Promise.{Promise};
+use align::spots::Found;
+use base::Refusal;
+use base::sole;
 use chart::charts::Head;
 use chart::charts::Judged;
 use chart::inner::faults::fault;
 use chart::inner::rows;
-use inner::rules::is_passed;
-use inner::rules::rule_fault;
+use inner::rules::broken;
 use inner::shape::shaped;
 use records::Checked;
 
 pub mod records; // records.rt: what the check answers
 pub mod inner; // inner.rt: for the crates above
+
+fn is_passed(c: Checked) -> bool
+    ensures { λ r. ⌜ r ≡ missing (told c) ⌝ }
+{
+    match c {
+        Checked::Passed => true,
+        Checked::Refused(_) => false,
+    }
+}
+
+// The refusal with this number and position, of no chart that could be named.
+fn refused(number: u32, position: usize) -> Checked
+    ensures { λ r. ⌜ told r ≡ some (sole number position) ⌝ }
+{
+    Checked::Refused(sole(number, position))
+}
 
 // Whether every lent length is the stated one.
 fn sized(old_rows: &[u32], new_rows: &[u32], marks: &[u8], targets: &[u16], sets: &[u64]) -> bool
@@ -41,31 +61,17 @@ fn sized(old_rows: &[u32], new_rows: &[u32], marks: &[u8], targets: &[u16], sets
     new_rows.len() % 6 == 0
 }
 
-// A fault of the old chart.
-fn in_old(j: Judged) -> Checked
-    ensures { λ r. ⌜ told r ≡ inChart 0 (chartTold j) ⌝ }
+// A fault of the old chart, 0, or the new one, 1.
+fn in_chart(chart: u32, j: Judged) -> Checked
+    ensures { λ r. ⌜ told r ≡ inChart chart (chartTold j) ⌝ }
 {
     match j {
         Judged::Faultless => Checked::Passed,
-        Judged::Ragged => Checked::OldFault {
-            number: 21,
-            position: 0,
-        },
-        Judged::Faulty { number, position } => Checked::OldFault { number, position },
-    }
-}
-
-// A fault of the new chart.
-fn in_new(j: Judged) -> Checked
-    ensures { λ r. ⌜ told r ≡ inChart 1 (chartTold j) ⌝ }
-{
-    match j {
-        Judged::Faultless => Checked::Passed,
-        Judged::Ragged => Checked::NewFault {
-            number: 21,
-            position: 0,
-        },
-        Judged::Faulty { number, position } => Checked::NewFault { number, position },
+        Judged::Refused(r) => Checked::Refused(Refusal {
+            number: r.number,
+            chart,
+            position: r.position,
+        }),
     }
 }
 
@@ -86,10 +92,10 @@ fn record_fault<'a>(
     ensures { λ r. ⌜ told r ≡ recordFault (charted old (now («old_rows» .entry))) (charted new (now («new_rows» .entry))) (recordOf start (now (marks .entry)) (now (targets .entry)) (now (sets .entry))) ⌝ }
 {
     if !shaped(old, new, start, marks, targets) {
-        return Checked::Shape;
+        return refused(31, 0);
     }
     let index = rows::index(old_rows, new_rows);
-    rule_fault(
+    match broken(
         old,
         old_rows,
         new,
@@ -99,7 +105,10 @@ fn record_fault<'a>(
         marks,
         targets,
         sets,
-    )
+    ) {
+        Found::At(position) => refused(32, position),
+        Found::Nothing => Checked::Passed,
+    }
 }
 
 // The check: the refusal that is due, if any. What passes keeps the promise: a run of the new chart that reaches its alarm and that the
@@ -118,13 +127,13 @@ pub fn check<'a>(
     ensures promise { λ r. ⌜ (told r ≡ none → Promise (charted old (now («old_rows» .entry))) (charted new (now («new_rows» .entry))) (recordOf start (now (marks .entry)) (now (targets .entry)) (now (sets .entry)))) ⌝ }
 {
     if !sized(old_rows, new_rows, marks, targets, sets) {
-        return Checked::Lengths;
+        return refused(21, 0);
     }
-    let first = in_old(fault(old, old_rows));
+    let first = in_chart(0, fault(old, old_rows));
     if !is_passed(first) {
         return first;
     }
-    let second = in_new(fault(new, new_rows));
+    let second = in_chart(1, fault(new, new_rows));
     if !is_passed(second) {
         return second;
     }

@@ -1,4 +1,4 @@
-// All rules of refusal 32, in order: the start, then the targets by index.
+// All rules of refusal 32, in order: the start, then the targets by index. What is found is the position of the refusal.
 ghost use mathlib.Core.Path.{_≡_};
 ghost use Prim.Native.Nat.{ℕ, _+_, _<_, _≤_};
 ghost use lib.ListN.{length, getD};
@@ -7,37 +7,27 @@ ghost use Rattle.base.specs.Says.{bool};
 ghost use Rattle.chart.specs.Charts.{charted, leaving};
 ghost use Rattle.chart.specs.Lookup.{Indexed};
 ghost use Rattle.chart.specs.Places.{newOf};
+ghost use Rattle.align.specs.Steps.{toldFound};
 ghost use Rattle.checker.specs.Records.{graphOf, recordOf};
 ghost use Rattle.checker.specs.Rules.{startFits, Admitted};
 ghost use Rattle.checker.specs.Packed.{packed};
-ghost use Rattle.checker.specs.Checks.{told, targetFault, rowsFault, pairFault, ruleFault};
+ghost use Rattle.checker.specs.Checks.{targetFault, rowsFault, pairFault, broken};
 use crate::inner::shape::blank;
 use crate::inner::targets::row_fits;
-use crate::records::Checked;
 use align::inner::step::fair;
+use align::spots::Found;
 use chart::charts::Head;
 use chart::inner::pairs::new_of;
 use chart::inner::pairs::old_of;
 use chart::inner::rows::rows_of;
 use chart::places::Place;
 
-pub fn is_passed(c: Checked) -> bool
-    ensures { λ r. ⌜ r ≡ missing (told c) ⌝ }
+fn is_nothing(f: Found) -> bool
+    ensures { λ r. ⌜ r ≡ missing (toldFound f) ⌝ }
 {
-    match c {
-        Checked::Passed => true,
-        Checked::Lengths => false,
-        Checked::OldFault {
-            number: _,
-            position: _,
-        } => false,
-        Checked::NewFault {
-            number: _,
-            position: _,
-        } => false,
-        Checked::Shape => false,
-        Checked::Start => false,
-        Checked::Target(_) => false,
+    match f {
+        Found::At(_) => false,
+        Found::Nothing => true,
     }
 }
 
@@ -71,15 +61,15 @@ fn target_fault<'a>(
     m: usize,
     rows: &'a [u32],
     k: usize,
-) -> Checked
+) -> Found
     requires { ⌜ Admitted (charted old (now «old_rows»)) (charted new (now «new_rows»)) (graphOf (now marks) (now targets) (now sets)) ⌝ }
     requires { ⌜ Indexed (now «old_rows») (now «new_rows») (now index) ⌝ }
     requires { ⌜ (m < 4096) × (now rows ≡ leaving (now «new_rows») (newOf m .0)) × (k < 2) ⌝ }
-    ensures { λ r. ⌜ told r ≡ targetFault (charted old (now («old_rows» .entry))) (charted new (now («new_rows» .entry))) (graphOf (now (marks .entry)) (now (targets .entry)) (now (sets .entry))) m (now (rows .entry)) k ⌝ }
+    ensures { λ r. ⌜ toldFound r ≡ targetFault (charted old (now («old_rows» .entry))) (charted new (now («new_rows» .entry))) (graphOf (now (marks .entry)) (now (targets .entry)) (now (sets .entry))) m (now (rows .entry)) k ⌝ }
 {
     let n = rows.len() / 6;
     if n <= k {
-        return Checked::Passed;
+        return Found::Nothing;
     }
     if row_fits(
         old,
@@ -94,9 +84,9 @@ fn target_fault<'a>(
         rows,
         k,
     ) {
-        return Checked::Passed;
+        return Found::Nothing;
     }
-    Checked::Target(2 * m + k)
+    Found::At(2 * m + k)
 }
 
 // The rules for a pair's first and second row. One call in a loop, not two: the compiler then has it in place.
@@ -111,11 +101,11 @@ fn rows_fault<'a>(
     sets: &[u64],
     m: usize,
     rows: &'a [u32],
-) -> Checked
+) -> Found
     requires { ⌜ Admitted (charted old (now «old_rows»)) (charted new (now «new_rows»)) (graphOf (now marks) (now targets) (now sets)) ⌝ }
     requires { ⌜ Indexed (now «old_rows») (now «new_rows») (now index) ⌝ }
     requires { ⌜ (m < 4096) × (now rows ≡ leaving (now «new_rows») (newOf m .0)) ⌝ }
-    ensures { λ r. ⌜ told r ≡ rowsFault (charted old (now («old_rows» .entry))) (charted new (now («new_rows» .entry))) (graphOf (now (marks .entry)) (now (targets .entry)) (now (sets .entry))) m (now (rows .entry)) ⌝ }
+    ensures { λ r. ⌜ toldFound r ≡ rowsFault (charted old (now («old_rows» .entry))) (charted new (now («new_rows» .entry))) (graphOf (now (marks .entry)) (now (targets .entry)) (now (sets .entry))) m (now (rows .entry)) ⌝ }
 {
     let mut k = 0;
     while k < 2 {
@@ -132,12 +122,12 @@ fn rows_fault<'a>(
             rows,
             k,
         );
-        if !is_passed(f) {
+        if !is_nothing(f) {
             return f;
         }
         k += 1;
     }
-    Checked::Passed
+    Found::Nothing
 }
 
 // The rules for a pair, if it is present.
@@ -151,14 +141,14 @@ fn pair_fault<'a>(
     targets: &[u16],
     sets: &[u64],
     m: usize,
-) -> Checked
+) -> Found
     requires { ⌜ Admitted (charted old (now «old_rows»)) (charted new (now «new_rows»)) (graphOf (now marks) (now targets) (now sets)) ⌝ }
     requires { ⌜ Indexed (now «old_rows») (now «new_rows») (now index) ⌝ }
     requires { ⌜ m < 4096 ⌝ }
-    ensures { λ r. ⌜ told r ≡ pairFault (charted old (now («old_rows» .entry))) (charted new (now («new_rows» .entry))) (graphOf (now (marks .entry)) (now (targets .entry)) (now (sets .entry))) m ⌝ }
+    ensures { λ r. ⌜ toldFound r ≡ pairFault (charted old (now («old_rows» .entry))) (charted new (now («new_rows» .entry))) (graphOf (now (marks .entry)) (now (targets .entry)) (now (sets .entry))) m ⌝ }
 {
     if marks[m] == 0 {
-        return Checked::Passed;
+        return Found::Nothing;
     }
     let rows = rows_of(old_rows, new_rows, index, Place::New(new_of(m)));
     rows_fault(
@@ -250,24 +240,24 @@ fn first_fault<'a>(
     marks: &[u8],
     targets: &[u16],
     sets: &[u64],
-) -> Checked
+) -> Found
     requires { ⌜ Admitted (charted old (now «old_rows»)) (charted new (now «new_rows»)) (graphOf (now marks) (now targets) (now sets)) ⌝ }
     requires { ⌜ Indexed (now «old_rows») (now «new_rows») (now index) ⌝ }
-    ensures { λ r. ⌜ told r ≡ firstOf 4096 (pairFault (charted old (now («old_rows» .entry))) (charted new (now («new_rows» .entry))) (graphOf (now (marks .entry)) (now (targets .entry)) (now (sets .entry)))) ⌝ }
+    ensures { λ r. ⌜ toldFound r ≡ firstOf 4096 (pairFault (charted old (now («old_rows» .entry))) (charted new (now («new_rows» .entry))) (graphOf (now (marks .entry)) (now (targets .entry)) (now (sets .entry)))) ⌝ }
 {
     let mut m = 0;
     while m < 4096 {
         let f = pair_fault(old, old_rows, new, new_rows, index, marks, targets, sets, m);
-        if !is_passed(f) {
+        if !is_nothing(f) {
             return f;
         }
         m = next_pair(marks, m);
     }
-    Checked::Passed
+    Found::Nothing
 }
 
-// The start before the targets.
-pub fn rule_fault<'a>(
+// The position of the first rule that fails: 8,192 for the start, else the lowest target index at fault.
+pub fn broken<'a>(
     old: Head,
     old_rows: &'a [u32],
     new: Head,
@@ -277,13 +267,13 @@ pub fn rule_fault<'a>(
     marks: &[u8],
     targets: &[u16],
     sets: &[u64],
-) -> Checked
+) -> Found
     requires { ⌜ Admitted (charted old (now «old_rows»)) (charted new (now «new_rows»)) (graphOf (now marks) (now targets) (now sets)) ⌝ }
     requires { ⌜ Indexed (now «old_rows») (now «new_rows») (now index) ⌝ }
-    ensures { λ r. ⌜ told r ≡ ruleFault (charted old (now («old_rows» .entry))) (charted new (now («new_rows» .entry))) (recordOf start (now (marks .entry)) (now (targets .entry)) (now (sets .entry))) ⌝ }
+    ensures { λ r. ⌜ toldFound r ≡ broken (charted old (now («old_rows» .entry))) (charted new (now («new_rows» .entry))) (recordOf start (now (marks .entry)) (now (targets .entry)) (now (sets .entry))) ⌝ }
 {
     if !start_fits(old, new, start, marks) {
-        return Checked::Start;
+        return Found::At(8192);
     }
     first_fault(old, old_rows, new, new_rows, index, marks, targets, sets)
 }

@@ -27,11 +27,11 @@ loop-holds c = (search needs, refl)
 pair-fault-requires : tie.Need-pair-fault-requires Inv-loop μ-loop
 pair-fault-requires c κs = search needs
 
-is-passed-requires : tie.Need-is-passed-requires Inv-loop μ-loop
-is-passed-requires c κs = search needs
+is-nothing-requires : tie.Need-is-nothing-requires Inv-loop μ-loop
+is-nothing-requires c κs = search needs
 
 returns : tie.Need-returns Inv-loop μ-loop
-returns c = c .before .before .pair-fault .ensures ∙ sym (first-at _ _ (c .before .before .before .before .loop .m) (c .before .before .before .loop-test .taken) (c .before .before .before .before .loop .inv .1) (sym (c .before .is-passed .ensures ∙ ap missing (c .before .before .pair-fault .ensures)) ∙ not-true _ (c .if1 .taken)))
+returns c = c .before .before .pair-fault .ensures ∙ sym (first-at _ _ (c .before .before .before .before .loop .m) (c .before .before .before .loop-test .taken) (c .before .before .before .before .loop .inv .1) (sym (c .before .is-nothing .ensures ∙ ap missing (c .before .before .pair-fault .ensures)) ∙ not-true _ (c .if1 .taken)))
 
 next-pair-requires : tie.Need-next-pair-requires Inv-loop μ-loop
 next-pair-requires c κs = (omega arith, omega arith)
@@ -40,7 +40,7 @@ loop-less : tie.Need-loop-less Inv-loop μ-loop
 loop-less c = omega arith
 
 loop-again : tie.Need-loop-again Inv-loop μ-loop
-loop-again c = (omega arith, passed-over _ _ (graphOf _ _ _) (c .before .before .before .before .before .loop .m) (c .next-pair .result) (c .before .before .before .before .before .loop .inv .1) (c .before .before .before .pair-fault .ensures) (sym (c .before .before .is-passed .ensures) ∙ not-false _ (c .before .if1 .left)) (c .next-pair .ensures .2))
+loop-again c = (omega arith, passed-over _ _ (graphOf _ _ _) (c .before .before .before .before .before .loop .m) (c .next-pair .result) (c .before .before .before .before .before .loop .inv .1) (c .before .before .before .pair-fault .ensures) (sym (c .before .before .is-nothing .ensures) ∙ not-false _ (c .before .if1 .left)) (c .next-pair .ensures .2))
 
 returns-2 : tie.Need-returns-2 Inv-loop μ-loop
 returns-2 c = none-all _ _ _ (c .before .loop .inv .0) (c .loop-test .left) (c .before .loop .inv .1)
@@ -53,7 +53,7 @@ first-fault-spec =
     μ-loop
     loop-holds
     pair-fault-requires
-    is-passed-requires
+    is-nothing-requires
     returns
     next-pair-requires
     loop-less

@@ -28,11 +28,11 @@ loop-holds c = (search needs, refl)
 target-fault-requires : tie.Need-target-fault-requires Inv-loop μ-loop
 target-fault-requires c κs = search needs
 
-is-passed-requires : tie.Need-is-passed-requires Inv-loop μ-loop
-is-passed-requires c κs = search needs
+is-nothing-requires : tie.Need-is-nothing-requires Inv-loop μ-loop
+is-nothing-requires c κs = search needs
 
 returns : tie.Need-returns Inv-loop μ-loop
-returns c = c .before .before .target-fault .ensures ∙ sym (first-at _ _ (c .before .before .before .before .loop .k) (c .before .before .before .loop-test .taken) (c .before .before .before .before .loop .inv .1) (sym (c .before .is-passed .ensures ∙ ap missing (c .before .before .target-fault .ensures)) ∙ not-true _ (c .if1 .taken))) ∙ both-rows _ _ (graphOf _ _ _) _ _
+returns c = c .before .before .target-fault .ensures ∙ sym (first-at _ _ (c .before .before .before .before .loop .k) (c .before .before .before .loop-test .taken) (c .before .before .before .before .loop .inv .1) (sym (c .before .is-nothing .ensures ∙ ap missing (c .before .before .target-fault .ensures)) ∙ not-true _ (c .if1 .taken))) ∙ both-rows _ _ (graphOf _ _ _) _ _
 
 add-k : tie.Need-add-k Inv-loop μ-loop
 add-k c = search needs
@@ -41,7 +41,7 @@ loop-less : tie.Need-loop-less Inv-loop μ-loop
 loop-less c = omega arith
 
 loop-again : tie.Need-loop-again Inv-loop μ-loop
-loop-again c = (omega arith, none-at _ (c .before .before .before .before .loop .k) (c .before .before .before .before .loop .inv .1) (sym (c .before .is-passed .ensures ∙ ap missing (c .before .before .target-fault .ensures)) ∙ not-false _ (c .if1 .left)))
+loop-again c = (omega arith, none-at _ (c .before .before .before .before .loop .k) (c .before .before .before .before .loop .inv .1) (sym (c .before .is-nothing .ensures ∙ ap missing (c .before .before .target-fault .ensures)) ∙ not-false _ (c .if1 .left)))
 
 returns-2 : tie.Need-returns-2 Inv-loop μ-loop
 returns-2 c = none-all _ _ _ (c .before .loop .inv .0) (c .loop-test .left) (c .before .loop .inv .1) ∙ both-rows _ _ (graphOf _ _ _) _ _
@@ -54,7 +54,7 @@ rows-fault-spec =
     μ-loop
     loop-holds
     target-fault-requires
-    is-passed-requires
+    is-nothing-requires
     returns
     add-k
     loop-less
