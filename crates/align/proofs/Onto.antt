@@ -28,7 +28,8 @@ use Rattle.align.specs.declared.spots.Spot.{Spot}
 use Rattle.align.specs.Sets.{alone, with, without, meets, readSet}
 use Rattle.align.specs.Steps.{find, isImplied, along, matching, matched, rewritten, rowsAt, atAlarm, assigned, onward, follow, followed, counterpart, assumed, moved, fair, arrived, step}
 use Rattle.align.proofs.Sets.{with-here}
-use Rattle.align.proofs.Parts.{row-of, row-same, operands}
+use Rattle.chart.proofs.Conflicts.{operands}
+use Rattle.align.proofs.Parts.{row-of, row-same}
 use Rattle.align.proofs.Agree.{Agree, value-agrees, holds-agrees, write-new, write-old, agree-with, agree-both, after-assignment, after-other, lets-assignment, lets-assumption, let-other, not-assignment}
 use Rattle.align.proofs.Reach.{Hits, hits-row}
 

@@ -9,14 +9,12 @@ use native.Mathlib.Omega.{arith}
 use borrow.Author.Tests.{eq-eqb, ne-eqb}
 use lib.ListN.{length, getD, take, drop, length-append, length-take, length-drop, List·getD-append}
 use lib.Seq.{getD-append-add, getD-drop, getD-take}
-use Rattle.base.proofs.Tests.{T-true, differ}
+use Rattle.base.proofs.Tests.{differ}
 use Rattle.operations.specs.Operations.{holds}
-use Rattle.operations.specs.Assumptions.{Operands}
 use Rattle.operations.specs.Values.{var}
-use Rattle.operations.proofs.Codes.{fit-a, fit-b}
-use Rattle.operations.proofs.Exact.{exclusive-exact}
 use Rattle.chart.specs.Charts.{Chart, size, from, to, operation, leavingOf, leaving}
 use Rattle.chart.specs.Faultless.{FaultlessChart}
+use Rattle.chart.proofs.Conflicts.{opposite}
 
 -- row k of one table is row i of another
 pub record SameRow (part : List ℕ) (k : ℕ) (t : List ℕ) (i : ℕ) : Type 0 where
@@ -155,15 +153,10 @@ no-three false true false p q r = differ false q
 no-three false true true p q r = differ true r
 
 module _ (C : Chart) (F : FaultlessChart C) (words : (k : ℕ) → getD (C .table) k 0 < 2 ^ 32) where
-  pub operands : (i : ℕ) → i < size (C .table) → Operands (operation (C .table) i)
-  operands i l =
-      let f = F .rows i l .fit in
-      record { a = fit-a (operation (C .table) i) f; b = fit-b (operation (C .table) i) f; c = words (i * 6 + 5) }
-
   one-of : (i j : ℕ) → j < i → i < size (C .table) → from (C .table) j ≡ from (C .table) i
       → holds (operation (C .table) j) (var (zeros 64)) ≡ not (holds (operation (C .table) i) (var (zeros 64)))
   one-of i j l u e =
-      exclusive-exact (operation (C .table) j) (operation (C .table) i) (operands j (omega arith)) (operands i u) .0 (T-true (F .apart i j l u e .one)) (zeros 64)
+      opposite C F words i j l u e .one (zeros 64)
       (record { count = zeros-length 64; small = λ k. rw zeros-at (omega arith) })
 
   pub two-at-most : (p : ℕ) → size (leaving (C .table) p) ≤ 2

@@ -24,7 +24,8 @@ use Rattle.align.specs.declared.spots.Spot.{Spot}
 use Rattle.align.specs.Steps.{fair, step}
 use Rattle.align.proofs.Agree.{agree-wider, agree-same-values, values-after}
 use Rattle.align.proofs.Onto.{Onto, step-onto}
-use Rattle.align.proofs.Parts.{before, stands, same-row, operands, two-at-most}
+use Rattle.chart.proofs.Conflicts.{operands}
+use Rattle.align.proofs.Parts.{before, stands, same-row, two-at-most}
 use Rattle.align.proofs.Reach.{reachesFrom, from-begin, reaches-nil, reaches-cons, Hits, hits-here}
 use Rattle.checker.specs.Records.{Graph, Record, mark, setAt, spot, target, rank, targetOf, goesOn, nodes, covered}
 use Rattle.checker.specs.Rules.{startFits, keeps, joins, joinsStep, ranked, leads, rowFits}

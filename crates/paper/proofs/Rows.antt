@@ -17,7 +17,8 @@ use Rattle.chart.specs.Charts.{Chart, size, operation}
 use Rattle.chart.specs.Faultless.{FaultlessChart}
 use Rattle.align.specs.declared.spots.Spot.{Spot}
 use Rattle.align.specs.Steps.{moved, arrived, step}
-use Rattle.align.proofs.Parts.{row-of, row-same, operands}
+use Rattle.chart.proofs.Conflicts.{operands}
+use Rattle.align.proofs.Parts.{row-of, row-same}
 use Rattle.checker.specs.Promise.{Words}
 use Rattle.graph.specs.Graphs.{Graph, marked, keep, aim, join, unwait}
 use Rattle.detector.specs.Turns.{rowsOf, leadsTo, stepOf, processed, rowDone}

@@ -32,7 +32,8 @@ use Rattle.align.specs.Steps.{find, oldTo, isImplied, along, matching, matched,
 use Rattle.align.proofs.Sets.{In, bit-none, alone-here, alone-only, with-here, with-old, with-only, without-in, without-kept, meet-some, meet-none}
 use Rattle.align.proofs.Onto.{same→eq, found}
 use Rattle.align.proofs.Moves.{onward-below}
-use Rattle.align.proofs.Parts.{before, stands, same-row, row-of, row-same, operands}
+use Rattle.chart.proofs.Conflicts.{operands}
+use Rattle.align.proofs.Parts.{before, stands, same-row, row-of, row-same}
 use Rattle.checker.specs.Promise.{Words}
 use Rattle.detector.proofs.Steps.{row-a}
 use Rattle.graph.proofs.Graphs.{join-small}
