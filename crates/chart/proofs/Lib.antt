@@ -5,3 +5,4 @@ pub mod Faults
 pub mod Faultless
 pub mod Conflicts
 pub mod Bounds
+pub mod Told
