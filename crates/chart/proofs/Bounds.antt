@@ -1,5 +1,5 @@
 -- How large the numbers of a chart's refusal are. Assumes nothing.
-use mathlib.Core.Path.{_≡_}
+use mathlib.Core.Path.{_≡_, refl}
 use mathlib.Core.Bool.{Bool, _||_, not}
 use mathlib.Core.Option.{none}
 use Prim.Native.Nat.{ℕ, _%_, _≤_, _<_}
@@ -18,14 +18,15 @@ use Rattle.operations.specs.Operations.{isKnown, operandsFit}
 use Rattle.chart.specs.Charts.{Chart, size, from, to, operation}
 use Rattle.chart.specs.Faults.{countFault, alarmFault, fromBefore, rowFault, clash, conflictFault, rowsFault, fault, refusal}
 
--- a fault's number and position
+-- a fault's number, chart and position
 pub record Slight (f : Refusal) : Type 0 where
   pub some-number : 1 ≤ f .number
   pub few : f .number ≤ 21
+  pub alone : f .chart ≡ 0
   pub row : f .position < 128
 
 due-slight : (b : Bool) (n p : ℕ) → 1 ≤ n → n ≤ 21 → p < 128 → OnSome Slight (due b n p)
-due-slight b n p l h g = when-on Slight b (sole n p) (record { some-number = l; few = h; row = g })
+due-slight b n p l h g = when-on Slight b (sole n p) (record { some-number = l; few = h; alone = refl; row = g })
 
 few-rows : (C : Chart) → countFault C ≡ none → size (C .table) ≤ 128
 unfolding countFault

@@ -10,9 +10,10 @@ use native.Mathlib.Decide.{decLt}
 use native.Mathlib.Omega.{arith}
 use lib.Dec.{eqb, leb}
 use lib.ListN.{length, getD, drop}
+use Rattle.base.specs.declared.Refusal.{Refusal}
 use Rattle.base.specs.Answers.{Answer, given, refused}
 use Rattle.base.specs.Chains.{andThen}
-use Rattle.base.specs.Refusals.{Fault, unless}
+use Rattle.base.specs.Refusals.{sole, unless}
 use Rattle.base.proofs.OnSome.{OnSome}
 use Rattle.chart.specs.Charts.{Chart, size}
 use Rattle.chart.specs.Faults.{fault, refusal}
@@ -79,7 +80,7 @@ item-said k text at =
 -- a refusal is one of the numbers up to 21, of the sole chart
 abbrev Sole : {A : Type 0} → Answer A → Type 0
 Sole (given x) = Unit
-Sole (refused n c p) = (n ≤ 21) × (c ≡ 0)
+Sole (refused r) = (r .number ≤ 21) × (r .chart ≡ 0)
 
 fields-sole : (n k : ℕ) (text : List ℕ) (at : ℕ) (before : List ℕ) → Sole (fieldsAt n k text at before)
 unfolding fieldsAt
@@ -89,7 +90,7 @@ fields-sole (suc n) k text at before =
 
 sole-then : {A B : Type 0} (a : Answer A) (f : A → Answer B) → Sole a → ((x : A) → Sole (f x)) → Sole (andThen a f)
 sole-then (given x) f h g = g x
-sole-then (refused n c p) f h g = h
+sole-then (refused r) f h g = h
 
 whole-sole : (text : List ℕ) (at : ℕ) (C : Chart) → Sole (whole text at C)
 whole-sole text at C =
@@ -107,14 +108,14 @@ parsed-sole (b ∷ t) =
 -- a chart's counts and places, and a refusal's number, chart and position
 abbrev pub SmallRead : Answer Chart → Type 0
 SmallRead (given C) = (C .places ≤ 64) × ((C .alarm < 64) × (size (C .table) ≤ 128))
-SmallRead (refused n c p) = (n ≤ 21) × ((c ≡ 0) × (p ≤ 10191))
+SmallRead (refused r) = (r .number ≤ 21) × ((r .chart ≡ 0) × (r .position ≤ 10191))
 
-unless-small : (C : Chart) (o : Option Fault) → OnSome Slight o → (o ≡ none → SmallRead (given C)) → SmallRead (unless o C)
+unless-small : (C : Chart) (o : Option Refusal) → OnSome Slight o → (o ≡ none → SmallRead (given C)) → SmallRead (unless o C)
 unless-small C none h g = g refl
-unless-small C (some f) h g = (h .few, (refl, omega (arith, h .row)))
+unless-small C (some f) h g = (h .few, (h .alone, omega (arith, h .row)))
 
 judged-small : (text : List ℕ) (a : Answer Chart) → a ≡ parsed text → Sole a → SmallRead (andThen a (λ (C : Chart). unless (fault C) C))
-judged-small text (refused n c p) e h = (h .0, (h .1, text-positions text n c p (sym e)))
+judged-small text (refused r) e h = (h .0, (h .1, text-positions text r (sym e)))
 judged-small text (given C) e h =
     unless-small C (fault C) (fault-slight C)
     (λ z.
@@ -128,23 +129,23 @@ pub read-small : (text table : List ℕ) → SmallRead (readInto text table)
 unfolding readInto readText
 read-small text table = go (eqb (length table) 768)
   where
-    go : (t : Bool) → SmallRead (elim t as (λ _. Answer Chart) [ true ↦ readText text | false ↦ refused 21 0 0 ])
+    go : (t : Bool) → SmallRead (elim t as (λ _. Answer Chart) [ true ↦ readText text | false ↦ refused (sole 21 0) ])
     go true = judged-small text (parsed text) refl (parsed-sole text)
     go false = (omega arith, (refl, omega arith))
 
 abbrev pub SmallWrite : Answer (List ℕ) → Type 0
 SmallWrite (given t) = Unit
-SmallWrite (refused n c p) = (n ≤ 21) × ((c ≡ 0) × (p ≤ 128))
+SmallWrite (refused r) = (r .number ≤ 21) × ((r .chart ≡ 0) × (r .position ≤ 128))
 
 -- Whatever the writer refuses is small.
 pub write-small : (C : Chart) (lent : ℕ) → SmallWrite (writing C lent)
 unfolding writing
 write-small C lent = go (leb 8643 lent)
   where
-    unless-small : (o : Option Fault) → o ≡ refusal C → SmallWrite (unless o (written C))
+    unless-small : (o : Option Refusal) → o ≡ refusal C → SmallWrite (unless o (written C))
     unless-small none e = tt
-    unless-small (some f) e = let h : Slight f = subst (OnSome Slight) (sym e) (refusal-slight C) in (h .few, (refl, omega (arith, h .row)))
+    unless-small (some f) e = let h : Slight f = subst (OnSome Slight) (sym e) (refusal-slight C) in (h .few, (h .alone, omega (arith, h .row)))
 
-    go : (t : Bool) → SmallWrite (elim t as (λ _. Answer (List ℕ)) [ true ↦ unless (refusal C) (written C) | false ↦ refused 21 0 0 ])
+    go : (t : Bool) → SmallWrite (elim t as (λ _. Answer (List ℕ)) [ true ↦ unless (refusal C) (written C) | false ↦ refused (sole 21 0) ])
     go true = unless-small (refusal C) refl
     go false = (omega arith, (refl, omega arith))

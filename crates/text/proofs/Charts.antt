@@ -9,9 +9,10 @@ use native.Mathlib.Decide.{decLt}
 use native.Mathlib.Omega.{arith}
 use borrow.Author.Tests.{eq-eqb, ne-eqb}
 use lib.ListN.{length, getD, drop, drop-of-length-le, length-drop}
+use Rattle.base.specs.declared.Refusal.{Refusal}
 use Rattle.base.specs.Answers.{Answer, given, refused}
 use Rattle.base.specs.Chains.{andThen}
-use Rattle.base.specs.Refusals.{Fault, unless}
+use Rattle.base.specs.Refusals.{sole, unless}
 use Rattle.chart.specs.Charts.{Chart, size}
 use Rattle.chart.specs.Faults.{fault}
 use Rattle.text.specs.Fields.{kind}
@@ -29,7 +30,7 @@ use Rattle.text.proofs.Told.{whole-after, whole-end, parsed-some}
 
 on-then : {A B : Type 0} (P : A → Type 0) (Q : B → Type 0) (a : Answer A) (f : A → Answer B) → OnGiven P a → ((x : A) → P x → OnGiven Q (f x)) → OnGiven Q (andThen a f)
 on-then P Q (given x) f h g = g x h
-on-then P Q (refused n c p) f h g = tt
+on-then P Q (refused r) f h g = tt
 
 -- what is shown of a chart whose text is read to the end
 pub record Spells (text : List ℕ) (C : Chart) : Type 0 where
@@ -86,7 +87,7 @@ pub read-shows : (text : List ℕ) → OnGiven (λ (C : Chart). Spells text C ×
 unfolding readText
 read-shows text = on-then (Spells text) (λ (C : Chart). Spells text C × (fault C ≡ none)) (parsed text) _ (parsed-shows text) (λ C h. go C h (fault C) refl)
   where
-    go : (C : Chart) → Spells text C → (o : Option Fault) → fault C ≡ o → OnGiven (λ (C : Chart). Spells text C × (fault C ≡ none)) (unless o C)
+    go : (C : Chart) → Spells text C → (o : Option Refusal) → fault C ≡ o → OnGiven (λ (C : Chart). Spells text C × (fault C ≡ none)) (unless o C)
     go C h none e = (h, e)
     go C h (some f) e = tt
 
@@ -95,7 +96,7 @@ read-shows text = on-then (Spells text) (λ (C : Chart). Spells text C × (fault
 -- what the reader says of a chart after whose fields r follows: a byte there is 14
 abbrev pub Left : Chart → List ℕ → List ℕ → Answer Chart
 Left C text [] = given C
-Left C text (b ∷ s) = refused 14 0 (length text - length (b ∷ s))
+Left C text (b ∷ s) = refused (sole 14 (length text - length (b ∷ s)))
 
 whole-left : (C : Chart) (text : List ℕ) (at : ℕ) (r : List ℕ) → drop at text ≡ r → whole text at C ≡ Left C text r
 whole-left C text at [] h = whole-end text at C (omega (arith, sym (length-drop at text) ∙ ap length h))

@@ -7,6 +7,7 @@ use Prim.Native.Nat.{ℕ, zero, suc, _*_, _-_, _%_, _≤_}
 use native.Mathlib.Omega.{arith}
 use lib.ListN.{length, getD, length-append}
 use Rattle.base.specs.Answers.{given, refused}
+use Rattle.base.specs.Refusals.{sole}
 use Rattle.chart.specs.Charts.{Chart, size}
 use Rattle.chart.specs.Faults.{fault, refusal}
 use Rattle.chart.proofs.Faultless.{faultless}
@@ -65,7 +66,7 @@ pub file-written : (C : Chart) → U32s (numbers C) → refusal C ≡ none → F
 file-written C u h =
     record { file = items-file (size (C .table)) (numbers C) (written C) (whole-size C (faultless C h .whole)) (written-items C u h); u32s = u; faultless = h }
 
-pub byte-more : (C : Chart) (b : ℕ) (s : List ℕ) → U32s (numbers C) → refusal C ≡ none → readText (written C ++ (b ∷ s)) ≡ refused 14 0 (length (written C))
+pub byte-more : (C : Chart) (b : ℕ) (s : List ℕ) → U32s (numbers C) → refusal C ≡ none → readText (written C ++ (b ∷ s)) ≡ refused (sole 14 (length (written C)))
 unfolding readText written
 byte-more C b s u h =
     let w = faultless C h .whole in

@@ -5,12 +5,12 @@ use Rattle.text.specs.Texts.{Heading}
 
 abbrev pub first : Answer Heading → ℕ
 first (given h) = h .places
-first (refused n c p) = n
+first (refused r) = r .number
 
 abbrev pub second : Answer Heading → ℕ
 second (given h) = h .alarm
-second (refused n c p) = c
+second (refused r) = r .chart
 
 abbrev pub third : Answer Heading → ℕ
 third (given h) = h .rows
-third (refused n c p) = p
+third (refused r) = r .position

@@ -45,7 +45,7 @@ written-short C u h =
 -- the position of a refusal, 0 where there is none
 abbrev pub ended : Answer Chart → ℕ
 ended (given C) = 0
-ended (refused n c p) = p
+ended (refused r) = r .position
 
 whole-ends : (text : List ℕ) (at : ℕ) (C : Chart) → ended (whole text at C) ≤ at
 whole-ends text at C =
@@ -54,7 +54,7 @@ whole-ends text at C =
 
 then-ends : (q : ℕ) (a : Answer Span) (f : Span → Answer Chart) → stops a ≤ q → ((s : Span) → a ≡ given s → ended (f s) ≤ q) → ended (andThen a f) ≤ q
 then-ends q (given s) f h g = g s refl
-then-ends q (refused n c p) f h g = h
+then-ends q (refused r) f h g = h
 
 rows-end : (text : List ℕ) (at n alarm count : ℕ) → at ≤ 79 → count ≤ 128 → ended (rowsAt text at n alarm count) ≤ 10191
 unfolding rowsAt
@@ -80,7 +80,7 @@ module _ (text : List ℕ) (m : ℕ) (long : m ≤ length text) (enough : 10191 
 
   then-same : (a : Answer Span) (f g : Span → Answer Chart) → ((s : Span) → a ≡ given s → f s ≡ g s) → andThen a f ≡ andThen a g
   then-same (given s) f g h = h s refl
-  then-same (refused n c p) f g h = refl
+  then-same (refused r) f g h = refl
 
   cut-rows : (at n alarm count : ℕ) → at ≤ 79 → count ≤ 128 → rowsAt (take m text) at n alarm count ≡ rowsAt text at n alarm count
   unfolding rowsAt

@@ -134,7 +134,7 @@ item-ends k text at =
 -- where an answer of so many fields stops
 abbrev pub stops : Answer Span → ℕ
 stops (given s) = s .next
-stops (refused n c p) = p
+stops (refused r) = r .position
 
 pub reach-one : (k n : ℕ) → reach k 1 + reach (suc k) n ≡ reach k (suc n)
 reach-one k n = omega arith

@@ -36,11 +36,11 @@ items-fit (x ∷ l) k s r i = (i .item .field .small, (i .item .field .fits, ite
 -- P of what is given, if something is
 abbrev pub OnGiven : {A : Type 0} → (A → Type 0) → Answer A → Type 0
 OnGiven P (given x) = P x
-OnGiven P (refused n c p) = Unit
+OnGiven P (refused r) = Unit
 
 pub on-given : {A : Type 0} (P Q : A → Type 0) (a : Answer A) → ((x : A) → P x → Q x) → OnGiven P a → OnGiven Q a
 on-given P Q (given x) f h = f x h
-on-given P Q (refused n c p) f h = tt
+on-given P Q (refused r) f h = tt
 
 pub record Shown (n k : ℕ) (text : List ℕ) (at : ℕ) (before : List ℕ) (s : Span) : Type 0 where
   pub numbers : List ℕ

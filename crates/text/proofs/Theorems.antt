@@ -7,7 +7,9 @@ use mathlib.Core.Option.{none}
 use Prim.Native.Nat.{ℕ, _≤_, _<_}
 use native.Mathlib.Omega.{arith}
 use lib.ListN.{length, take}
+use Rattle.base.specs.declared.Refusal.{Refusal}
 use Rattle.base.specs.Answers.{given, refused}
+use Rattle.base.specs.Refusals.{sole}
 use Rattle.chart.specs.Charts.{Chart}
 use Rattle.chart.specs.Faults.{refusal}
 use Rattle.text.specs.Texts.{parsed, readText}
@@ -29,7 +31,7 @@ pub round-trip : (C : Chart) → U32s (numbers C) → refusal C ≡ none → rea
 round-trip C u h = file-read C (written C) (file-written C u h)
 
 -- It uses every byte: one byte more is refused, where the written text ends.
-pub every-byte : (C : Chart) (b : ℕ) (s : List ℕ) → U32s (numbers C) → refusal C ≡ none → readText (written C ++ (b ∷ s)) ≡ refused 14 0 (length (written C))
+pub every-byte : (C : Chart) (b : ℕ) (s : List ℕ) → U32s (numbers C) → refusal C ≡ none → readText (written C ++ (b ∷ s)) ≡ refused (sole 14 (length (written C)))
 every-byte C b s u h = byte-more C b s u h
 
 -- No text of a faultless chart needs more bytes than the writer is lent.
@@ -37,8 +39,8 @@ pub room-enough : (C : Chart) → U32s (numbers C) → refusal C ≡ none → le
 room-enough C u h = written-short C u h
 
 -- Every refusal of a text, as opposed to its chart, names a position of at most 10,191.
-pub text-positions : (text : List ℕ) (n c p : ℕ) → parsed text ≡ refused n c p → p ≤ 10191
-text-positions text n c p e = omega (arith, parsed-ends text, ap ended e)
+pub text-positions : (text : List ℕ) (r : Refusal) → parsed text ≡ refused r → r .position ≤ 10191
+text-positions text r e = omega (arith, parsed-ends text, ap ended e)
 
 -- The answer for a text of more than 16,384 bytes is the answer for the first 16,384 of them.
 pub cut-text : (text : List ℕ) → 16384 < length text → readText text ≡ readText (take 16384 text)

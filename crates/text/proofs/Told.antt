@@ -7,12 +7,14 @@ use native.Mathlib.Omega.{arith}
 use borrow.Author.Tests.{eq-eqb, ne-eqb, le-leb, lt-leb, lt-ltb, le-ltb}
 use lib.ListN.{length, getD, take, drop}
 use lib.Seq.{sets-eq, getD-take}
+use Rattle.base.specs.declared.Refusal.{Refusal}
 use Rattle.base.specs.Answers.{Answer, given, refused}
 use Rattle.base.specs.Chains.{andThen, mapped}
-use Rattle.base.specs.Refusals.{unless}
+use Rattle.base.specs.Refusals.{sole, unless}
+use Rattle.base.proofs.Answers.{different}
 use Rattle.chart.specs.declared.charts.Head.{Head}
 use Rattle.chart.specs.declared.charts.Judged.{Judged}
-use Rattle.chart.specs.declared.charts.Judged.the-variants.{Faultless, Ragged, Faulty}
+use Rattle.chart.specs.declared.charts.Judged.the-variants.{Faultless, Refused}
 use Rattle.chart.specs.Charts.{Chart, charted}
 use Rattle.chart.specs.Faults.{told, fault, refusal}
 use Rattle.chart.proofs.Faultless.{faultless as sound}
@@ -24,8 +26,9 @@ use Rattle.text.specs.declared.inner.table.Reach.{Reach}
 use Rattle.text.specs.declared.inner.table.Reach.the-variants.{Past, Stopped}
 use Rattle.text.specs.Fields.{kind}
 use Rattle.text.specs.Spans.{Span, fieldsAt, toldReach}
-use Rattle.text.specs.Texts.{whole, rowsAt, parsed, faultless, readText, readInto, filled, heading, toldRead}
+use Rattle.text.specs.Texts.{whole, rowsAt, parsed, faultless, readText, readInto, filled, Heading, heading, toldRead}
 use Rattle.text.specs.Written.{numbers, written, writing, printed, toldWrote, Put}
+use Rattle.text.proofs.Headings.{first, second, third}
 use Rattle.text.proofs.Sequences.{FitAll, OnGiven, Shown, fields-show, items-fit}
 
 -- ---- faults
@@ -47,16 +50,13 @@ short-table C j h e =
 abbrev ReadAs : Answer Chart → Read → List ℕ → List ℕ → Type 0
 ReadAs a r table after = (toldRead r ≡ mapped heading a) × (after ≡ filled a table)
 
-read-refused : (a : Answer Chart) (table : List ℕ) (m p : ℕ) → a ≡ refused m 0 p → ReadAs a (read.Refused m p) table table
+read-refused : (a : Answer Chart) (table : List ℕ) (r : Refusal) → a ≡ refused r → ReadAs a (read.Refused r) table table
 unfolding filled toldRead
-read-refused a table m p e = (rw e, rw e)
+read-refused a table r e = (rw e, rw e)
 
 module _ (h : Head) (l table : List ℕ) (j : Judged) (is : told j ≡ refusal (charted h l)) where
-  pub hand-ragged : j ≡ Ragged → ReadAs (unless (refusal (charted h l)) (charted h l)) (read.Refused 21 0) table table
-  hand-ragged e = read-refused _ table 21 0 (rw (← is, e))
-
-  pub hand-faulty : (m p : ℕ) → j ≡ Faulty m p → ReadAs (unless (refusal (charted h l)) (charted h l)) (read.Refused m p) table table
-  hand-faulty m p e = read-refused _ table m p (rw (← is, e))
+  pub hand-refused : (r : Refusal) → j ≡ Refused r → ReadAs (unless (refusal (charted h l)) (charted h l)) (read.Refused r) table table
+  hand-refused r e = read-refused _ table r (rw (← is, e))
 
   pub hand-chart : (count : ℕ) (after : List ℕ) → length l ≡ 6 * count → j ≡ Faultless → after ≡ l ++ drop (length l) table
       → ReadAs (unless (refusal (charted h l)) (charted h l)) (read.Chart h count) table after
@@ -65,7 +65,7 @@ module _ (h : Head) (l table : List ℕ) (j : Judged) (is : told j ≡ refusal (
       let n : length l / 6 ≡ count = omega arith in
       (rw (← is, e, n), rw (← is, e) g)
 
-pub whole-after : (text : List ℕ) (at : ℕ) (C : Chart) → at < length text → whole text at C ≡ refused 14 0 at
+pub whole-after : (text : List ℕ) (at : ℕ) (C : Chart) → at < length text → whole text at C ≡ refused (sole 14 at)
 unfolding whole
 whole-after text at C h = rw (lt-ltb _ _ h, whole)
 
@@ -74,13 +74,13 @@ unfolding whole
 whole-end text at C h = rw (le-ltb _ _ h, whole)
 
 module _ (text : List ℕ) (at n alarm count : ℕ) (table : List ℕ) (r : Reach) (l : List ℕ) (is : toldReach r l ≡ fieldsAt (6 * count) 6 text at []) where
-  pub rows-stopped : (m p : ℕ) → r ≡ Stopped m p → ReadAs (faultless (rowsAt text at n alarm count)) (read.Refused m p) table table
+  pub rows-stopped : (s : Refusal) (m p : ℕ) → s ≡ sole m p → r ≡ Stopped m p → ReadAs (faultless (rowsAt text at n alarm count)) (read.Refused s) table table
   unfolding rowsAt toldReach
-  rows-stopped m p e = read-refused _ table m p (rw (← is, e))
+  rows-stopped s m p g e = read-refused _ table s (rw (← is, e, g))
 
-  pub rows-after : (end : ℕ) → r ≡ Past end → end < length text → ReadAs (faultless (rowsAt text at n alarm count)) (read.Refused 14 end) table table
+  pub rows-after : (s : Refusal) (end : ℕ) → s ≡ sole 14 end → r ≡ Past end → end < length text → ReadAs (faultless (rowsAt text at n alarm count)) (read.Refused s) table table
   unfolding rowsAt toldReach
-  rows-after end e h = read-refused _ table 14 end (rw (← is, e, whole-after text end _ h))
+  rows-after s end g e h = read-refused _ table s (rw (← is, e, whole-after text end _ h, g))
 
   pub rows-whole : (end : ℕ) (a : Read) (after : List ℕ) → r ≡ Past end → length text ≤ end → length l % 6 ≡ 0
       → ReadAs (unless (refusal (record { places = n; alarm = alarm; table = l })) (record { places = n; alarm = alarm; table = l })) a table after
@@ -92,19 +92,19 @@ module _ (text : List ℕ) (at n alarm count : ℕ) (table : List ℕ) (r : Reac
       rw i g
 
 -- the count of a first record that is read is at most 128
-third : (l : List ℕ) → length l ≡ 6 → FitAll 0 l → getD l 2 0 ≤ 128
+third-few : (l : List ℕ) → length l ≡ 6 → FitAll 0 l → getD l 2 0 ≤ 128
 unfolding kind
-third [] h f = absurd (omega arith)
-third (a ∷ []) h f = absurd (omega arith)
-third (a ∷ b ∷ []) h f = absurd (omega arith)
-third (a ∷ b ∷ c ∷ l) h f = f .1 .1 .1 .1 .1 .0
+third-few [] h f = absurd (omega arith)
+third-few (a ∷ []) h f = absurd (omega arith)
+third-few (a ∷ b ∷ []) h f = absurd (omega arith)
+third-few (a ∷ b ∷ c ∷ l) h f = f .1 .1 .1 .1 .1 .0
 
 pub few-counted : (text : List ℕ) (s : Span) → fieldsAt 6 0 text 0 [] ≡ given s → getD (s .numbers) 2 0 ≤ 128
 few-counted text s e =
     let g : Shown 6 0 text 0 [] s = subst (OnGiven (Shown 6 0 text 0 [])) e (fields-show 6 0 text 0 []) in
-    rw (g .is) (third (g .numbers) (g .count) (items-fit (g .numbers) 0 _ _ (g .items)))
+    rw (g .is) (third-few (g .numbers) (g .count) (items-fit (g .numbers) 0 _ _ (g .items)))
 
-parsed-none : (text : List ℕ) → length text ≡ 0 → parsed text ≡ refused 11 0 0
+parsed-none : (text : List ℕ) → length text ≡ 0 → parsed text ≡ refused (sole 11 0)
 unfolding parsed
 parsed-none [] h = refl
 parsed-none (b ∷ s) h = absurd (omega arith)
@@ -116,23 +116,23 @@ parsed-some [] h = absurd (h refl)
 parsed-some (b ∷ s) h = refl
 
 module _ (text table : List ℕ) where
-  pub read-unsized : (length table ≡ 768 → ⊥) → ReadAs (readInto text table) (read.Refused 21 0) table table
+  pub read-unsized : (s : Refusal) → s ≡ sole 21 0 → (length table ≡ 768 → ⊥) → ReadAs (readInto text table) (read.Refused s) table table
   unfolding readInto
-  read-unsized h = read-refused _ table 21 0 (rw (ne-eqb _ _ h, readInto))
+  read-unsized s g h = read-refused _ table s (rw (ne-eqb _ _ h, readInto, g))
 
   module _ (sized : length table ≡ 768) where
     read-sized : readInto text table ≡ readText text
     unfolding readInto
     read-sized = rw (eq-eqb _ _ sized, readInto)
 
-    pub read-empty : length text ≡ 0 → ReadAs (readInto text table) (read.Refused 11 0) table table
+    pub read-empty : (s : Refusal) → s ≡ sole 11 0 → length text ≡ 0 → ReadAs (readInto text table) (read.Refused s) table table
     unfolding readText
-    read-empty h = read-refused _ table 11 0 (read-sized ∙ rw (parsed-none text h))
+    read-empty s g h = read-refused _ table s (read-sized ∙ rw (parsed-none text h, g))
 
     module _ (some-byte : length text ≡ 0 → ⊥) (r : Reach) (l : List ℕ) (is : toldReach r (take 6 l) ≡ fieldsAt 6 0 text 0 []) where
-      pub read-stopped : (m p : ℕ) → r ≡ Stopped m p → ReadAs (readInto text table) (read.Refused m p) table table
+      pub read-stopped : (s : Refusal) (m p : ℕ) → s ≡ sole m p → r ≡ Stopped m p → ReadAs (readInto text table) (read.Refused s) table table
       unfolding readText toldReach
-      read-stopped m p e = read-refused _ table m p (read-sized ∙ rw (parsed-some text some-byte, ← is, e))
+      read-stopped s m p g e = read-refused _ table s (read-sized ∙ rw (parsed-some text some-byte, ← is, e, g))
 
       pub read-few : (at : ℕ) → r ≡ Past at → getD l 2 0 ≤ 128
       unfolding toldReach
@@ -153,25 +153,22 @@ module _ (text table : List ℕ) where
 abbrev WroteAs : Answer (List ℕ) → Wrote → List ℕ → List ℕ → Type 0
 WroteAs a r bytes after = (toldWrote r ≡ mapped length a) × (after ≡ printed a bytes)
 
-write-refused : (a : Answer (List ℕ)) (bytes : List ℕ) (m p : ℕ) → a ≡ refused m 0 p → WroteAs a (wrote.Refused m p) bytes bytes
+write-refused : (a : Answer (List ℕ)) (bytes : List ℕ) (r : Refusal) → a ≡ refused r → WroteAs a (wrote.Refused r) bytes bytes
 unfolding printed toldWrote
-write-refused a bytes m p e = (rw e, rw e)
+write-refused a bytes r e = (rw e, rw e)
 
 module _ (C : Chart) (bytes : List ℕ) where
-  pub write-short : length bytes < 8643 → WroteAs (writing C (length bytes)) (wrote.Refused 21 0) bytes bytes
+  pub write-short : (s : Refusal) → s ≡ sole 21 0 → length bytes < 8643 → WroteAs (writing C (length bytes)) (wrote.Refused s) bytes bytes
   unfolding writing
-  write-short h = write-refused _ bytes 21 0 (rw (lt-leb _ _ h, writing))
+  write-short s g h = write-refused _ bytes s (rw (lt-leb _ _ h, writing, g))
 
   module _ (long : 8643 ≤ length bytes) (j : Judged) (is : told j ≡ refusal C) where
     write-long : writing C (length bytes) ≡ unless (told j) (written C)
     unfolding writing
     write-long = rw (le-leb _ _ long, writing, is)
 
-    pub write-ragged : j ≡ Ragged → WroteAs (writing C (length bytes)) (wrote.Refused 21 0) bytes bytes
-    write-ragged e = write-refused _ bytes 21 0 (write-long ∙ rw e)
-
-    pub write-faulty : (m p : ℕ) → j ≡ Faulty m p → WroteAs (writing C (length bytes)) (wrote.Refused m p) bytes bytes
-    write-faulty m p e = write-refused _ bytes m p (write-long ∙ rw e)
+    pub write-faulty : (r : Refusal) → j ≡ Refused r → WroteAs (writing C (length bytes)) (wrote.Refused r) bytes bytes
+    write-faulty r e = write-refused _ bytes r (write-long ∙ rw e)
 
     pub write-chart : (r : ℕ) (after : List ℕ) → j ≡ Faultless → (Put bytes 0 (written C) after r) × (r ≤ 8643) → WroteAs (writing C (length bytes)) (wrote.Bytes r) bytes after
     unfolding printed toldWrote
@@ -180,3 +177,19 @@ module _ (C : Chart) (bytes : List ℕ) where
         let n : r ≡ length (written C) = omega (arith, g .0 .next) in
         let z : 0 + length (written C) ≡ length (written C) = omega arith in
         (rw (i, n), rw i (g .0 .is ∙ sets-eq (written C) bytes 0 (omega (arith, g .1)) ∙ rw z))
+
+-- ---- each answer is told by numbers of its own
+
+pub told-read-one : (x y : Read) → toldRead x ≡ toldRead y → x ≡ y
+unfolding toldRead
+told-read-one (read.Chart h n) (read.Chart g m) e = ap (λ (a : Answer Heading). read.Chart (record { places = first a; alarm = second a }) (third a)) e
+told-read-one (read.Chart h n) (read.Refused r) e = absurd (different e)
+told-read-one (read.Refused r) (read.Chart h n) e = absurd (different (sym e))
+told-read-one (read.Refused r) (read.Refused s) e = cc
+
+pub told-wrote-one : (x y : Wrote) → toldWrote x ≡ toldWrote y → x ≡ y
+unfolding toldWrote
+told-wrote-one (wrote.Bytes n) (wrote.Bytes m) e = cc
+told-wrote-one (wrote.Bytes n) (wrote.Refused r) e = absurd (different e)
+told-wrote-one (wrote.Refused r) (wrote.Bytes n) e = absurd (different (sym e))
+told-wrote-one (wrote.Refused r) (wrote.Refused s) e = cc

@@ -2,6 +2,7 @@
 use mathlib.Core.List.{List, [], _∷_, _++_}
 use Prim.Native.Nat.{ℕ, zero, suc}
 use Rattle.base.specs.Answers.{Answer, given, refused}
+use Rattle.base.specs.Refusals.{sole}
 use Rattle.text.specs.declared.fields.Field.{Field}
 use Rattle.text.specs.declared.fields.Field.the-variants.{Number, Unfit}
 use Rattle.text.specs.declared.inner.table.Reach.{Reach}
@@ -16,7 +17,7 @@ pub record Span : Type 0 where
 -- what follows a number and the offset after it; a refusal stays
 abbrev pub onField : {A : Type 0} → Field → (ℕ → ℕ → Answer A) → Answer A
 onField (Number x p) f = f x p
-onField (Unfit n p) f = refused n 0 p
+onField (Unfit n p) f = refused (sole n p)
 
 -- So many fields, from field k at an offset on, behind the numbers read before them. "Leftmost first": a refusal ends the reading.
 unfoldable pub fieldsAt : ℕ → ℕ → List ℕ → ℕ → List ℕ → Answer Span
@@ -26,4 +27,4 @@ fieldsAt (suc n) k text at before = onField (itemAt k text at) (λ x p. fieldsAt
 -- what the code's answer says, with the numbers that it left in its table
 unfoldable pub toldReach : Reach → List ℕ → Answer Span
 toldReach (Past p) l = given (record { numbers = l; next = p })
-toldReach (Stopped n p) l = refused n 0 p
+toldReach (Stopped n p) l = refused (sole n p)

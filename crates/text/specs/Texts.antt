@@ -6,7 +6,7 @@ use lib.Dec.{eqb, ltb}
 use lib.ListN.{length, getD, drop}
 use Rattle.base.specs.Answers.{Answer, given, refused}
 use Rattle.base.specs.Chains.{andThen}
-use Rattle.base.specs.Refusals.{unless}
+use Rattle.base.specs.Refusals.{sole, unless}
 use Rattle.chart.specs.Charts.{Chart, size}
 use Rattle.chart.specs.Faults.{fault}
 use Rattle.text.specs.declared.answers.Read.{Read}
@@ -16,7 +16,7 @@ use Rattle.text.specs.Spans.{Span, fieldsAt}
 -- ---- the sender of a text
 -- "14 [..] any byte after the CRLF of the last counted record (the first such offset)"
 unfoldable pub whole : List ℕ → ℕ → Chart → Answer Chart
-whole text at C = elim (ltb at (length text)) [ true ↦ refused 14 0 at | false ↦ given C ]
+whole text at C = elim (ltb at (length text)) [ true ↦ refused (sole 14 at) | false ↦ given C ]
 
 -- "then the rows": as many as the first record counts, and then the end of the text
 unfoldable pub rowsAt : List ℕ → ℕ → ℕ → ℕ → ℕ → Answer Chart
@@ -26,7 +26,7 @@ rowsAt text at n alarm count =
 
 -- "The first record is n, alarm, row count, 0, 0, 0"; "11 no bytes"
 unfoldable pub parsed : List ℕ → Answer Chart
-parsed [] = refused 11 0 0
+parsed [] = refused (sole 11 0)
 parsed (b ∷ s) =
     andThen (fieldsAt 6 0 (b ∷ s) 0 [])
     (λ (first : Span). rowsAt (b ∷ s) (first .next) (getD (first .numbers) 0 0) (getD (first .numbers) 1 0) (getD (first .numbers) 2 0))
@@ -41,12 +41,12 @@ readText text = faultless (parsed text)
 
 -- ---- the calling program: "21, a lent length differs from the stated one [..] Always first"; "The table lent to the reader has 768 entries"
 unfoldable pub readInto : List ℕ → List ℕ → Answer Chart
-readInto text table = elim (eqb (length table) 768) [ true ↦ readText text | false ↦ refused 21 0 0 ]
+readInto text table = elim (eqb (length table) 768) [ true ↦ readText text | false ↦ refused (sole 21 0) ]
 
 -- the table afterwards: the rows at the front, and "those past the rows stay"; "lent memory is untouched" by a refusal
 unfoldable pub filled : Answer Chart → List ℕ → List ℕ
 filled (given C) table = C .table ++ drop (length (C .table)) table
-filled (refused n c p) table = table
+filled (refused r) table = table
 
 -- what is answered of a chart that is read: places, alarm, row count
 pub record Heading : Type 0 where
@@ -57,7 +57,7 @@ pub record Heading : Type 0 where
 abbrev pub heading : Chart → Heading
 heading C = record { places = C .places; alarm = C .alarm; rows = size (C .table) }
 
--- what the code's answer says: a text's chart is the sole one, 0
+-- what the code's answer says
 unfoldable pub toldRead : Read → Answer Heading
 toldRead (answer.Chart head rows) = given (record { places = head .places; alarm = head .alarm; rows = rows })
-toldRead (answer.Refused number position) = refused number 0 position
+toldRead (answer.Refused r) = refused r

@@ -7,7 +7,7 @@ use lib.ListN.{length, drop}
 use lib.Dec.{ltb, leb, eqb}
 use lib.Seq.{sets}
 use Rattle.base.specs.Answers.{Answer, given, refused}
-use Rattle.base.specs.Refusals.{unless}
+use Rattle.base.specs.Refusals.{sole, unless}
 use Rattle.chart.specs.Charts.{Chart, size}
 use Rattle.chart.specs.Faults.{refusal}
 use Rattle.text.specs.declared.answers.Wrote.{Wrote}
@@ -62,14 +62,14 @@ written C = fieldsText 0 (numbers C)
 -- the writer's answer for so many lent bytes: "21, a lent length [..] (for the writer's bytes: is less), or a chart table's isn't a multiple
 -- of 6. Always first."; "The writer refuses faulty charts"
 unfoldable pub writing : Chart → ℕ → Answer (List ℕ)
-writing C lent = elim (leb 8643 lent) [ true ↦ unless (refusal C) (written C) | false ↦ refused 21 0 0 ]
+writing C lent = elim (leb 8643 lent) [ true ↦ unless (refusal C) (written C) | false ↦ refused (sole 21 0) ]
 
 -- the lent bytes afterwards: the writer "touches only those written"
 unfoldable pub printed : Answer (List ℕ) → List ℕ → List ℕ
 printed (given t) bytes = t ++ drop (length t) bytes
-printed (refused n c p) bytes = bytes
+printed (refused r) bytes = bytes
 
 -- what the code's answer says: the count of bytes, or a refusal
 unfoldable pub toldWrote : Wrote → Answer ℕ
 toldWrote (answer.Bytes n) = given n
-toldWrote (answer.Refused number position) = refused number 0 position
+toldWrote (answer.Refused r) = refused r

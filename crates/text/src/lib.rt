@@ -7,6 +7,7 @@ ghost use Rattle.text.specs.Texts.{readInto, filled, heading, toldRead};
 ghost use Rattle.text.specs.Written.{writing, printed, toldWrote};
 use answers::Read;
 use answers::Wrote;
+use base::sole;
 use chart::charts::Head;
 use chart::charts::Judged;
 use inner::reader::rows_into;
@@ -25,14 +26,14 @@ pub fn read(text: &[u8], table: &mut [u32]) -> Read
         × (now (table .exit) ≡ filled (readInto (now (text .entry)) (now (table .entry))) (now (table .entry))) ⌝ }
 {
     if table.len() != 768 {
-        return Read::Refused(21, 0);
+        return Read::Refused(sole(21, 0));
     }
     if text.len() == 0 {
-        return Read::Refused(11, 0);
+        return Read::Refused(sole(11, 0));
     }
     let mut first = [0u32; 6];
     match fields_into(text, 0, 0, 6, &mut first) {
-        Reach::Stopped(number, position) => Read::Refused(number, position),
+        Reach::Stopped(number, position) => Read::Refused(sole(number, position)),
         Reach::Past(at) => {
             let head = Head {
                 places: first[0],
@@ -49,11 +50,10 @@ pub fn write(head: Head, rows: &[u32], bytes: &mut [u8]) -> Wrote
         × (now (bytes .exit) ≡ printed (writing (charted head (now (rows .entry))) (length (now (bytes .entry)))) (now (bytes .entry))) ⌝ }
 {
     if bytes.len() < 8643 {
-        return Wrote::Refused(21, 0);
+        return Wrote::Refused(sole(21, 0));
     }
     match chart::judge(head, rows) {
-        Judged::Ragged => Wrote::Refused(21, 0),
-        Judged::Faulty { number, position } => Wrote::Refused(number, position),
+        Judged::Refused(r) => Wrote::Refused(r),
         Judged::Faultless => Wrote::Bytes(put_chart(head, rows, bytes)),
     }
 }

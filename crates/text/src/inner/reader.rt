@@ -11,6 +11,7 @@ use crate::answers::Read;
 use crate::inner::table::Reach;
 use crate::inner::table::copy;
 use crate::inner::table::fields_into;
+use base::sole;
 use chart::charts::Head;
 use chart::charts::Judged;
 
@@ -21,8 +22,7 @@ fn hand_over(head: Head, rows: &[u32], count: usize, table: &mut [u32]) -> Read
         × (now (table .exit) ≡ filled (unless (refusal (charted head (now (rows .entry)))) (charted head (now (rows .entry)))) (now (table .entry))) ⌝ }
 {
     match chart::judge(head, rows) {
-        Judged::Ragged => Read::Refused(21, 0),
-        Judged::Faulty { number, position } => Read::Refused(number, position),
+        Judged::Refused(r) => Read::Refused(r),
         Judged::Faultless => {
             copy(rows, table);
             Read::Chart(head, count)
@@ -39,10 +39,10 @@ pub fn rows_into(text: &[u8], at: usize, head: Head, count: u32, table: &mut [u3
     let mut rows = [0u32; 768];
     let n = count as usize;
     match fields_into(text, at, 6, 6 * n, &mut rows) {
-        Reach::Stopped(number, position) => Read::Refused(number, position),
+        Reach::Stopped(number, position) => Read::Refused(sole(number, position)),
         Reach::Past(end) => {
             if end < text.len() {
-                return Read::Refused(14, end);
+                return Read::Refused(sole(14, end));
             }
             hand_over(head, &rows[..6 * n], n, table)
         }

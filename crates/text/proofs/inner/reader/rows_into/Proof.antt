@@ -18,11 +18,17 @@ fields-into-requires c κs = search needs
 enum-known-number : tie.Need-enum-known-number
 enum-known-number c = search needs
 
+sole-requires : tie.Need-sole-requires
+sole-requires c κs = search needs
+
 enum-known-end : tie.Need-enum-known-end
 enum-known-end c = search needs
 
+sole-requires-2 : tie.Need-sole-requires-2
+sole-requires-2 c κs = search needs
+
 returns : tie.Need-returns
-returns c = rows-after _ _ _ _ _ _ _ _ (c .before .before .before .before .before .fields-into .ensures .0) _ (c .before .before .end .given .1) (c .if1 .taken)
+returns c = rows-after _ _ _ _ _ _ _ _ (c .before .before .before .before .before .before .fields-into .ensures .0) _ _ (c .sole2 .ensures) (c .before .before .before .end .given .1) (c .before .if1 .taken)
 
 mul-rows : tie.Need-mul-rows
 mul-rows c = search needs
@@ -37,7 +43,7 @@ hand-over-requires : tie.Need-hand-over-requires
 hand-over-requires c κs = (simp length-take (omega (arith, c .before .before .before .before .before .before .before .fields-into .ensures .1)), simp length-take (omega arith))
 
 returns-2 : tie.Need-returns-2
-returns-2 c = rows-stopped _ _ _ _ _ _ _ _ (c .before .before .before .before .fields-into .ensures .0) _ _ (c .before .number .given .1)
+returns-2 c = rows-stopped _ _ _ _ _ _ _ _ (c .before .before .before .before .before .fields-into .ensures .0) _ _ _ (c .sole .ensures) (c .before .before .number .given .1)
 
 same-length : tie.Need-same-length
 same-length c = search needs
@@ -53,7 +59,9 @@ rows-into-spec =
     slice-aggregate-fields-into
     fields-into-requires
     enum-known-number
+    sole-requires
     enum-known-end
+    sole-requires-2
     returns
     mul-rows
     array-share-prefix-rows
