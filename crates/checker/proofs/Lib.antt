@@ -1,5 +1,6 @@
 -- Laws of records that pass, demand 3, first half, and the check as the code comes upon it.
 pub mod Passed
+pub mod Passes
 pub mod Demand3
 pub mod Shapes
 pub mod Targets

@@ -34,7 +34,7 @@ use Rattle.detector.proofs.Turns.{leads-below}
 use Rattle.detector.proofs.Measure.{nothing-waits}
 use Rattle.detector.proofs.Invariant.{ToKept, ToPair, ToStep, Led, Stepped, explored-inv}
 use Rattle.marker.proofs.Marks.{rank-there, Final, final-marks}
-use Rattle.condition.proofs.Passes.{Rules, passes}
+use Rattle.checker.proofs.Passes.{Rules, passes}
 
 -- ---- the final targets
 map-at : (f : ℕ → ℕ) (l : List ℕ) (j : ℕ) → j < length l → getD (map f l) j 0 ≡ f (getD l j 0)
