@@ -2,13 +2,14 @@
 -- Assumes nothing.
 use mathlib.Core.Path.{_≡_, refl, sym, ap, _∙_}
 use mathlib.Core.List.{List, [], _∷_, _++_}
-use Prim.Native.Nat.{ℕ, _+_, _%_, _≤_}
+use Prim.Native.Nat.{ℕ, _+_, _*_, _%_, _≤_}
 use native.Mathlib.Omega.{arith}
 use borrow.Author.Tests.{eq-eqb, ne-eqb}
 use lib.ListN.{length, getD, take, drop}
 use lib.Seq.{sets-eq, take-at}
 use Rattle.text.specs.Written.{fieldsText, Put}
 use Rattle.text.proofs.Puts.{put-then, put-length}
+use Rattle.checker.specs.Records.{Graph, target}
 use Rattle.report.specs.Lines.{line, refusalLine}
 use Rattle.report.specs.Transitions.{firstRow, transition, ofPair}
 use Rattle.condition.specs.declared.Summary.{Summary}
@@ -53,21 +54,22 @@ module _ (before : List ℕ) (at : ℕ) (marks : List ℕ) (n row x : ℕ) where
   unfolding transition
   transition-none e = (rw (eq-eqb x 65535 e, transition) (put-none before at), omega arith)
 
-  pub transition-some : (mark : ℕ) (after : List ℕ) (r : ℕ) → (x ≡ 65535 → ⊥) → mark ≡ getD marks x 0 → (Put before at (line n row x mark) after r) × (r ≤ at + 45)
+  pub transition-some : (m : ℕ) (after : List ℕ) (r : ℕ) → (x ≡ 65535 → ⊥) → m ≡ getD marks x 0 → (Put before at (line n row x m) after r) × (r ≤ at + 45)
       → (Put before at (transition marks n row x) after r) × (r ≤ at + 45)
   unfolding transition
-  transition-some mark after r h m p = (rw (ne-eqb x 65535 h, transition, ← m) (p .0), p .1)
+  transition-some m after r h e p = (rw (ne-eqb x 65535 h, transition, ← e) (p .0), p .1)
 
 -- ---- one pair
 
-module _ (before : List ℕ) (at : ℕ) (t marks : List ℕ) (n m x y : ℕ) where
-  pub pair-none : (m ≡ 1 → ⊥) → (Put before at (ofPair t marks n m x y) before at) × (at ≤ at + 90)
+module _ (before : List ℕ) (at : ℕ) (t : List ℕ) (G : Graph) (n m : ℕ) where
+  pub pair-none : (m ≡ 1 → ⊥) → (Put before at (ofPair t G n m) before at) × (at ≤ at + 90)
   unfolding ofPair
   pair-none h = (rw (ne-eqb m 1 h, ofPair) (put-none before at), omega arith)
 
   pub pair-two : (row : ℕ) (middle : List ℕ) (p : ℕ) (after : List ℕ) (r : ℕ) → m ≡ 1 → (row ≡ firstRow t (n % 64)) × (row ≤ 128)
-      → (Put before at (transition marks n row x) middle p) × (p ≤ at + 45) → (Put middle p (transition marks n (row + 1) y) after r) × (r ≤ p + 45)
-      → (Put before at (ofPair t marks n m x y) after r) × (r ≤ at + 90)
+      → (Put before at (transition (G .marks) n row (getD (G .targets) (2 * n) 0)) middle p) × (p ≤ at + 45) → (Put middle p (transition (G .marks) n (row + 1) (target G n 1)) after r) × (r ≤ p + 45)
+      → (Put before at (ofPair t G n m) after r) × (r ≤ at + 90)
   unfolding ofPair
   pair-two row middle p after r h e f g =
-      (rw (eq-eqb m 1 h, ofPair, ← e .0) (put-then (f .0) (g .0)), omega (arith, f .1, g .1))
+      let z : 2 * n + 0 ≡ 2 * n = omega arith in
+      (rw (eq-eqb m 1 h, ofPair, z, ← e .0) (put-then (f .0) (g .0)), omega (arith, f .1, g .1))

@@ -4,6 +4,7 @@ use mathlib.Core.List.{List, [], _++_}
 use Prim.Native.Nat.{ℕ, _≤_, _<_}
 use lib.ListN.{length, take}
 use Rattle.text.specs.Written.{Put}
+use Rattle.checker.specs.Records.{Graph}
 use Rattle.report.specs.Transitions.{remaining}
 
 -- the bytes, and no others, are put at the front of a buffer, and r is their count. All is said by `put`; the rest follows from it, and is what
@@ -16,15 +17,15 @@ pub record Front (before bytes after : List ℕ) (r : ℕ) : Type 0 where
 
 -- Some of the transitions from pair n on stand at the front of a buffer: they, and then those from pair `next` on, are those from pair n
 -- on. As long as there are pairs, at least one is taken.
-pub record Portioned (t marks targets : List ℕ) (n : ℕ) (before after : List ℕ) (next r : ℕ) : Type 0 where
+pub record Portioned (t : List ℕ) (G : Graph) (n : ℕ) (before after : List ℕ) (next r : ℕ) : Type 0 where
   pub bytes : List ℕ
   pub front : Front before bytes after r
-  pub rest : bytes ++ remaining t marks targets next ≡ remaining t marks targets n
+  pub rest : bytes ++ remaining t G next ≡ remaining t G n
   pub onward : n < 4096 → n < next
 
 -- What main writes of the transitions from pair n on (`condition-printed`, proofs/Whole.antt): one portion after the other, each the bytes that a call left at the front of a buffer,
 -- until there are no more pairs.
-pub data Portions (t marks targets : List ℕ) : ℕ → List ℕ → Type 0 where
-  last : {n : ℕ} → 4096 ≤ n → Portions t marks targets n []
-  more : {n next r : ℕ} {before after rest : List ℕ} → n < 4096 → Portioned t marks targets n before after next r → Portions t marks targets next rest
-      → Portions t marks targets n (take r after ++ rest)
+pub data Portions (t : List ℕ) (G : Graph) : ℕ → List ℕ → Type 0 where
+  last : {n : ℕ} → 4096 ≤ n → Portions t G n []
+  more : {n next r : ℕ} {before after rest : List ℕ} → n < 4096 → Portioned t G n before after next r → Portions t G next rest
+      → Portions t G n (take r after ++ rest)

@@ -36,7 +36,7 @@ summaryLine s = line (s .start) (s .opened) (s .kept) (s .covered)
 
 -- the transitions of a record, under the new table t
 unfoldable pub transitions : List ℕ → Record → List ℕ
-transitions t R = remaining t (R .graph .marks) (R .graph .targets) 0
+transitions t R = remaining t (R .graph) 0
 
 unfoldable pub condition : List ℕ → Record → List ℕ
 condition t R = summaryLine (summary (R .start) (R .graph .marks)) ++ transitions t R

@@ -2,11 +2,13 @@
 -- row of the new table from 0, to node and that node's mark, by from and row".
 use mathlib.Core.Bool.{true, false}
 use mathlib.Core.List.{List, [], _∷_, _++_}
-use Prim.Native.Nat.{ℕ, zero, suc, _+_, _*_}
+use Prim.Native.Nat.{ℕ, zero, suc, _+_}
 use lib.Dec.{eqb, ltb}
-use lib.ListN.{getD, drop}
+use lib.ListN.{getD}
+use lib.Seq.{slice}
 use Rattle.chart.specs.Charts.{size, from}
 use Rattle.chart.specs.Places.{newOf}
+use Rattle.checker.specs.Records.{Graph, target}
 use Rattle.report.specs.Lines.{line}
 
 -- ---- "row of the new table from 0"
@@ -19,27 +21,25 @@ rowsBelow t q (suc n) = elim (ltb (from t n) q) [ true ↦ rowsBelow t q n + 1 |
 unfoldable pub firstRow : List ℕ → ℕ → ℕ
 firstRow t q = rowsBelow t q (size t)
 
--- ---- transitions under the marks of all nodes
+-- ---- transitions
 -- the transition from pair n by this row to x, if x is a target: 65535 is none
 unfoldable pub transition : List ℕ → ℕ → ℕ → ℕ → List ℕ
 transition marks n row x = elim (eqb x 65535) [ true ↦ [] | false ↦ line n row x (getD marks x 0) ]
 
-module _ (t marks : List ℕ) where
-  -- those of pair n, whose mark is m and whose targets are x and y: an open pair's, "at 2 × pair + 0 or 1 for a place's first and second row"
-  unfoldable pub ofPair : ℕ → ℕ → ℕ → ℕ → List ℕ
-  ofPair n m x y =
+module _ (t : List ℕ) (G : Graph) where
+  -- those of pair n, whose mark is m: an open pair's, to the targets of its place's first and second row
+  unfoldable pub ofPair : ℕ → ℕ → List ℕ
+  ofPair n m =
       elim (eqb m 1) [
-        | true ↦ transition marks n (firstRow t (newOf n .0)) x ++ transition marks n (firstRow t (newOf n .0) + 1) y
+        | true ↦ transition (G .marks) n (firstRow t (newOf n .0)) (target G n 0) ++ transition (G .marks) n (firstRow t (newOf n .0) + 1) (target G n 1)
         | false ↦ []
       ]
 
-  -- those of the pairs from n on, by the marks and the targets from there on
-  unfoldable pub transitionsFrom : ℕ → List ℕ → List ℕ → List ℕ
-  transitionsFrom n [] xs = []
-  transitionsFrom n (m ∷ ms) [] = []
-  transitionsFrom n (m ∷ ms) (x ∷ []) = []
-  transitionsFrom n (m ∷ ms) (x ∷ (y ∷ xs)) = ofPair n m x y ++ transitionsFrom (n + 1) ms xs
+  -- those of the pairs from n on, by their marks
+  unfoldable pub ofPairs : ℕ → List ℕ → List ℕ
+  ofPairs n [] = []
+  ofPairs n (m ∷ ms) = ofPair n m ++ ofPairs (n + 1) ms
 
--- those of the pairs from n on
-unfoldable pub remaining : List ℕ → List ℕ → List ℕ → ℕ → List ℕ
-remaining t marks targets n = transitionsFrom t marks n (drop n marks) (drop (2 * n) targets)
+-- those of the pairs from n on: pairs are the nodes below 4,096
+unfoldable pub remaining : List ℕ → Graph → ℕ → List ℕ
+remaining t G n = ofPairs t G n (slice n 4096 (G .marks))

@@ -1,5 +1,7 @@
 // What the program prints, in portions of at most 1,024 bytes. Together they are `printed` of specs/Printed.antt.
+ghost use mathlib.Core.List.{[]};
 ghost use lib.ListN.{take};
+ghost use Rattle.checker.specs.Records.{graphOf};
 ghost use Rattle.report.specs.Lines.{refusalLine};
 ghost use Rattle.report.specs.Printed.{summaryLine};
 ghost use Rattle.report.specs.Portions.{Front, Portioned};
@@ -32,7 +34,7 @@ pub fn portion(
     pair: usize,
     bytes: &mut [u8; 1024],
 ) -> Extent
-    ensures { λ r. ⌜ Portioned (take 768 (now (table .entry))) (now (marks .entry)) (now (targets .entry)) pair (now (bytes .entry)) (now (bytes .exit)) (r .next) (r .count) ⌝ }
+    ensures { λ r. ⌜ Portioned (take 768 (now (table .entry))) (graphOf (now (marks .entry)) (now (targets .entry)) []) pair (now (bytes .entry)) (now (bytes .exit)) (r .next) (r .count) ⌝ }
 {
     if table.len() < 768 {
         return put_pairs(table, marks, targets, pair, bytes);

@@ -8,7 +8,7 @@ shared-slice-read-if1 : tie.Need-shared-slice-read-if1
 shared-slice-read-if1 c = search needs
 
 returns : tie.Need-returns
-returns c = pair-none _ _ _ _ _ _ _ _ (c .if1 .taken)
+returns c = pair-none _ _ _ _ _ _ (c .if1 .taken)
 
 mul-first : tie.Need-mul-first
 mul-first c = search needs
@@ -47,7 +47,7 @@ same-length : tie.Need-same-length
 same-length c = search needs
 
 returns-2 : tie.Need-returns-2
-returns-2 c = pair-two _ _ _ _ _ _ _ _ _ _ _ _ _ (c .before .before .before .before .before .before .before .before .before .before .before .if1 .left) (c .before .before .before .before .before .before .before .before .before .before .first-row .ensures) (c .before .before .before .before .before .before .before .put-transition .ensures) (c .before .before .put-transition2 .ensures)
+returns-2 c = pair-two _ _ _ _ _ _ _ _ _ _ _ (c .before .before .before .before .before .before .before .before .before .before .before .if1 .left) (c .before .before .before .before .before .before .before .before .before .before .first-row .ensures) (c .before .before .before .before .before .before .before .put-transition .ensures) (c .before .before .put-transition2 .ensures)
 
 pub put-pair-spec : {M : Type 1} → statement M
 put-pair-spec =
