@@ -3,7 +3,7 @@ use mathlib.Core.Bool.{Bool, true, false}
 use mathlib.Core.Option.{Option, none, some}
 use Prim.Native.Nat.{ℕ, _+_}
 use Rattle.base.specs.Answers.{Answer, given, refused}
-use Rattle.base.specs.Refusals.{Fault}
+use Rattle.base.specs.declared.Refusal.{Refusal}
 use Rattle.operations.specs.declared.Operation.{Operation}
 use Rattle.operations.specs.declared.assumptions.Implication.{Implication}
 use Rattle.operations.specs.declared.assumptions.Implication.the-variants.{Never, Implied, NotImplied}
@@ -21,19 +21,19 @@ bit true = 1
 bit false = 0
 
 -- a refusal's number and position, 0 where there is none
-abbrev pub faultNumber : Option Fault → ℕ
+abbrev pub faultNumber : Option Refusal → ℕ
 faultNumber none = 0
-faultNumber (some f) = f .number
+faultNumber (some r) = r .number
 
-abbrev pub faultPosition : Option Fault → ℕ
+abbrev pub faultPosition : Option Refusal → ℕ
 faultPosition none = 0
-faultPosition (some f) = f .position
+faultPosition (some r) = r .position
 
 -- what was asked for, or 2^32 and a refusal's number
 abbrev pub writtenNumber : Answer ℕ → ℕ
 writtenNumber (given x) = x
-writtenNumber (refused n c p) = 4294967296 + n
+writtenNumber (refused r) = 4294967296 + r .number
 
 abbrev pub metNumber : Answer Bool → ℕ
 metNumber (given b) = bit b
-metNumber (refused n c p) = 4294967296 + n
+metNumber (refused r) = 4294967296 + r .number

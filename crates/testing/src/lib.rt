@@ -74,11 +74,7 @@ pub extern "C" fn testing_fault(places: u32, alarm: u32, rows: &[u32]) -> u32
 {
     match chart::judge(Head { places, alarm }, rows) {
         Judged::Faultless => 0,
-        Judged::Ragged => 21,
-        Judged::Faulty {
-            number,
-            position: _,
-        } => number,
+        Judged::Refused(r) => r.number,
     }
 }
 
@@ -89,11 +85,7 @@ pub extern "C" fn testing_fault_position(places: u32, alarm: u32, rows: &[u32]) 
 {
     match chart::judge(Head { places, alarm }, rows) {
         Judged::Faultless => 0,
-        Judged::Ragged => 0,
-        Judged::Faulty {
-            number: _,
-            position,
-        } => position,
+        Judged::Refused(r) => r.position,
     }
 }
 
@@ -104,7 +96,7 @@ pub extern "C" fn testing_written(code: u32, a: u32, b: u32, c: u32, values: &[u
 {
     match operations::value_written(Operation { code, a, b, c }, values) {
         Written::Value(x) => x as u64,
-        Written::Refused(n) => 4294967296 + n as u64,
+        Written::Refused(r) => 4294967296 + r.number as u64,
     }
 }
 
@@ -116,6 +108,6 @@ pub extern "C" fn testing_meets(code: u32, a: u32, b: u32, c: u32, values: &[u32
     match operations::meets(Operation { code, a, b, c }, values) {
         Met::Yes => 1,
         Met::No => 0,
-        Met::Refused(n) => 4294967296 + n as u64,
+        Met::Refused(r) => 4294967296 + r.number as u64,
     }
 }

@@ -12,22 +12,14 @@ judge-requires c κs = search needs
 enum-told : tie.Need-enum-told
 enum-told c = search needs
 
-enum-told-2 : tie.Need-enum-told-2
-enum-told-2 c = search needs
-
-enum-known-number : tie.Need-enum-known-number
-enum-known-number c = search needs
+enum-known-r : tie.Need-enum-known-r
+enum-known-r c = search needs
 
 returns : tie.Need-returns
 returns c = ap faultNumber (sym (ap told (c .enum-told .given .1)) ∙ c .before .before .judge .ensures)
 
 returns-2 : tie.Need-returns-2
-returns-2 c = ap faultNumber (sym (ap told (c .enum-told2 .given .1)) ∙ c .before .before .judge .ensures)
-
-returns-3 : tie.Need-returns-3
-returns-3 c = ap faultNumber (sym (ap told (c .before .number .given .1)) ∙ c .before .before .before .judge .ensures)
+returns-2 c = ap faultNumber (sym (ap told (c .before .r .given .1)) ∙ c .before .before .before .judge .ensures)
 
 pub testing-fault-spec : {M : Type 1} → statement M
-testing-fault-spec =
-    tie.close
-    (tie.spec judge-requires enum-told enum-told-2 enum-known-number returns returns-2 returns-3)
+testing-fault-spec = tie.close (tie.spec judge-requires enum-told enum-known-r returns returns-2)

@@ -15,8 +15,8 @@ enum-told c = search needs
 enum-told-2 : tie.Need-enum-told-2
 enum-told-2 c = search needs
 
-enum-known-n : tie.Need-enum-known-n
-enum-known-n c = search needs
+enum-known-r : tie.Need-enum-known-r
+enum-known-r c = search needs
 
 cast-result : tie.Need-cast-result
 cast-result c = search needs
@@ -31,7 +31,7 @@ returns-2 : tie.Need-returns-2
 returns-2 c = ap metNumber (sym (ap toldMet (c .enum-told2 .given .1)) ∙ c .before .before .meets .ensures)
 
 returns-3 : tie.Need-returns-3
-returns-3 c = ap metNumber (sym (ap toldMet (c .before .n .given .1)) ∙ c .before .before .before .meets .ensures)
+returns-3 c = ap metNumber (sym (ap toldMet (c .before .before .r .given .1)) ∙ c .before .before .before .before .meets .ensures)
 
 pub testing-meets-spec : {M : Type 1} → statement M
 testing-meets-spec =
@@ -40,7 +40,7 @@ testing-meets-spec =
     meets-requires
     enum-told
     enum-told-2
-    enum-known-n
+    enum-known-r
     cast-result
     add-result
     returns

@@ -15,8 +15,8 @@ enum-known-x c = search needs
 cast-result : tie.Need-cast-result
 cast-result c = search needs
 
-enum-known-n : tie.Need-enum-known-n
-enum-known-n c = search needs
+enum-known-r : tie.Need-enum-known-r
+enum-known-r c = search needs
 
 cast-result-2 : tie.Need-cast-result-2
 cast-result-2 c = search needs
@@ -28,7 +28,7 @@ returns : tie.Need-returns
 returns c = ap writtenNumber (sym (ap toldWritten (c .before .x .given .1)) ∙ c .before .before .before .value-written .ensures)
 
 returns-2 : tie.Need-returns-2
-returns-2 c = ap writtenNumber (sym (ap toldWritten (c .before .n .given .1)) ∙ c .before .before .before .value-written .ensures)
+returns-2 c = ap writtenNumber (sym (ap toldWritten (c .before .before .r .given .1)) ∙ c .before .before .before .before .value-written .ensures)
 
 pub testing-written-spec : {M : Type 1} → statement M
 testing-written-spec =
@@ -37,7 +37,7 @@ testing-written-spec =
     value-written-requires
     enum-known-x
     cast-result
-    enum-known-n
+    enum-known-r
     cast-result-2
     add-result
     returns
