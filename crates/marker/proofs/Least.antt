@@ -1,5 +1,6 @@
--- The marks of Algorithm 1 are the right ones: open is the least set that has the start and every pair with an open or kept target, and
--- covered are exactly the other targets of open pairs. Assumes nothing.
+-- The marks of Algorithm 1 are no more than they must be: open is within every set that has the start and is closed (`least-open`), and
+-- what is covered is a target of an open pair (`covered-reached`). That open has the start and is closed, and that no target of an open
+-- pair is left beyond, is `final-marks` (Marks.antt). Assumes nothing.
 use mathlib.Core.Path.{_≡_, refl, sym, subst, _∙_}
 use mathlib.Core.Bool.{Bool, true, false}
 use mathlib.Core.Logic.{_⊎_, inl, inr, ⊎-elim, dite}
