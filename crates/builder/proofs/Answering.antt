@@ -1,5 +1,5 @@
 -- What a build answers, in the form in which the code meets it. Assumes nothing.
-use mathlib.Core.Path.{_≡_, refl, sym, ap, _∙_}
+use mathlib.Core.Path.{_≡_, refl, sym, ap, subst, _∙_}
 use mathlib.Core.Bool.{Bool, true, false, not}
 use mathlib.Core.List.{List}
 use mathlib.Core.Option.{Option, none, some}
@@ -23,6 +23,7 @@ use Rattle.chart.specs.Faultless.{FaultlessChart}
 use Rattle.chart.proofs.Faultless.{faultless}
 use Rattle.checker.specs.Records.{recordOf}
 use Rattle.checker.specs.Checks.{sized, inChart, refusal as checkRefusal}
+use Rattle.checker.specs.Promise.{Words}
 use Rattle.condition.specs.declared.Summary.{Summary}
 use Rattle.builder.specs.declared.answers.Built.the-variants as builts
 use Rattle.builder.specs.declared.answers.Verdict.{Verdict}
@@ -31,6 +32,8 @@ use Rattle.graph.specs.Graphs.{Graph, graph, Sized}
 use Rattle.detector.specs.Turns.{explored}
 use Rattle.condition.specs.Builds.{finished, startOf, built, recorded, summary}
 use Rattle.condition.proofs.Demand3.{record-passes}
+use Rattle.paper.specs.Returned.{Returned}
+use Rattle.paper.proofs.Theorem.{demand-2}
 use Rattle.builder.specs.Answers.{toldVerdict, lent, refusal, answered, left}
 
 -- ---- the lengths
@@ -140,17 +143,20 @@ module _ (old new : Chart) (m t s w : List ℕ) (A : Accepted old new (graph m t
   unfolding left
   done-leaves = b ∙ rw (A .none-due, left)
 
-  record-is : recordOf (recorded old new .start) m₁ t₁ s₁ ≡ recorded old new
-  unfolding recorded
-  record-is = λ i. recordOf (recorded old new .start) (b i .marks) (b i .targets) (b i .sets)
+  -- what is left, with the start that is answered, is the record of the build
+  module _ (x : Summary) (e : builts.Done sm ≡ builts.Done x) where
+    record-is : recordOf (x .start) m₁ t₁ s₁ ≡ recorded old new
+    unfolding recorded summary
+    record-is =
+        let z : x ≡ sm = cc in
+        let y : x .start ≡ recorded old new .start = ap (λ (q : Summary). q .start) (z ∙ d) in
+        λ i. recordOf (y i) (b i .marks) (b i .targets) (b i .sets)
 
-  pub done-passes : (x : Summary) → builts.Done sm ≡ builts.Done x → checkRefusal old new (recordOf (x .start) m₁ t₁ s₁) ≡ none
-  unfolding summary
-  done-passes x e =
-      let z : x ≡ sm = cc in
-      let y : x .start ≡ recorded old new .start = ap (λ (q : Summary). q .start) (z ∙ d) in
-      (λ i. checkRefusal old new (recordOf (y i) m₁ t₁ s₁)) ∙ ap (checkRefusal old new) record-is
-      ∙ record-passes old new (A .old-faultless) (A .new-faultless) (A .old-sound) (A .new-sound)
+    pub done-passes : checkRefusal old new (recordOf (x .start) m₁ t₁ s₁) ≡ none
+    done-passes = ap (checkRefusal old new) record-is ∙ record-passes old new (A .old-faultless) (A .new-faultless) (A .old-sound) (A .new-sound)
+
+    pub done-returned : Words (old .table) → Words (new .table) → Returned old new (recordOf (x .start) m₁ t₁ s₁)
+    done-returned wo wn = subst (Returned old new) (sym record-is) (demand-2 old new (A .old-faultless) (A .new-faultless) wo wn)
 
 -- ---- a refusal
 module _ (old new : Chart) (m t s w : List ℕ) (v : Verdict) {n c p : ℕ} (e : toldVerdict v ≡ refusal old new (graph m t s w)) (q : v ≡ verdicts.Unsound n c p) where

@@ -12,6 +12,7 @@ ghost use Rattle.builder.specs.declared.answers.Built.the-variants.{Done
 ghost use Rattle.condition.specs.declared.Summary.{Summary};
 ghost use Rattle.graph.specs.Graphs.{graph, Sized};
 ghost use Rattle.condition.specs.Builds.{built, recorded, summary};
+ghost use Rattle.paper.specs.Returned.{Returned};
 ghost use Rattle.builder.specs.Answers.{told, toldVerdict, lent, refusal, answered, left};
 use answers::Built;
 use answers::Verdict;
@@ -151,7 +152,8 @@ fn complete<'a>(
     finish(old, new, marks, targets, sets, waiting, &seen)
 }
 
-// A build, or the refusal that is due, which writes nothing. What a build leaves, with the start it answers, the check passes.
+// A build, or the refusal that is due, which writes nothing. What a build leaves, with the start it answers, the check passes, and it is what
+// the source's Algorithms 2 and 1 return.
 pub fn build<'a>(
     old: Head,
     old_rows: &'a [u32],
@@ -167,6 +169,8 @@ pub fn build<'a>(
         ≡ left (charted old (now («old_rows» .entry))) (charted new (now («new_rows» .entry))) (graph (now (marks .entry)) (now (targets .entry)) (now (sets .entry)) (now (waiting .entry))) ⌝ }
     ensures passes { λ r. ⌜ ((s : Summary) → r ≡ Done s
         → checkRefusal (charted old (now («old_rows» .entry))) (charted new (now («new_rows» .entry))) (recordOf (s .start) (now (marks .exit)) (now (targets .exit)) (now (sets .exit))) ≡ none) ⌝ }
+    ensures algorithms { λ r. ⌜ ((s : Summary) → r ≡ Done s
+        → Returned (charted old (now («old_rows» .entry))) (charted new (now («new_rows» .entry))) (recordOf (s .start) (now (marks .exit)) (now (targets .exit)) (now (sets .exit)))) ⌝ }
 {
     match judge(
         old,

@@ -34,6 +34,7 @@ use Rattle.builder.specs.declared.answers.Verdict.the-variants as verdicts
 use Rattle.graph.specs.Graphs.{graph}
 use Rattle.condition.specs.Builds.{recorded, summary}
 use Rattle.condition.proofs.Demand3.{record-passes}
+use Rattle.paper.specs.Returned.{Returned}
 use Rattle.builder.specs.Answers.{told, lent, refusal, answered}
 use Rattle.builder.proofs.Answering.{accepted}
 use Rattle.capi.specs.Numbers.{number, ofBuild}
@@ -121,12 +122,17 @@ module _ (old new : Chart) (m t s w : List ℕ) where
       done-number e = e ∙ ap (λ (a : Answer Summary). number (mapped ofBuild a)) given-is
 
       -- the start is the answer's first number
-      pub done-passes : {x : ℕ} (m′ t′ s″ : List ℕ) → ((q : Summary) → b ≡ builts.Done q → checkRefusal old new (recordOf (q .start) m′ t′ s″) ≡ none)
-          → x ≡ number (given (ofBuild s′)) → x < 2 ^ 56 → checkRefusal old new (recordOf (x % 2 ^ 14) m′ t′ s″) ≡ none
-      done-passes {x} m′ t′ s″ passes e l =
-          let f = done-few in
-          let z : s′ .start ≡ x % 2 ^ 14 = omega arith in
-          subst (λ (k : ℕ). checkRefusal old new (recordOf k m′ t′ s″) ≡ none) z (passes s′ done)
+      done-start : {x : ℕ} → x ≡ number (given (ofBuild s′)) → s′ .start ≡ x % 2 ^ 14
+      done-start e = let f = done-few in omega arith
+
+      module _ (m′ t′ s″ : List ℕ) {x : ℕ} (e : x ≡ number (given (ofBuild s′))) where
+        pub done-passes : ((q : Summary) → b ≡ builts.Done q → checkRefusal old new (recordOf (q .start) m′ t′ s″) ≡ none) → x < 2 ^ 56
+            → checkRefusal old new (recordOf (x % 2 ^ 14) m′ t′ s″) ≡ none
+        done-passes passes l = subst (λ (k : ℕ). checkRefusal old new (recordOf k m′ t′ s″) ≡ none) (done-start e) (passes s′ done)
+
+        pub done-returned : ((q : Summary) → b ≡ builts.Done q → Returned old new (recordOf (q .start) m′ t′ s″)) → x < 2 ^ 56
+            → Returned old new (recordOf (x % 2 ^ 14) m′ t′ s″)
+        done-returned returned l = subst (λ (k : ℕ). Returned old new (recordOf k m′ t′ s″)) (done-start e) (returned s′ done)
 
     module _ {n c p : ℕ} (stopped : b ≡ builts.Refused n c p) where
       refused-is : refused n c p ≡ answered old new (graph m t s w)
@@ -139,5 +145,5 @@ module _ (old new : Chart) (m t s w : List ℕ) where
       stopped-number e = e ∙ ap (λ (a : Answer Summary). number (mapped ofBuild a)) refused-is
 
       -- a refusal is 2^56 or more
-      pub stopped-passes : {A : Type 0} {x : ℕ} → x ≡ number (refused n c p) → x < 2 ^ 56 → A
-      stopped-passes {A} {x} e l = absurd (omega (arith, stopped-small .some-number))
+      pub stopped-none : {A : Type 0} {x : ℕ} → x ≡ number (refused n c p) → x < 2 ^ 56 → A
+      stopped-none {A} {x} e l = absurd (omega (arith, stopped-small .some-number))

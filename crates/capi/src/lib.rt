@@ -10,6 +10,7 @@ ghost use Rattle.checker.specs.Records.{recordOf};
 ghost use Rattle.checker.specs.Checks.{refusal};
 ghost use Rattle.checker.specs.Promise.{Promise};
 ghost use Rattle.graph.specs.Graphs.{graph};
+ghost use Rattle.paper.specs.Returned.{Returned};
 ghost use Rattle.builder.specs.Answers.{answered, left};
 ghost use Rattle.capi.specs.Lookups.{lookedUp, handed, ofRows};
 ghost use Rattle.capi.specs.Numbers.{chartOf, number, ofChart, ofText, unlessDue, ofBuild};
@@ -120,7 +121,7 @@ pub extern "C" fn picker_check<'a>(
 }
 
 // A build: start, open, kept, covered. What an answer below 2^56 leaves in marks, targets and sets, with the start that it tells, the check
-// passes.
+// passes, and it is what the source's Algorithms 2 and 1 return.
 #[no_mangle]
 pub extern "C" fn picker_build<'a>(
     old_places: u32,
@@ -139,6 +140,8 @@ pub extern "C" fn picker_build<'a>(
         ≡ left (chartOf «old_places» «old_alarm» (now («old_rows» .entry))) (chartOf «new_places» «new_alarm» (now («new_rows» .entry))) (graph (now (marks .entry)) (now (targets .entry)) (now (sets .entry)) (now (waiting .entry))) ⌝ }
     ensures passes { λ r. ⌜ (r < 2 ^ 56
         → refusal (chartOf «old_places» «old_alarm» (now («old_rows» .entry))) (chartOf «new_places» «new_alarm» (now («new_rows» .entry))) (recordOf (r % 2 ^ 14) (now (marks .exit)) (now (targets .exit)) (now (sets .exit))) ≡ none) ⌝ }
+    ensures algorithms { λ r. ⌜ (r < 2 ^ 56
+        → Returned (chartOf «old_places» «old_alarm» (now («old_rows» .entry))) (chartOf «new_places» «new_alarm» (now («new_rows» .entry))) (recordOf (r % 2 ^ 14) (now (marks .exit)) (now (targets .exit)) (now (sets .exit)))) ⌝ }
 {
     let old = Head {
         places: old_places,

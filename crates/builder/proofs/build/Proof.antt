@@ -1,5 +1,7 @@
--- `builder::build` meets its contract: the refusal that is due, or both algorithms, whose record the check passes. Assumes nothing.
-use Rattle.builder.proofs.Answering.{accepted, done-answers, done-leaves, done-passes, refused-answers, refused-leaves, never-done}
+-- `builder::build` meets its contract: the refusal that is due, or both algorithms, whose record the check passes and is
+-- what the source's algorithms return. Assumes nothing.
+use Rattle.builder.proofs.Answering.{accepted, done-answers, done-leaves, done-passes, done-returned, refused-answers, refused-leaves, never-done}
+use native.Mathlib.Omega.{arith}
 use borrow.Author.Needs.{needs}
 use Rattle.builder.proofs.build.Statement.{statement}
 use Rattle.builder.proofs.build.Tie as tie
@@ -32,7 +34,17 @@ returns : tie.Need-returns
 returns c =
     let A = accepted _ _ _ _ _ _ (c .before .before .before .before .before .before .before .before .before .before .before .before .before .before .before .judge .result) (c .before .before .before .before .before .before .before .before .before .before .before .before .before .before .before .judge .ensures) (c .before .before .before .before .before .before .before .before .before .before .before .before .before .enum-told .given .1) in
     let e = c .before .before .before .before .before .before .before .before .complete .ensures in
-    (done-answers _ _ _ _ _ _ A (e .0) (e .1), (done-leaves _ _ _ _ _ _ A (e .0) (e .1), done-passes _ _ _ _ _ _ A (e .0) (e .1)))
+    let known-old = c .before .before .before .before .before .before .before .before .before .before .before .before .before .before .before .before .before .before .before .before .before .before .before .before .before .shared-slice-known .given in
+    let known-new = c .before .before .before .before .before .before .before .before .before .before .before .before .before .before .before .before .before .before .before .before .before .before .before .before .shared-slice-known2 .given in (
+      done-answers _ _ _ _ _ _ A (e .0) (e .1),
+      (
+        done-leaves _ _ _ _ _ _ A (e .0) (e .1),
+        (
+          done-passes _ _ _ _ _ _ A (e .0) (e .1),
+          λ x h. done-returned _ _ _ _ _ _ A (e .0) (e .1) x h (record { small = λ k. omega (arith, known-old k) }) (record { small = λ k. omega (arith, known-new k) }),
+        ),
+      ),
+    )
 
 same-length-5 : tie.Need-same-length-5
 same-length-5 c = search needs
@@ -51,7 +63,7 @@ returns-2 c =
     let r = c .before .before .before .judge .result in
     let e = c .before .before .before .judge .ensures in
     let q = c .before .number .given .1 in
-    (refused-answers _ _ _ _ _ _ r e q, (refused-leaves _ _ _ _ _ _ r e q, λ x h. never-done _ _ _ x h))
+    (refused-answers _ _ _ _ _ _ r e q, (refused-leaves _ _ _ _ _ _ r e q, (λ x h. never-done _ _ _ x h, λ x h. never-done _ _ _ x h)))
 
 pub build-spec : {M : Type 1} → statement M
 build-spec =

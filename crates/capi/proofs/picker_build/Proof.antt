@@ -1,6 +1,6 @@
 -- `capi::picker_build` meets its contract: the answers are small, so that no sum wraps. Assumes nothing.
 use Rattle.capi.specs.Numbers.{chartOf}
-use Rattle.capi.proofs.Built.{done-few, done-number, done-passes, stopped-small, stopped-number, stopped-passes}
+use Rattle.capi.proofs.Built.{done-few, done-number, done-passes, done-returned, stopped-small, stopped-number, stopped-none}
 use native.Mathlib.Omega.{arith}
 use borrow.Author.Needs.{needs}
 use Rattle.capi.proofs.picker_build.Statement.{statement}
@@ -64,7 +64,18 @@ same-length-4 : tie.Need-same-length-4
 same-length-4 c = search needs
 
 returns : tie.Need-returns
-returns c = (done-number (chartOf (c .before .before .before .before .before .before .before .before .before .before .before .before .before .before .before .before .before .before .before .before .before .before .args .old-places) (c .before .before .before .before .before .before .before .before .before .before .before .before .before .before .before .before .before .before .before .before .before .before .args .old-alarm) (c .before .before .before .before .before .before .before .before .before .before .before .before .before .before .before .before .before .before .before .before .before .before .args .old-rows .now)) (chartOf (c .before .before .before .before .before .before .before .before .before .before .before .before .before .before .before .before .before .before .before .before .before .before .args .new-places) (c .before .before .before .before .before .before .before .before .before .before .before .before .before .before .before .before .before .before .before .before .before .before .args .new-alarm) (c .before .before .before .before .before .before .before .before .before .before .before .before .before .before .before .before .before .before .before .before .before .before .args .new-rows .now)) (c .before .before .before .before .before .before .before .before .before .before .before .before .before .before .before .before .before .before .before .before .before .before .args .marks .now) (c .before .before .before .before .before .before .before .before .before .before .before .before .before .before .before .before .before .before .before .before .before .before .args .targets .now) (c .before .before .before .before .before .before .before .before .before .before .before .before .before .before .before .before .before .before .before .before .before .before .args .sets .now) (c .before .before .before .before .before .before .before .before .before .before .before .before .before .before .before .before .before .before .before .before .before .before .args .waiting .now) (c .before .before .before .before .before .before .before .before .before .before .before .build .ensures .0) (c .before .s .given .1) (omega arith), (c .before .before .before .before .before .before .before .before .before .before .before .build .ensures .1 .0, done-passes (chartOf (c .before .before .before .before .before .before .before .before .before .before .before .before .before .before .before .before .before .before .before .before .before .before .args .old-places) (c .before .before .before .before .before .before .before .before .before .before .before .before .before .before .before .before .before .before .before .before .before .before .args .old-alarm) (c .before .before .before .before .before .before .before .before .before .before .before .before .before .before .before .before .before .before .before .before .before .before .args .old-rows .now)) (chartOf (c .before .before .before .before .before .before .before .before .before .before .before .before .before .before .before .before .before .before .before .before .before .before .args .new-places) (c .before .before .before .before .before .before .before .before .before .before .before .before .before .before .before .before .before .before .before .before .before .before .args .new-alarm) (c .before .before .before .before .before .before .before .before .before .before .before .before .before .before .before .before .before .before .before .before .before .before .args .new-rows .now)) (c .before .before .before .before .before .before .before .before .before .before .before .before .before .before .before .before .before .before .before .before .before .before .args .marks .now) (c .before .before .before .before .before .before .before .before .before .before .before .before .before .before .before .before .before .before .before .before .before .before .args .targets .now) (c .before .before .before .before .before .before .before .before .before .before .before .before .before .before .before .before .before .before .before .before .before .before .args .sets .now) (c .before .before .before .before .before .before .before .before .before .before .before .before .before .before .before .before .before .before .before .before .before .before .args .waiting .now) (c .before .before .before .before .before .before .before .before .before .before .before .build .ensures .0) (c .before .s .given .1) _ _ _ (c .before .before .before .before .before .before .before .before .before .before .before .build .ensures .1 .1) (omega arith)))
+returns c =
+    let a = c .before .before .before .before .before .before .before .before .before .before .before .before .before .before .before .before .before .before .before .before .before .before .args in
+    let old = chartOf (a .old-places) (a .old-alarm) (a .old-rows .now) in
+    let new = chartOf (a .new-places) (a .new-alarm) (a .new-rows .now) in
+    let e = c .before .before .before .before .before .before .before .before .before .before .before .build .ensures in
+    let is = c .before .s .given .1 in (
+      done-number old new (a .marks .now) (a .targets .now) (a .sets .now) (a .waiting .now) (e .0) is (omega arith),
+      (
+        e .1 .0,
+        (done-passes old new (a .marks .now) (a .targets .now) (a .sets .now) (a .waiting .now) (e .0) is _ _ _ (omega arith) (e .1 .1 .0), done-returned old new (a .marks .now) (a .targets .now) (a .sets .now) (a .waiting .now) (e .0) is _ _ _ (omega arith) (e .1 .1 .1)),
+      ),
+    )
 
 same-length-5 : tie.Need-same-length-5
 same-length-5 c = search needs
@@ -79,7 +90,15 @@ same-length-8 : tie.Need-same-length-8
 same-length-8 c = search needs
 
 returns-2 : tie.Need-returns-2
-returns-2 c = (stopped-number (chartOf (c .before .before .before .before .before .before .before .before .before .before .before .before .before .before .before .before .before .before .before .before .before .before .args .old-places) (c .before .before .before .before .before .before .before .before .before .before .before .before .before .before .before .before .before .before .before .before .before .before .args .old-alarm) (c .before .before .before .before .before .before .before .before .before .before .before .before .before .before .before .before .before .before .before .before .before .before .args .old-rows .now)) (chartOf (c .before .before .before .before .before .before .before .before .before .before .before .before .before .before .before .before .before .before .before .before .before .before .args .new-places) (c .before .before .before .before .before .before .before .before .before .before .before .before .before .before .before .before .before .before .before .before .before .before .args .new-alarm) (c .before .before .before .before .before .before .before .before .before .before .before .before .before .before .before .before .before .before .before .before .before .before .args .new-rows .now)) (c .before .before .before .before .before .before .before .before .before .before .before .before .before .before .before .before .before .before .before .before .before .before .args .marks .now) (c .before .before .before .before .before .before .before .before .before .before .before .before .before .before .before .before .before .before .before .before .before .before .args .targets .now) (c .before .before .before .before .before .before .before .before .before .before .before .before .before .before .before .before .before .before .before .before .before .before .args .sets .now) (c .before .before .before .before .before .before .before .before .before .before .before .before .before .before .before .before .before .before .before .before .before .before .args .waiting .now) (c .before .before .before .before .before .before .before .before .before .before .before .build .ensures .0) (c .before .number .given .1) (omega arith), (c .before .before .before .before .before .before .before .before .before .before .before .build .ensures .1 .0, stopped-passes (chartOf (c .before .before .before .before .before .before .before .before .before .before .before .before .before .before .before .before .before .before .before .before .before .before .args .old-places) (c .before .before .before .before .before .before .before .before .before .before .before .before .before .before .before .before .before .before .before .before .before .before .args .old-alarm) (c .before .before .before .before .before .before .before .before .before .before .before .before .before .before .before .before .before .before .before .before .before .before .args .old-rows .now)) (chartOf (c .before .before .before .before .before .before .before .before .before .before .before .before .before .before .before .before .before .before .before .before .before .before .args .new-places) (c .before .before .before .before .before .before .before .before .before .before .before .before .before .before .before .before .before .before .before .before .before .before .args .new-alarm) (c .before .before .before .before .before .before .before .before .before .before .before .before .before .before .before .before .before .before .before .before .before .before .args .new-rows .now)) (c .before .before .before .before .before .before .before .before .before .before .before .before .before .before .before .before .before .before .before .before .before .before .args .marks .now) (c .before .before .before .before .before .before .before .before .before .before .before .before .before .before .before .before .before .before .before .before .before .before .args .targets .now) (c .before .before .before .before .before .before .before .before .before .before .before .before .before .before .before .before .before .before .before .before .before .before .args .sets .now) (c .before .before .before .before .before .before .before .before .before .before .before .before .before .before .before .before .before .before .before .before .before .before .args .waiting .now) (c .before .before .before .before .before .before .before .before .before .before .before .build .ensures .0) (c .before .number .given .1) (omega arith)))
+returns-2 c =
+    let a = c .before .before .before .before .before .before .before .before .before .before .before .before .before .before .before .before .before .before .before .before .before .before .args in
+    let old = chartOf (a .old-places) (a .old-alarm) (a .old-rows .now) in
+    let new = chartOf (a .new-places) (a .new-alarm) (a .new-rows .now) in
+    let e = c .before .before .before .before .before .before .before .before .before .before .before .build .ensures in
+    let is = c .before .number .given .1 in (
+      stopped-number old new (a .marks .now) (a .targets .now) (a .sets .now) (a .waiting .now) (e .0) is (omega arith),
+      (e .1 .0, (λ l. stopped-none old new (a .marks .now) (a .targets .now) (a .sets .now) (a .waiting .now) (e .0) is (omega arith) l, λ l. stopped-none old new (a .marks .now) (a .targets .now) (a .sets .now) (a .waiting .now) (e .0) is (omega arith) l)),
+    )
 
 pub picker-build-spec : {M : Type 1} → statement M
 picker-build-spec =
