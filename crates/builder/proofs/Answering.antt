@@ -1,40 +1,50 @@
 -- What a build answers, in the form in which the code meets it. Assumes nothing.
-use mathlib.Core.Path.{_≡_, refl, sym, ap, subst, _∙_}
+use mathlib.Core.Path.{_≡_, sym, ap, subst, _∙_}
 use mathlib.Core.Bool.{Bool, true, false, not}
 use mathlib.Core.List.{List}
 use mathlib.Core.Option.{Option, none, some}
 use Prim.Native.Nat.{ℕ, _%_}
 use native.Mathlib.Omega.{arith}
-use borrow.Author.Tests.{eq-eqb, ne-eqb, not-false}
+use borrow.Author.Tests.{ne-eqb, not-false}
 use lib.Dec.{eqb}
 use lib.ListN.{length}
 use Rattle.base.specs.Answers.{given, refused}
 use Rattle.base.specs.Options.{orElse, missing}
-use Rattle.base.specs.Refusals.{refusedIf, Fault}
-use Rattle.base.specs.Says.{bool}
-use Rattle.base.proofs.Options.{both-missing, not-due, first-there, first-missing}
+use Rattle.base.specs.declared.Refusal.{Refusal}
+use Rattle.base.specs.Refusals.{sole, due}
+use Rattle.base.specs.Says.{Test, bool}
+use Rattle.base.proofs.Answers.{different}
+use Rattle.base.proofs.Options.{both-missing, not-due, picked-first, picked-second}
 use Rattle.base.proofs.Says.{says}
 use Rattle.base.proofs.Tests.{T-true}
 use Rattle.chart.specs.declared.charts.Head.{Head}
 use Rattle.chart.specs.declared.charts.Judged.{Judged}
+use Rattle.chart.specs.declared.charts.Judged.the-variants.{Faultless, Refused}
 use Rattle.chart.specs.Charts.{Chart, charted}
-use Rattle.chart.specs.Faults.{fault, told as chartTold, refusal as chartRefusal}
+use Rattle.chart.specs.Faults.{fault, told as chartTold}
 use Rattle.chart.specs.Faultless.{FaultlessChart}
 use Rattle.chart.proofs.Faultless.{faultless}
 use Rattle.checker.specs.Records.{recordOf}
 use Rattle.checker.specs.Checks.{sized, inChart, refusal as checkRefusal}
 use Rattle.checker.specs.Promise.{Words}
-use Rattle.condition.specs.declared.Summary.{Summary}
-use Rattle.builder.specs.declared.answers.Built.the-variants as builts
-use Rattle.builder.specs.declared.answers.Verdict.{Verdict}
-use Rattle.builder.specs.declared.answers.Verdict.the-variants as verdicts
+use Rattle.checker.proofs.Passed.{no-fault, unrefused}
 use Rattle.graph.specs.Graphs.{Graph, graph, Sized}
 use Rattle.detector.specs.Turns.{explored}
+use Rattle.condition.specs.declared.Summary.{Summary}
 use Rattle.condition.specs.Builds.{finished, startOf, built, recorded, summary}
 use Rattle.condition.proofs.Demand3.{record-passes}
 use Rattle.paper.specs.Returned.{Returned}
 use Rattle.paper.proofs.Theorem.{demand-2}
-use Rattle.builder.specs.Answers.{toldVerdict, lent, refusal, answered, left}
+use Rattle.builder.specs.declared.answers.Built.{Built}
+use Rattle.builder.specs.declared.answers.Built.the-variants as builts
+use Rattle.builder.specs.Answers.{told, lent, refusal, answered, left}
+
+-- answers that say the same are the same
+pub told-one : (x y : Built) → told x ≡ told y → x ≡ y
+told-one (builts.Done s) (builts.Done t) e = let z : s ≡ t = cc in ap builts.Done z
+told-one (builts.Done s) (builts.Refused r) e = absurd (different e)
+told-one (builts.Refused r) (builts.Done t) e = absurd (different (sym e))
+told-one (builts.Refused r) (builts.Refused q) e = let z : r ≡ q = cc in ap builts.Refused z
 
 -- ---- the lengths
 module _ (o n m t s w : List ℕ) where
@@ -67,60 +77,50 @@ module _ (o n m t s w : List ℕ) where
 
 -- ---- the refusal that is due
 module _ (old new : Chart) (g : Graph) {b : Bool} (l : b ≡ bool (lent (old .table) (new .table) g)) where
-  pub judge-lengths : b ≡ false → some (record { number = 21; chart = 0; position = 0 }) ≡ refusal old new g
+  pub judge-lengths : b ≡ false → some (sole 21 0) ≡ refusal old new g
   unfolding refusal
   judge-lengths e = rw (sym l ∙ e)
 
-  module _ (v : Verdict) (j : Judged) {r : Bool} (t : b ≡ true) (a : toldVerdict v ≡ inChart 0 (chartTold j)) (f : chartTold j ≡ fault old) (d : r ≡ missing (toldVerdict v)) where
-    first-is : toldVerdict v ≡ inChart 0 (fault old)
-    first-is = a ∙ ap (inChart 0) f
-
-    pub judge-old : r ≡ false → toldVerdict v ≡ refusal old new g
+  module _ (t : b ≡ true) {o f : Option Refusal} {r : Bool} (a : o ≡ inChart 0 f) (j : f ≡ fault old) (d : r ≡ missing o) where
+    after-lengths : refusal old new g ≡ orElse (inChart 0 (fault old)) (inChart 1 (fault new))
     unfolding refusal
-    judge-old e = first-is ∙ rw (sym l ∙ t) (sym (first-there (inChart 0 (fault old)) (inChart 1 (fault new)) (ap missing (sym first-is) ∙ sym d ∙ e)))
+    after-lengths = rw (sym l ∙ t)
 
-    pub judge-new : (v′ : Verdict) (j′ : Judged) → r ≡ true → toldVerdict v′ ≡ inChart 1 (chartTold j′) → chartTold j′ ≡ fault new → toldVerdict v′ ≡ refusal old new g
-    unfolding refusal
-    judge-new v′ j′ e c h =
-        c ∙ ap (inChart 1) h ∙ rw (sym l ∙ t) (sym (first-missing (inChart 0 (fault old)) (inChart 1 (fault new)) (ap missing (sym first-is) ∙ sym d ∙ e)))
+    in-old : o ≡ inChart 0 (fault old)
+    in-old = a ∙ ap (inChart 0) j
+
+    pub judge-old : r ≡ false → o ≡ refusal old new g
+    judge-old e = picked-first in-old d (inChart 1 (fault new)) e ∙ sym after-lengths
+
+    pub judge-new : {o′ f′ : Option Refusal} → r ≡ true → o′ ≡ inChart 1 f′ → f′ ≡ fault new → o′ ≡ refusal old new g
+    judge-new e c h = picked-second in-old d e (c ∙ ap (inChart 1) h) ∙ sym after-lengths
 
 -- ---- what is not refused
 pub record Accepted (old new : Chart) (g : Graph) : Type 0 where
   pub sized : Sized g
-  pub old-sound : fault old ≡ none
-  pub new-sound : fault new ≡ none
   pub old-faultless : FaultlessChart old
   pub new-faultless : FaultlessChart new
   pub none-due : refusal old new g ≡ none
 
-unrefused : (C : Chart) → length (C .table) % 6 ≡ 0 → fault C ≡ none → chartRefusal C ≡ none
-unfolding chartRefusal
-unrefused C w e = rw (eq-eqb (length (C .table) % 6) 0 w) e
+module _ (old new : Chart) (g : Graph) where
+  abbrev lengths : Test
+  lengths = lent (old .table) (new .table) g
 
-no-fault : (chart : ℕ) (o : Option Fault) → inChart chart o ≡ none → o ≡ none
-no-fault chart none e = refl
-no-fault chart (some f) e = let z : _≡_ {A = ℕ} 0 1 = cc in absurd (omega arith)
-
-module _ (old new : Chart) (m t s w : List ℕ) where
-  accepted-by : refusal old new (graph m t s w) ≡ none → Accepted old new (graph m t s w)
+  pub accepted : refusal old new g ≡ none → Accepted old new g
   unfolding refusal lent sized
-  accepted-by e =
-      let a = both-missing (refusedIf (not (bool (lent (old .table) (new .table) (graph m t s w)))) 21 0 0) (orElse (inChart 0 (fault old)) (inChart 1 (fault new))) e in
+  accepted e =
+      let a = both-missing (due (not (bool lengths)) 21 0) (orElse (inChart 0 (fault old)) (inChart 1 (fault new))) e in
       let b = both-missing (inChart 0 (fault old)) (inChart 1 (fault new)) (a .1) in
-      let z = says (lent (old .table) (new .table) (graph m t s w)) (T-true (not-false (bool (lent (old .table) (new .table) (graph m t s w))) (not-due (not (bool (lent (old .table) (new .table) (graph m t s w)))) (record { number = 21; chart = 0; position = 0 }) (a .0)))) in
-      let fo = no-fault 0 (fault old) (b .0) in
-      let fn = no-fault 1 (fault new) (b .1) in
+      let z = says lengths (T-true (not-false (bool lengths) (not-due (not (bool lengths)) (sole 21 0) (a .0)))) in
       record {
         sized = record { marks = z .1 .0; targets = z .1 .1 .0; sets = z .1 .1 .1 .0; waiting = z .0 };
-        old-sound = fo;
-        new-sound = fn;
-        old-faultless = faultless old (unrefused old (z .1 .1 .1 .1 .0) fo);
-        new-faultless = faultless new (unrefused new (z .1 .1 .1 .1 .1) fn);
+        old-faultless = faultless old (unrefused old (z .1 .1 .1 .1 .0) (no-fault 0 (fault old) (b .0)));
+        new-faultless = faultless new (unrefused new (z .1 .1 .1 .1 .1) (no-fault 1 (fault new) (b .1)));
         none-due = e;
       }
 
-  pub accepted : (v : Verdict) → toldVerdict v ≡ refusal old new (graph m t s w) → v ≡ verdicts.Sound → Accepted old new (graph m t s w)
-  accepted v e q = accepted-by (sym e ∙ ap toldVerdict q)
+  pub judged-faultless : {v : Judged} → chartTold v ≡ refusal old new g → v ≡ Faultless → Accepted old new g
+  judged-faultless e q = accepted (sym e ∙ ap chartTold q)
 
 -- ---- both algorithms
 module _ (ho hn : Head) (to tn : List ℕ) {m t s w : List ℕ} (a : graph m t s w ≡ explored (charted ho to) (charted hn tn)) where
@@ -133,13 +133,13 @@ module _ (ho hn : Head) (to tn : List ℕ) {m t s w : List ℕ} (a : graph m t s
   both-summed m₁ d = d ∙ (λ i. summary (startOf ho hn (a i .marks)) m₁)
 
 -- ---- a build
-module _ (old new : Chart) (m t s w : List ℕ) (A : Accepted old new (graph m t s w)) {m₁ t₁ s₁ w₁ : List ℕ} {sm : Summary}
+module _ (old new : Chart) (g : Graph) (A : Accepted old new g) {m₁ t₁ s₁ w₁ : List ℕ} {sm : Summary}
     (b : graph m₁ t₁ s₁ w₁ ≡ built old new) (d : sm ≡ summary (recorded old new .start) m₁) where
-  pub done-answers : given sm ≡ answered old new (graph m t s w)
+  pub done-answers : given sm ≡ answered old new g
   unfolding answered recorded
-  done-answers = ap given d ∙ (λ i. given (summary (recorded old new .start) (b i .marks))) ∙ rw (A .none-due, answered)
+  done-answers = ap given d ∙ (λ i. given (summary (recorded old new .start) (b i .marks))) ∙ rw (A .none-due)
 
-  pub done-leaves : graph m₁ t₁ s₁ w₁ ≡ left old new (graph m t s w)
+  pub done-leaves : graph m₁ t₁ s₁ w₁ ≡ left old new g
   unfolding left
   done-leaves = b ∙ rw (A .none-due, left)
 
@@ -153,20 +153,20 @@ module _ (old new : Chart) (m t s w : List ℕ) (A : Accepted old new (graph m t
         λ i. recordOf (y i) (b i .marks) (b i .targets) (b i .sets)
 
     pub done-passes : checkRefusal old new (recordOf (x .start) m₁ t₁ s₁) ≡ none
-    done-passes = ap (checkRefusal old new) record-is ∙ record-passes old new (A .old-faultless) (A .new-faultless) (A .old-sound) (A .new-sound)
+    done-passes = ap (checkRefusal old new) record-is ∙ record-passes old new (A .old-faultless) (A .new-faultless)
 
     pub done-returned : Words (old .table) → Words (new .table) → Returned old new (recordOf (x .start) m₁ t₁ s₁)
     done-returned wo wn = subst (Returned old new) (sym record-is) (demand-2 old new (A .old-faultless) (A .new-faultless) wo wn)
 
 -- ---- a refusal
-module _ (old new : Chart) (m t s w : List ℕ) (v : Verdict) {n c p : ℕ} (e : toldVerdict v ≡ refusal old new (graph m t s w)) (q : v ≡ verdicts.Unsound n c p) where
-  pub refused-answers : refused n c p ≡ answered old new (graph m t s w)
+module _ (old new : Chart) (g : Graph) {v : Judged} {r : Refusal} (e : chartTold v ≡ refusal old new g) (q : v ≡ Refused r) where
+  pub refused-answers : refused r ≡ answered old new g
   unfolding answered
-  refused-answers = rw (sym e ∙ ap toldVerdict q, answered)
+  refused-answers = rw (sym e ∙ ap chartTold q)
 
-  pub refused-leaves : graph m t s w ≡ left old new (graph m t s w)
+  pub refused-leaves : g ≡ left old new g
   unfolding left
-  refused-leaves = rw (sym e ∙ ap toldVerdict q, left)
+  refused-leaves = rw (sym e ∙ ap chartTold q, left)
 
-pub never-done : {A : Type 0} (n c p : ℕ) (x : Summary) → builts.Refused n c p ≡ builts.Done x → A
-never-done n c p x e = let z : _≡_ {A = ℕ} 0 1 = cc in absurd (omega arith)
+pub never-done : {A : Type 0} (r : Refusal) (x : Summary) → builts.Refused r ≡ builts.Done x → A
+never-done r x e = let z : _≡_ {A = ℕ} 0 1 = cc in absurd (omega arith)

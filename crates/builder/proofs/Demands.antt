@@ -4,7 +4,6 @@
 use mathlib.Core.Path.{_≡_}
 use mathlib.Core.Option.{none}
 use Rattle.chart.specs.Charts.{Chart}
-use Rattle.chart.specs.Faults.{fault}
 use Rattle.chart.specs.Faultless.{FaultlessChart}
 use Rattle.checker.specs.Records.{Record}
 use Rattle.checker.specs.Checks.{refusal}
@@ -16,10 +15,10 @@ use Rattle.condition.proofs.Demand3.{record-passes}
 pub first-half : (old new : Chart) → Words (old .table) → Words (new .table) → (R : Record) → refusal old new R ≡ none → Promise old new R
 first-half = demand-3-first
 
-pub second-half : (old new : Chart) → FaultlessChart old → FaultlessChart new → fault old ≡ none → fault new ≡ none → refusal old new (recorded old new) ≡ none
+pub second-half : (old new : Chart) → FaultlessChart old → FaultlessChart new → refusal old new (recorded old new) ≡ none
 second-half = record-passes
 
 -- so what a build leaves keeps the promise
-pub built-promises : (old new : Chart) → Words (old .table) → Words (new .table) → FaultlessChart old → FaultlessChart new → fault old ≡ none → fault new ≡ none
+pub built-promises : (old new : Chart) → Words (old .table) → Words (new .table) → FaultlessChart old → FaultlessChart new
     → Promise old new (recorded old new)
-built-promises old new wo wn F G fo fn = first-half old new wo wn (recorded old new) (second-half old new F G fo fn)
+built-promises old new wo wn F G = first-half old new wo wn (recorded old new) (second-half old new F G)

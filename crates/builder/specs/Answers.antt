@@ -6,7 +6,8 @@ use Prim.Native.Nat.{ℕ}
 use lib.ListN.{length}
 use Rattle.base.specs.Answers.{Answer, given, refused}
 use Rattle.base.specs.Options.{orElse}
-use Rattle.base.specs.Refusals.{Refusal, refusedIf}
+use Rattle.base.specs.declared.Refusal.{Refusal}
+use Rattle.base.specs.Refusals.{due, unless}
 use Rattle.base.specs.Says.{Test, eq, _and_, bool}
 use Rattle.chart.specs.Charts.{Chart}
 use Rattle.chart.specs.Faults.{fault}
@@ -16,18 +17,12 @@ use Rattle.condition.specs.declared.Summary.{Summary}
 use Rattle.condition.specs.Builds.{built, recorded, summary}
 use Rattle.builder.specs.declared.answers.Built.{Built}
 use Rattle.builder.specs.declared.answers.Built.the-variants as builts
-use Rattle.builder.specs.declared.answers.Verdict.{Verdict}
-use Rattle.builder.specs.declared.answers.Verdict.the-variants as verdicts
 use Rattle.graph.specs.Graphs.{Graph}
 
--- what the code's answers say
+-- what the code's answer says
 abbrev pub told : Built → Answer Summary
 told (builts.Done s) = given s
-told (builts.Refused n c p) = refused n c p
-
-abbrev pub toldVerdict : Verdict → Option Refusal
-toldVerdict verdicts.Sound = none
-toldVerdict (verdicts.Unsound n c p) = some (record { number = n; chart = c; position = p })
+told (builts.Refused r) = refused r
 
 -- "21, a lent length differs from the stated one [..], or a chart table's isn't a multiple of 6"
 unfoldable pub lent : List ℕ → List ℕ → Graph → Test
@@ -37,15 +32,11 @@ module _ (old new : Chart) (g : Graph) where
   -- the refusal that is due, if any: 21 "Always first", then "the old chart comes before the new"
   unfoldable pub refusal : Option Refusal
   refusal =
-      orElse (refusedIf (not (bool (lent (old .table) (new .table) g))) 21 0 0)
+      orElse (due (not (bool (lent (old .table) (new .table) g))) 21 0)
       (orElse (inChart 0 (fault old)) (inChart 1 (fault new)))
 
   unfoldable pub answered : Answer Summary
-  answered =
-      elim refusal [
-        | none ↦ given (summary (recorded old new .start) (recorded old new .graph .marks))
-        | some r ↦ refused (r .number) (r .chart) (r .position)
-      ]
+  answered = unless refusal (summary (recorded old new .start) (recorded old new .graph .marks))
 
   -- "lent memory is untouched" by a refusal; else "What these held before has no effect."
   unfoldable pub left : Graph

@@ -1,21 +1,8 @@
 // What a build answers.
+use base::Refusal;
 use condition::Summary;
 
 pub enum Built {
     Done(Summary),
-    Refused {
-        number: u32,
-        chart: u32,
-        position: usize,
-    },
-}
-
-// Whether a refusal is due, and which.
-pub enum Verdict {
-    Sound,
-    Unsound {
-        number: u32,
-        chart: u32,
-        position: usize,
-    },
+    Refused(Refusal),
 }

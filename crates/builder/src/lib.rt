@@ -1,7 +1,6 @@
 // The builder: the condition of Algorithms 2 and 1, over four lent buffers. Here stands the entry point, which refuses bad input itself.
 ghost use mathlib.Core.Path.{_≡_};
 ghost use mathlib.Core.Option.{none};
-ghost use Rattle.base.specs.Options.{missing};
 ghost use Rattle.base.specs.Says.{bool};
 ghost use Rattle.chart.specs.Charts.{charted};
 ghost use Rattle.chart.specs.Faults.{told as chartTold};
@@ -13,12 +12,14 @@ ghost use Rattle.condition.specs.declared.Summary.{Summary};
 ghost use Rattle.graph.specs.Graphs.{graph, Sized};
 ghost use Rattle.condition.specs.Builds.{built, recorded, summary};
 ghost use Rattle.paper.specs.Returned.{Returned};
-ghost use Rattle.builder.specs.Answers.{told, toldVerdict, lent, refusal, answered, left};
+ghost use Rattle.builder.specs.Answers.{told, lent, refusal, answered, left};
 use answers::Built;
-use answers::Verdict;
+use base::Refusal;
 use chart::charts::Head;
 use chart::charts::Judged;
 use chart::inner::faults::fault;
+use chart::inner::faults::faulty;
+use chart::inner::faults::is_faultless;
 use chart::inner::rows;
 use condition::Summary;
 use condition::inner::finish::finish;
@@ -58,34 +59,16 @@ fn lent(
 }
 
 // A fault of the chart with this number.
-fn in_chart(chart: u32, j: Judged) -> Verdict
-    ensures { λ r. ⌜ toldVerdict r ≡ inChart chart (chartTold j) ⌝ }
+fn in_chart(chart: u32, j: Judged) -> Judged
+    ensures { λ r. ⌜ chartTold r ≡ inChart chart (chartTold j) ⌝ }
 {
     match j {
-        Judged::Faultless => Verdict::Sound,
-        Judged::Ragged => Verdict::Unsound {
-            number: 21,
+        Judged::Faultless => Judged::Faultless,
+        Judged::Refused(r) => Judged::Refused(Refusal {
+            number: r.number,
             chart,
-            position: 0,
-        },
-        Judged::Faulty { number, position } => Verdict::Unsound {
-            number,
-            chart,
-            position,
-        },
-    }
-}
-
-fn is_sound(v: Verdict) -> bool
-    ensures { λ r. ⌜ r ≡ missing (toldVerdict v) ⌝ }
-{
-    match v {
-        Verdict::Sound => true,
-        Verdict::Unsound {
-            number: _,
-            chart: _,
-            position: _,
-        } => false,
+            position: r.position,
+        }),
     }
 }
 
@@ -99,18 +82,14 @@ fn judge<'a>(
     targets: &[u16],
     sets: &[u64],
     waiting: &[u8],
-) -> Verdict
-    ensures { λ r. ⌜ toldVerdict r ≡ refusal (charted old (now («old_rows» .entry))) (charted new (now («new_rows» .entry))) (graph (now (marks .entry)) (now (targets .entry)) (now (sets .entry)) (now (waiting .entry))) ⌝ }
+) -> Judged
+    ensures { λ r. ⌜ chartTold r ≡ refusal (charted old (now («old_rows» .entry))) (charted new (now («new_rows» .entry))) (graph (now (marks .entry)) (now (targets .entry)) (now (sets .entry)) (now (waiting .entry))) ⌝ }
 {
     if !lent(old_rows, new_rows, marks, targets, sets, waiting) {
-        return Verdict::Unsound {
-            number: 21,
-            chart: 0,
-            position: 0,
-        };
+        return faulty(21, 0);
     }
     let first = in_chart(0, fault(old, old_rows));
-    if !is_sound(first) {
+    if !is_faultless(first) {
         return first;
     }
     in_chart(1, fault(new, new_rows))
@@ -182,7 +161,7 @@ pub fn build<'a>(
         &*sets,
         &*waiting,
     ) {
-        Verdict::Sound => Built::Done(complete(
+        Judged::Faultless => Built::Done(complete(
             old,
             old_rows,
             new,
@@ -192,14 +171,6 @@ pub fn build<'a>(
             sets,
             waiting,
         )),
-        Verdict::Unsound {
-            number,
-            chart,
-            position,
-        } => Built::Refused {
-            number,
-            chart,
-            position,
-        },
+        Judged::Refused(r) => Built::Refused(r),
     }
 }

@@ -8,16 +8,19 @@ use Prim.Native.Nat.{ℕ, zero, suc, _/_, _%_, _≤_, _<_}
 use native.Mathlib.Omega.{arith}
 use native.Mathlib.Decide.{ℕ-discrete, decLt}
 use borrow.Author.Tests.{lt-ltb, le-ltb, not-false}
-use lib.Dec.{T}
+use lib.Dec.{T, eqb}
 use lib.ListN.{length, getD, set, replicate, length-set, length-map, length-replicate}
+use Rattle.base.specs.Refusals.{due}
 use Rattle.base.specs.Says.{Test, bool, Says}
+use Rattle.base.proofs.Options.{both-missing}
 use Rattle.base.proofs.Says.{says, said}
 use Rattle.base.proofs.Tests.{T-true, or-false}
 use Rattle.base.proofs.Walks.{same-at}
 use Rattle.chart.specs.Charts.{Chart, size, operation}
-use Rattle.chart.specs.Faults.{fault}
+use Rattle.chart.specs.Faults.{fault, refusal as chartRefusal}
 use Rattle.chart.specs.Faultless.{FaultlessChart}
 use Rattle.chart.specs.Places.{keptNumber, oldOf, newOf}
+use Rattle.chart.proofs.Faultless.{no-refusal}
 use Rattle.align.specs.declared.spots.Spot.{Spot}
 use Rattle.align.specs.Steps.{fair, step}
 use Rattle.checker.specs.Records.{recordOf, graphOf, mark, index, target, spot}
@@ -257,10 +260,15 @@ module _ (old new : Chart) where
   unfolding recorded built finished startOf
   recorded-joint e = rw (e, finished, startOf)
 
+-- a faultless chart has none of the faults 1 to 8
+pub sound : (C : Chart) → FaultlessChart C → fault C ≡ none
+unfolding chartRefusal
+sound C F = both-missing (due (not (eqb (length (C .table) % 6) 0)) 21 0) (fault C) (no-refusal C F) .1
+
 -- for any two faultless charts no refusal of the check is due for what a build leaves
-pub record-passes : (old new : Chart) → FaultlessChart old → FaultlessChart new → fault old ≡ none → fault new ≡ none → refusal old new (recorded old new) ≡ none
-record-passes old new F H fo fn = go (alone (headOf old) (headOf new) (explored old new .marks)) refl
+pub record-passes : (old new : Chart) → FaultlessChart old → FaultlessChart new → refusal old new (recorded old new) ≡ none
+record-passes old new F H = go (alone (headOf old) (headOf new) (explored old new .marks)) refl
   where
     go : (b : Bool) → alone (headOf old) (headOf new) (explored old new .marks) ≡ b → refusal old new (recorded old new) ≡ none
-    go true e = rw (recorded-lone old new e) (single-passes old new H (F .whole) (H .whole) fo fn)
-    go false e = rw (recorded-joint old new e) (joint-passes old new F H e (F .whole) (H .whole) fo fn)
+    go true e = rw (recorded-lone old new e) (single-passes old new H (F .whole) (H .whole) (sound old F) (sound new H))
+    go false e = rw (recorded-joint old new e) (joint-passes old new F H e (F .whole) (H .whole) (sound old F) (sound new H))

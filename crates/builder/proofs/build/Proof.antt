@@ -1,6 +1,6 @@
 -- `builder::build` meets its contract: the refusal that is due, or both algorithms, whose record the check passes and is
 -- what the source's algorithms return. Assumes nothing.
-use Rattle.builder.proofs.Answering.{accepted, done-answers, done-leaves, done-passes, done-returned, refused-answers, refused-leaves, never-done}
+use Rattle.builder.proofs.Answering.{judged-faultless, done-answers, done-leaves, done-passes, done-returned, refused-answers, refused-leaves, never-done}
 use native.Mathlib.Omega.{arith}
 use borrow.Author.Needs.{needs}
 use Rattle.builder.proofs.build.Statement.{statement}
@@ -13,10 +13,12 @@ enum-told : tie.Need-enum-told
 enum-told c = search needs
 
 complete-requires : tie.Need-complete-requires
-complete-requires c κs = let A = accepted _ _ _ _ _ _ (c .before .before .before .before .before .before .judge .result) (c .before .before .before .before .before .before .judge .ensures) (c .before .before .before .before .enum-told .given .1) in (A .old-faultless, (A .new-faultless, A .sized))
+complete-requires c κs =
+    let A = judged-faultless _ _ _ (c .before .before .before .before .before .before .judge .ensures) (c .before .before .before .before .enum-told .given .1) in
+    (A .old-faultless, (A .new-faultless, A .sized))
 
-enum-known-number : tie.Need-enum-known-number
-enum-known-number c = search needs
+enum-known-r : tie.Need-enum-known-r
+enum-known-r c = search needs
 
 same-length : tie.Need-same-length
 same-length c = search needs
@@ -32,16 +34,16 @@ same-length-4 c = search needs
 
 returns : tie.Need-returns
 returns c =
-    let A = accepted _ _ _ _ _ _ (c .before .before .before .before .before .before .before .before .before .before .before .before .before .before .before .judge .result) (c .before .before .before .before .before .before .before .before .before .before .before .before .before .before .before .judge .ensures) (c .before .before .before .before .before .before .before .before .before .before .before .before .before .enum-told .given .1) in
+    let A = judged-faultless _ _ _ (c .before .before .before .before .before .before .before .before .before .before .before .before .before .before .before .judge .ensures) (c .before .before .before .before .before .before .before .before .before .before .before .before .before .enum-told .given .1) in
     let e = c .before .before .before .before .before .before .before .before .complete .ensures in
     let known-old = c .before .before .before .before .before .before .before .before .before .before .before .before .before .before .before .before .before .before .before .before .before .before .before .before .before .shared-slice-known .given in
     let known-new = c .before .before .before .before .before .before .before .before .before .before .before .before .before .before .before .before .before .before .before .before .before .before .before .before .shared-slice-known2 .given in (
-      done-answers _ _ _ _ _ _ A (e .0) (e .1),
+      done-answers _ _ _ A (e .0) (e .1),
       (
-        done-leaves _ _ _ _ _ _ A (e .0) (e .1),
+        done-leaves _ _ _ A (e .0) (e .1),
         (
-          done-passes _ _ _ _ _ _ A (e .0) (e .1),
-          λ x h. done-returned _ _ _ _ _ _ A (e .0) (e .1) x h (record { small = λ k. omega (arith, known-old k) }) (record { small = λ k. omega (arith, known-new k) }),
+          done-passes _ _ _ A (e .0) (e .1),
+          λ x h. done-returned _ _ _ A (e .0) (e .1) x h (record { small = λ k. omega (arith, known-old k) }) (record { small = λ k. omega (arith, known-new k) }),
         ),
       ),
     )
@@ -60,10 +62,9 @@ same-length-8 c = search needs
 
 returns-2 : tie.Need-returns-2
 returns-2 c =
-    let r = c .before .before .before .judge .result in
     let e = c .before .before .before .judge .ensures in
-    let q = c .before .number .given .1 in
-    (refused-answers _ _ _ _ _ _ r e q, (refused-leaves _ _ _ _ _ _ r e q, (λ x h. never-done _ _ _ x h, λ x h. never-done _ _ _ x h)))
+    let q = c .before .r .given .1 in
+    (refused-answers _ _ _ e q, (refused-leaves _ _ _ e q, (λ x h. never-done _ x h, λ x h. never-done _ x h)))
 
 pub build-spec : {M : Type 1} → statement M
 build-spec =
@@ -72,7 +73,7 @@ build-spec =
     judge-requires
     enum-told
     complete-requires
-    enum-known-number
+    enum-known-r
     same-length
     same-length-2
     same-length-3
