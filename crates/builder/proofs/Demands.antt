@@ -1,24 +1,62 @@
 -- Demand 3, both halves, of the definitions alone. The first: a run that reaches the new alarm and is covered by a record that the check
--- passes has a run of the old chart, from the same values, that reaches the old alarm. The second: the check passes what a build leaves.
--- The contracts of `checker::check` and `builder::build` say each half of the code. Assumes nothing.
-use mathlib.Core.Path.{_≡_}
+-- passes has a run of the old chart, from the same values, that reaches the old alarm. The second: the check passes what a build leaves,
+-- whatever its buffers held; and none is refused that has faultless charts and the stated lengths. The contracts of `checker::check` and
+-- `builder::build` say each half of the code. Assumes nothing.
+use mathlib.Core.Path.{_≡_, refl, ap, _∙_}
 use mathlib.Core.Option.{none}
+use Rattle.base.specs.Answers.{given}
+use Rattle.base.specs.Says.{Test, bool}
+use Rattle.base.proofs.Says.{said}
+use Rattle.base.proofs.Tests.{is-true}
 use Rattle.chart.specs.Charts.{Chart}
 use Rattle.chart.specs.Faultless.{FaultlessChart}
-use Rattle.checker.specs.Records.{Record}
-use Rattle.checker.specs.Checks.{refusal}
+use Rattle.checker.specs.Records.{Record, recordOf}
+use Rattle.checker.specs.Checks.{sized, refusal as checkRefusal}
 use Rattle.checker.specs.Promise.{Words, Promise}
 use Rattle.checker.proofs.Demand3.{demand-3-first}
-use Rattle.condition.specs.Builds.{recorded}
-use Rattle.condition.proofs.Demand3.{record-passes}
+use Rattle.graph.specs.Graphs.{Graph, Sized}
+use Rattle.condition.specs.declared.Summary.{Summary}
+use Rattle.condition.specs.Builds.{recorded, summary}
+use Rattle.condition.proofs.Demand3.{sound, record-passes}
+use Rattle.builder.specs.Answers.{lent, refusal, answered, left}
+use Rattle.builder.proofs.Answering.{Accepted, accepted}
 
-pub first-half : (old new : Chart) → Words (old .table) → Words (new .table) → (R : Record) → refusal old new R ≡ none → Promise old new R
+pub first-half : (old new : Chart) → Words (old .table) → Words (new .table) → (R : Record) → checkRefusal old new R ≡ none → Promise old new R
 first-half = demand-3-first
 
-pub second-half : (old new : Chart) → FaultlessChart old → FaultlessChart new → refusal old new (recorded old new) ≡ none
-second-half = record-passes
+module _ (old new : Chart) (g : Graph) where
+  -- what a build leaves in g, with the start s
+  abbrev pub leftWith : Summary → Record
+  leftWith s = recordOf (s .start) (left old new g .marks) (left old new g .targets) (left old new g .sets)
 
--- so what a build leaves keeps the promise
-pub built-promises : (old new : Chart) → Words (old .table) → Words (new .table) → FaultlessChart old → FaultlessChart new
-    → Promise old new (recorded old new)
-built-promises old new wo wn F G = first-half old new wo wn (recorded old new) (second-half old new F G)
+  abbrev lengths : Test
+  lengths = lent (old .table) (new .table) g
+
+  -- faultless charts and buffers of the stated lengths are not refused
+  pub never-refused : FaultlessChart old → FaultlessChart new → Sized g → refusal old new g ≡ none
+  unfolding refusal lent sized
+  never-refused F H S =
+      rw (
+        is-true (bool lengths) (said lengths (S .waiting, (S .marks, (S .targets, (S .sets, (F .whole, H .whole)))))),
+        sound old F,
+        sound new H,
+      )
+
+  -- where none is refused, a build answers, and what it leaves in g, with the start that it answers, the check passes
+  module _ (e : refusal old new g ≡ none) where
+    abbrev Answers : Summary → Type 0
+    Answers s = answered old new g ≡ given s
+
+    answers : (s : Summary) × Answers s × (leftWith s ≡ recorded old new)
+    unfolding answered left recorded summary
+    answers = (summary (recorded old new .start) (recorded old new .graph .marks), rw e, rw (e, left))
+
+    pub second-half : (s : Summary) × Answers s × (checkRefusal old new (leftWith s) ≡ none)
+    second-half =
+        let a = answers in
+        let A = accepted old new g e in
+        (a .0, a .1, ap (checkRefusal old new) (a .2) ∙ record-passes old new (A .old-faultless) (A .new-faultless))
+
+    -- so it keeps the promise
+    pub built-promises : Words (old .table) → Words (new .table) → (s : Summary) × Answers s × Promise old new (leftWith s)
+    built-promises wo wn = let a = second-half in (a .0, a .1, first-half old new wo wn (leftWith (a .0)) (a .2))
