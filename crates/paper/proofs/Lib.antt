@@ -3,6 +3,7 @@
 pub mod Successors
 pub mod Members
 pub mod Stepping
+pub mod Outcomes
 pub mod Reading
 pub mod Edges
 pub mod Rows

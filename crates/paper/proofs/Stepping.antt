@@ -4,12 +4,13 @@ use mathlib.Core.Bool.{Bool, true, false, _&&_, _||_, not}
 use mathlib.Core.Logic.{inl, inr, ⊎-elim, dite, _≢_}
 use mathlib.Core.List.{List}
 use mathlib.Core.Option.{Option, none, some, Option·none-ne-some, Option·some-injective}
-use Prim.Native.Nat.{ℕ, zero, suc, _-_, _^_, _≤_, _<_}
+use Prim.Native.Nat.{ℕ, zero, suc, _-_, _%_, _^_, _≤_, _<_}
 use native.Mathlib.Omega.{arith}
-use native.Mathlib.Decide.{ℕ-discrete}
+use native.Mathlib.Decide.{ℕ-discrete, decLt}
+use native.Mathlib.Nat.{lt-of-lt-of-le, lt-of-le-of-lt, div-eq-of-lt}
 use borrow.Author.Tests.{eq-eqb, eqb-true, eqb-false}
-use lib.Bits.{or-zero-l}
-use lib.Pow.{pow-lt}
+use lib.Bits.{or-zero-l, and-le-l}
+use lib.Pow.{pow-lt, pow-mono}
 use Rattle.base.specs.Options.{when, orElse}
 use Rattle.base.proofs.Options.{none-of, not-due, both-missing}
 use Rattle.base.proofs.Sums.{sum, sum-lt, sum-most}
@@ -42,47 +43,66 @@ use Rattle.paper.specs.Lines5to18.{Meet, IsWith, IsWithout, onlyOld, InG
 use Rattle.paper.proofs.Members.{in-first, in-second}
 
 -- ---- sets
-is-with : (s v : ℕ) → IsWith s v (with s v)
-is-with s v i l = (λ h. ⊎-elim (λ e. inr e) (λ p. inl p) (with-only i s v h), λ h. ⊎-elim (λ p. with-old i s v p) (λ e. rw e (with-here 0 s v)) h)
+pub is-with : (s v : ℕ) → IsWith s v (with s v)
+is-with s v i = (λ h. ⊎-elim (λ e. inr e) (λ p. inl p) (with-only i s v h), λ h. ⊎-elim (λ p. with-old i s v p) (λ e. rw e (with-here 0 s v)) h)
 
-is-without : (s v : ℕ) → v < 64 → IsWithout s v (without s v)
-is-without s v k i l = (λ h. let z = without-in i s v l k h in (z .1, z .0), λ h. without-kept i s v l k (h .1) (h .0))
+-- a set of 64 variables has no other
+no-other : (s i : ℕ) → s < 2 ^ 64 → 64 ≤ i → In i s → ⊥
+no-other s i b l h = let z : bit s i ≡ 0 = ap (λ (n : ℕ). n % 2) (div-eq-of-lt (lt-of-lt-of-le b (pow-mono l))) in omega arith
 
-meeting : (s t : ℕ) → s < 2 ^ 64 → meets s t ≡ true → Meet s t
+without-small : (s v : ℕ) → s < 2 ^ 64 → without s v < 2 ^ 64
+unfolding without
+without-small s v b = lt-of-le-of-lt (and-le-l s (2 ^ 64 - 1 - alone v)) b
+
+pub is-without : (s v : ℕ) → s < 2 ^ 64 → v < 64 → IsWithout s v (without s v)
+is-without s v b k i =
+    dite (decLt i 64) (λ l. (λ h. let z = without-in i s v l k h in (z .1, z .0), λ h. without-kept i s v l k (h .1) (h .0)))
+    (λ l. (λ h. absurd (no-other (without s v) i (without-small s v b) (omega arith) h), λ h. absurd (no-other s i b (omega arith) (h .0))))
+
+pub meeting : (s t : ℕ) → s < 2 ^ 64 → meets s t ≡ true → Meet s t
 meeting s t b e = let r = meet-some s t b e in record { variable = r .0; below = r .1; first = r .2; second = r .3 }
 
-not-meeting : (s t : ℕ) → meets s t ≡ false → Meet s t → ⊥
+pub not-meeting : (s t : ℕ) → meets s t ≡ false → Meet s t → ⊥
 not-meeting s t e m = meet-none s t (m .variable) e (m .first) (m .second)
 
-same-self : (o : Operation) → same o o ≡ true
+pub same-self : (o : Operation) → same o o ≡ true
 unfolding same
 same-self o = rw (eq-eqb (o .code) (o .code) refl, eq-eqb (o .a) (o .a) refl, eq-eqb (o .b) (o .b) refl, eq-eqb (o .c) (o .c) refl)
 
-alone-small : (v : ℕ) → v < 64 → alone v < 2 ^ 64
+pub alone-small : (v : ℕ) → v < 64 → alone v < 2 ^ 64
 unfolding alone
 alone-small v l = pow-lt l
 
-with-small : (s v : ℕ) → s < 2 ^ 64 → v < 64 → with s v < 2 ^ 64
+pub with-small : (s v : ℕ) → s < 2 ^ 64 → v < 64 → with s v < 2 ^ 64
 unfolding with
 with-small s v b l = join-small s (alone v) b (alone-small v l)
 
-onlyOld-is : (p : OldPlace) (i : ℕ) → i ≡ p .0 → record { 0 = i } isIn onlyOld p
+pub onlyOld-is : (p : OldPlace) (i : ℕ) → i ≡ p .0 → record { 0 = i } isIn onlyOld p
 unfolding onlyOld
 onlyOld-is p i e = eq-eqb (p .0) i (sym e)
 
 -- how many of 64 places are not in the set
-unmet : ℕ → ℕ
+pub unmet : ℕ → ℕ
 unmet met = sum 64 (λ i. 1 - bit met i)
 
 unmet-most : (met : ℕ) → unmet met ≤ 64
 unfolding unmet
 unmet-most met = omega (arith, sum-most 64 1 (λ i. 1 - bit met i) (λ i. omega arith))
 
-unmet-less : (met v : ℕ) → v < 64 → (In v met → ⊥) → unmet (with met v) < unmet met
+pub unmet-less : (met v : ℕ) → v < 64 → (In v met → ⊥) → unmet (with met v) < unmet met
 unfolding unmet
 unmet-less met v l n =
     sum-lt 64 v (λ i. 1 - bit (with met v) i) (λ i. 1 - bit met i) l (omega (arith, with-here 0 met v))
     (λ i k. dite (ℕ-discrete (bit met i) 1) (λ e. omega (arith, with-old i met v e)) (λ e. omega arith))
+
+-- one place is met at first
+pub unmet-few : (v : ℕ) → v < 64 → unmet (alone v) < 64
+unfolding with joined
+unmet-few v l =
+    let u = unmet-less 0 v l (λ i. let z = bit-none v in omega arith) in
+    let e : with 0 v ≡ alone v = or-zero-l (alone v) in
+    let w : unmet (alone v) < unmet 0 = rw e at u in
+    omega (arith, unmet-most 0)
 
 -- ---- rows of a place are edges of G
 not-found : (rows : List ℕ) (f : Operation → Bool) → find rows f ≡ none → (k : ℕ) → k < size rows → f (operation rows k) ≡ false
@@ -90,7 +110,7 @@ unfolding find
 not-found rows f e k l = not-due (f (operation rows k)) k (none-of (λ j. when (f (operation rows j)) j) (size rows) k e l)
 
 module _ (old : Chart) where
-  row-edge : (p : OldPlace) (k : ℕ) → k < size (rowsAt old p) → InG old p (operation (rowsAt old p) k) (oldTo (rowsAt old p) k)
+  pub row-edge : (p : OldPlace) (k : ℕ) → k < size (rowsAt old p) → InG old p (operation (rowsAt old p) k) (oldTo (rowsAt old p) k)
   row-edge p k l =
       let (i, r) = row-of (old .table) (p .0) k l in
       let z = row-same (old .table) (p .0) r in
@@ -102,12 +122,12 @@ module _ (old : Chart) where
       (before (old .table) (p .0) (E .row), stands (old .table) (p .0) (E .row) (E .there) (E .from), same-row (old .table) (p .0) (E .row) (E .there) (E .from) .operation-same ∙ E .operation)
 
   -- no edge passes where no row was found
-  no-edge : (p : OldPlace) (f : Operation → Bool) → find (rowsAt old p) f ≡ none → (o : Operation) (q : OldPlace) → InG old p o q → f o ≡ false
+  pub no-edge : (p : OldPlace) (f : Operation → Bool) → find (rowsAt old p) f ≡ none → (o : Operation) (q : OldPlace) → InG old p o q → f o ≡ false
   no-edge p f e o q E =
       let r = edge-row p o q E in
       ap f (sym (r .2)) ∙ not-found (rowsAt old p) f e (r .0) (r .1)
 
-  an-edge : (p : OldPlace) (f : Operation → Bool) (k : ℕ) → find (rowsAt old p) f ≡ some k → (k < size (rowsAt old p)) × (f (operation (rowsAt old p) k) ≡ true)
+  pub an-edge : (p : OldPlace) (f : Operation → Bool) (k : ℕ) → find (rowsAt old p) f ≡ some k → (k < size (rowsAt old p)) × (f (operation (rowsAt old p) k) ≡ true)
   an-edge p f k e = let r = found (rowsAt old p) f {P = λ o. f o ≡ true} (λ o h. h) .of k e in (r .inside, r .fits)
 
   -- ---- lines 5 to 10
@@ -125,7 +145,7 @@ module _ (old : Chart) where
         go : (m : Bool) → meets s (readSet o) ≡ m
             → Lines5to18 old p s o (some (record { place = oldTo (rowsAt old p) k; set = elim m as (λ _. ℕ) [ true ↦ with s (o .a) | false ↦ without s (o .a) ] }))
         go true m = line7 (record { assignment = t; edge = edge }) (meeting s (readSet o) b m) (is-with s (o .a))
-        go false m = line8 (record { assignment = t; edge = edge }) (not-meeting s (readSet o) m) (is-without s (o .a) a)
+        go false m = line8 (record { assignment = t; edge = edge }) (not-meeting s (readSet o) m) (is-without s (o .a) b a)
 
   -- ---- lines 12 to 14
   -- nothing is followed: the test of line 13 fails
@@ -209,12 +229,12 @@ module _ (old : Chart) (F : FaultlessChart old) where
                 below = onward-below old F h .of h′ e
 
   -- ---- lines 15 to 18
-  module _ (words : Words (old .table)) (ℓ₁ : OldPlace) (start : ℕ) (o : Operation) (fits : Operands o) (h : Spot) (E : Lines11to14 old ℓ₁ start o (h .place) (h .set)) (b : h .set < 2 ^ 64) where
-    rows : List ℕ
-    rows = rowsAt old (h .place)
+  pub edge-operands : Words (old .table) → (p : OldPlace) (op : Operation) (q : OldPlace) → InG old p op q → Operands op
+  edge-operands words p op q e = subst Operands (e .operation) (operands old F (words .small) (e .row) (e .there))
 
-    edge-operands : (p : OldPlace) (op : Operation) (q : OldPlace) → InG old p op q → Operands op
-    edge-operands p op q e = subst Operands (e .operation) (operands old F (words .small) (e .row) (e .there))
+  module _ (words : Words (old .table)) (ℓ₁ : OldPlace) (start : ℕ) (o : Operation) (fits : Operands o) (h : Spot) (E : Lines11to14 old ℓ₁ start o (h .place) (h .set)) (b : h .set < 2 ^ 64) where
+    abbrev pub rows : List ℕ
+    rows = rowsAt old (h .place)
 
     -- an edge that leaves ℓ_p has an assumption: else the loop would not have ended
     edge-assumes : (op : Operation) (q : OldPlace) → h .place .0 ≢ old .alarm → InG old (h .place) op q → isAssumption op ≡ true
@@ -246,28 +266,28 @@ module _ (old : Chart) (F : FaultlessChart old) where
     passes : Operation → Bool
     passes op = isAssumption op && isImplied (implication o op)
 
-    no-match : matching rows o ≡ none → h .place .0 ≢ old .alarm → (op : Operation) (q : OldPlace) → Line15 old ℓ₁ start o (h .place) op q → ⊥
-    unfolding matching rows passes
+    pub no-match : matching rows o ≡ none → h .place .0 ≢ old .alarm → (op : Operation) (q : OldPlace) → Line15 old ℓ₁ start o (h .place) op q → ⊥
+    unfolding matching passes
     no-match e n op q M =
         let z = both-missing (find rows (λ o′. same o′ o)) (find rows passes) e in
         ⊎-elim (λ i. T-true (sym (no-edge old (h .place) (λ o′. same o′ o) (z .0) op q (M .edge)) ∙ rw i (same-self o)))
-        (λ i. T-true (sym (no-edge old (h .place) passes (z .1) op q (M .edge)) ∙ rw (edge-assumes op q n (M .edge), so-implied op (edge-operands (h .place) op q (M .edge)) (i .0) (i .1)))) (M .matches)
+        (λ i. T-true (sym (no-edge old (h .place) passes (z .1) op q (M .edge)) ∙ rw (edge-assumes op q n (M .edge), so-implied op (edge-operands words (h .place) op q (M .edge)) (i .0) (i .1)))) (M .matches)
 
-    a-match : (k : ℕ) → matching rows o ≡ some k → h .place .0 ≢ old .alarm → Line15 old ℓ₁ start o (h .place) (operation rows k) (oldTo rows k)
-    unfolding matching rows passes
+    pub a-match : (k : ℕ) → matching rows o ≡ some k → h .place .0 ≢ old .alarm → Line15 old ℓ₁ start o (h .place) (operation rows k) (oldTo rows k)
+    unfolding matching passes
     a-match k e n = go (find rows (λ o′. same o′ o)) refl e
       where
         go : (x : Option ℕ) → find rows (λ o′. same o′ o) ≡ x → orElse x (find rows passes) ≡ some k → Line15 old ℓ₁ start o (h .place) (operation rows k) (oldTo rows k)
         go none f e =
             let r = an-edge old (h .place) passes k e in
             let g = row-edge old (h .place) k (r .0) in
-            record { not-err = n; edge = g; matches = inr (implied-so (operation rows k) (edge-operands (h .place) (operation rows k) (oldTo rows k) g) (and-true (isAssumption (operation rows k)) _ (r .1) .1)) }
+            record { not-err = n; edge = g; matches = inr (implied-so (operation rows k) (edge-operands words (h .place) (operation rows k) (oldTo rows k) g) (and-true (isAssumption (operation rows k)) _ (r .1) .1)) }
         go (some j) f e =
             let r = an-edge old (h .place) (λ o′. same o′ o) k (f ∙ e) in
             record { not-err = n; edge = row-edge old (h .place) k (r .0); matches = inl (same→eq (operation rows k) o (r .1)) }
 
     lines15to18 : (x : Option ℕ) → counterpart old (h .place) o ≡ x → Lines5to18 old ℓ₁ start o (assumed old h o x)
-    unfolding counterpart assumed matched rows
+    unfolding counterpart assumed matched
     lines15to18 x e = go (atAlarm old (h .place)) refl x e
       where
         meets-either : (k : ℕ) → (m m′ : Bool) → meets (h .set) (readSet o) ≡ m → meets (h .set) (readSet (operation rows k)) ≡ m′ → Line15 old ℓ₁ start o (h .place) (operation rows k) (oldTo rows k)
@@ -285,18 +305,11 @@ module _ (old : Chart) (F : FaultlessChart old) where
 
   -- ---- all of them
   pub step-lines : Words (old .table) → (p : OldPlace) (s : ℕ) (o : Operation) → p .0 < 64 → s < 2 ^ 64 → Operands o → Lines5to18 old p s o (moved old (record { place = p; set = s }) o)
-  unfolding moved followed with joined
+  unfolding moved followed
   step-lines words p s o l b fits = go (isAssignment o) refl
     where
       h : Spot
       h = record { place = p; set = s }
-
-      few : unmet (alone (p .0)) < 64
-      few =
-          let u = unmet-less 0 (p .0) l (λ i. let z = bit-none (p .0) in omega arith) in
-          let e : with 0 (p .0) ≡ alone (p .0) = or-zero-l (alone (p .0)) in
-          let w : unmet (alone (p .0)) < unmet 0 = rw e at u in
-          omega (arith, unmet-most 0)
 
       on : isAssignment o ≡ false → {x : Option Spot} → Walked p s x → Lines5to18 old p s o (elim x [ none ↦ none | some h′ ↦ assumed old h′ o (counterpart old (h′ .place) o) ])
       on t (came {h = h′} {been = been} L e c) = lines15to18 words p s o fits h′ (record { assumption = t; been = been; loop = L; ends = onward-ends old h′ e }) c (counterpart old (h′ .place) o) refl
@@ -309,4 +322,4 @@ module _ (old : Chart) (F : FaultlessChart old) where
           ])
       go true t = lines5to10 old p s o b (fits .a) t (find (rowsAt old p) (λ o′. same o′ o)) refl
       go false t =
-          on t (walk p s 64 (alone (p .0)) h emptySet line12 b (alone-small (p .0) l) (λ i k. onlyOld-is p i (alone-only i (p .0) k)) few)
+          on t (walk p s 64 (alone (p .0)) h emptySet line12 b (alone-small (p .0) l) (λ i k. onlyOld-is p i (alone-only i (p .0) k)) (unmet-few (p .0) l))

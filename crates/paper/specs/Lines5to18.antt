@@ -1,7 +1,9 @@
--- Lines 5 to 18 of the source's Algorithm 2, line by line: what PROCESS is called with for a pair (ℓ_1, ℓ'_1), V_δ of the pair and an edge
--- of the new chart with operation op', in the source's own words: edges of G, members of sets, values that meet an assumption. Where several
--- old edges match in line 15 the source takes any; document 01 seeks "the old row at p whose operation is equal; failing that, [..] the old
--- assumption at p that it implies". That the aligned step is one of these outcomes is proved, in proofs/Stepping.antt.
+-- Lines 5 to 18 of the source's Algorithm 2, line by line: what PROCESS is called with for a pair (ℓ_1, ℓ'_1), V_δ of
+-- the pair and an edge of the new chart with operation op', in the source's own words: edges of G, members of sets,
+-- values that meet an assumption. Where several old edges match in line 15 the source takes any; document 01 seeks "the
+-- old row at p whose operation is equal; failing that, [..] the old assumption at p that it implies". In a faultless
+-- chart no two edges of a place match: the aligned step is an outcome of these lines (proofs/Stepping.antt), and the
+-- only one (proofs/Outcomes.antt).
 use mathlib.Core.Path.{_≡_}
 use mathlib.Core.Bool.{true, false}
 use mathlib.Core.Logic.{_⊎_, _≢_, _↔_}
@@ -31,10 +33,10 @@ pub record Meet (s t : ℕ) : Type 0 where
 
 -- t is s ∪ {v}, or s \ {v}; {a} is what an assignment writes (wrt), and `readSet` what an operation reads (rd)
 abbrev pub IsWith : ℕ → ℕ → ℕ → Type 0
-IsWith s v t = (i : ℕ) → i < 64 → Has t i ↔ (Has s i ⊎ (i ≡ v))
+IsWith s v t = (i : ℕ) → Has t i ↔ (Has s i ⊎ (i ≡ v))
 
 abbrev pub IsWithout : ℕ → ℕ → ℕ → Type 0
-IsWithout s v t = (i : ℕ) → i < 64 → Has t i ↔ (Has s i × (i ≢ v))
+IsWithout s v t = (i : ℕ) → Has t i ↔ (Has s i × (i ≢ v))
 
 -- {ℓ}
 unfoldable pub onlyOld : OldPlace → SetOf OldPlace
@@ -59,7 +61,8 @@ module _ (old : Chart) where
   pub data Loop (ℓ₁ : OldPlace) (Vδ : ℕ) : SetOf OldPlace → OldPlace → ℕ → Type 0 where
     line12 : Loop ℓ₁ Vδ emptySet ℓ₁ Vδ
     line14 : {been : SetOf OldPlace} {ℓₚ ℓₛ : OldPlace} {Vdiff Vdiff′ : ℕ} {opₐ : Operation}
-        → Loop ℓ₁ Vδ been ℓₚ Vdiff → Line13 ℓₚ opₐ ℓₛ → IsWith Vdiff (opₐ .a) Vdiff′ → Loop ℓ₁ Vδ (been plus onlyOld ℓₚ) ℓₛ Vdiff′
+        → Loop ℓ₁ Vδ been ℓₚ Vdiff → Line13 ℓₚ opₐ ℓₛ → IsWith Vdiff (opₐ .a) Vdiff′
+        → Loop ℓ₁ Vδ (been plus onlyOld ℓₚ) ℓₛ Vdiff′
 
   module _ (ℓ₁ : OldPlace) (Vδ : ℕ) (op′ : Operation) where
     -- lines 5 and 6: op' is assignment, and (ℓ_1, op', ℓ_2) ∈ G
@@ -95,7 +98,8 @@ module _ (old : Chart) where
       line8 : {ℓ₂ : OldPlace} {Vdiff : ℕ}
           → Lines5and6 ℓ₂ → (Meet Vδ (readSet op′) → ⊥) → IsWithout Vδ (op′ .a) Vdiff → Lines5to18 (to ℓ₂ Vdiff)
       line10 : {Vdiff : ℕ}
-          → isAssignment op′ ≡ true → ((ℓ₂ : OldPlace) → Lines5and6 ℓ₂ → ⊥) → IsWith Vδ (op′ .a) Vdiff → Lines5to18 (to ℓ₁ Vdiff)
+          → isAssignment op′ ≡ true → ((ℓ₂ : OldPlace) → Lines5and6 ℓ₂ → ⊥) → IsWith Vδ (op′ .a) Vdiff
+          → Lines5to18 (to ℓ₁ Vdiff)
       line16 : {ℓₚ ℓ₂ : OldPlace} {Vdiff : ℕ} {op : Operation}
           → Lines11to14 ℓₚ Vdiff → Line15 ℓₚ op ℓ₂ → Line16 Vdiff op → Lines5to18 none
       line17 : {ℓₚ ℓ₂ : OldPlace} {Vdiff : ℕ} {op : Operation}
