@@ -1,8 +1,9 @@
 -- The lone kept start is the difference graph that line 19 returns, with its condition. Assumes nothing.
 use mathlib.Core.Path.{_≡_, refl, sym, ap, subst}
-use mathlib.Core.Logic.{_⊎_, inr, ⊎-elim, _≢_}
+use mathlib.Core.Logic.{_⊎_, inl, inr, ⊎-elim, dite, _≢_}
 use Prim.Native.Nat.{ℕ}
 use native.Mathlib.Omega.{arith}
+use native.Mathlib.Decide.{ℕ-discrete}
 use lib.ListN.{set, replicate}
 use Rattle.base.proofs.Tests.{T-true}
 use Rattle.base.proofs.Walks.{zeros-at, same-at}
@@ -50,6 +51,7 @@ module _ (old new : Chart) where
         nodes = λ x. (first-so (λ m. m ≢ 0) (λ e. omega arith) x, λ M. is-first x (M .0) (M .1));
         kept = λ x. (first-so (λ m. m ≡ 2) refl x, λ M. is-first x (M .0) (λ e. omega (arith, M .1)));
         edges = λ e. (λ b. absurd b, λ t. no-target e t);
+        aims = λ i r l c. inl (same-at 8192 65535 (index i r) (omega arith));
         sets = λ n e. absurd (T-true e);
         bare = λ n B e. zeros-at 4096 (number n);
       }
@@ -71,6 +73,9 @@ module _ (old new : Chart) where
     pub lone-condition : IsCondition single (lone old new) Q
     lone-condition =
         record {
+          highest = λ k l.
+              dite (ℕ-discrete (mark (single .graph) k) 0) (λ e. omega arith)
+              (λ e. let z = one-only 4160 (firstKept new) 2 k (omega arith) in rw z (omega (arith, first-mark)));
           open-or-kept = λ x. (Q-kept x, kept-Q x);
           covered = λ x. (λ f. absurd (f .edge .edge), λ M. absurd (not-covered x M));
           transitions = λ e. (λ t. absurd (t .edge), λ t. absurd (no-target e (t .0)));

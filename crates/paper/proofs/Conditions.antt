@@ -1,4 +1,5 @@
--- The marks of a build are the condition that lines 6 and 7 of Algorithm 1 make of the graph, whichever nodes line 3 popped. Assumes nothing.
+-- The marks of a build are the condition that lines 6 and 7 of Algorithm 1 make of the graph, whichever nodes line 3
+-- popped. Assumes nothing.
 use mathlib.Core.Path.{_≡_, refl, sym, ap, subst, _∙_}
 use mathlib.Core.Bool.{true, false}
 use mathlib.Core.Logic.{_⊎_, inl, inr, ⊎-elim, dite, _≢_}
@@ -23,19 +24,21 @@ use Rattle.marker.proofs.Marks.{rank-pair}
 use Rattle.condition.proofs.Demand3.{marks, left, final}
 use Rattle.condition.proofs.Right.{open-closed, open-least, covered-only, covered-all}
 use Rattle.paper.specs.Nodes.{SetOf, _isIn_, _isNotIn_, Pair, Node, aligned, indicator, Edge, edge, onlyNode, number, nodeNumber, pairOf, Numbered, NodeNumbered}
-use Rattle.paper.specs.Algorithm2.{DifferenceGraph, nodes, indicators, whole}
+use Rattle.paper.specs.Algorithm2.{State, DifferenceGraph, nodes, indicators, whole}
 use Rattle.paper.specs.Algorithm1.{Search, F, Transition}
 use Rattle.paper.specs.Returned.{Marked, Targeted, IsGraph, IsCondition}
 use Rattle.paper.proofs.Members.{in-first, in-second, not-in, in-or-not, the-node, pair-is, number-is, number-below, numbered}
 use Rattle.paper.proofs.Searching.{within, first-found, closed}
-use Rattle.paper.proofs.Returning.{last, built-graph, target-fits, left-mark, whole-graph}
+use Rattle.paper.proofs.Rows.{Reads}
+use Rattle.paper.proofs.Returning.{built-graph, left-mark, mark-most, whole-graph}
 
-module _ (old new : Chart) (F′ : FaultlessChart old) (H : FaultlessChart new) (wo : Words (old .table)) (wn : Words (new .table)) (joint : alone (headOf old) (headOf new) (explored old new .marks) ≡ false) where
+module _ (old new : Chart) (F′ : FaultlessChart old) (H : FaultlessChart new) (wn : Words (new .table)) (last : State) (reads : Reads old new last (explored old new))
+    (joint : alone (headOf old) (headOf new) (explored old new .marks) ≡ false) where
   abbrev G : DifferenceGraph
-  G = whole old new (last old new F′ H wo wn)
+  G = whole old new last
 
-  abbrev W : IsGraph (built-graph old new F′ H wo wn joint) G (last old new F′ H wo wn .Vδ)
-  W = whole-graph old new F′ H wo wn joint
+  abbrev W : IsGraph (built-graph old new F′ H wn last reads joint) G (last .Vδ)
+  W = whole-graph old new F′ H wn last reads joint
 
   abbrev m : ℕ → ℕ
   m k = mark (left old new F′ H joint) k
@@ -44,7 +47,7 @@ module _ (old new : Chart) (F′ : FaultlessChart old) (H : FaultlessChart new) 
   to i r = target (left old new F′ H joint) i r
 
   Open : Node → Type 0
-  Open x = Marked (built-graph old new F′ H wo wn joint) (λ k. (k ≡ 1) ⊎ (k ≡ 2)) x
+  Open x = Marked (built-graph old new F′ H wn last reads joint) (λ k. (k ≡ 1) ⊎ (k ≡ 2)) x
 
   -- a pair of Q is open
   pair-open : (n : Pair) → Numbered n → (m (number n) ≡ 1) ⊎ (m (number n) ≡ 2) → m (number n) ≡ 1
@@ -112,7 +115,7 @@ module _ (old new : Chart) (F′ : FaultlessChart old) (H : FaultlessChart new) 
     pair-one n e = let o = Q-open (aligned n) e in pair-open n (o .0) (o .1)
 
     -- ---- line 6
-    F-covered : (x : Node) → F G Q x → Marked (built-graph old new F′ H wo wn joint) (λ k. k ≡ 3) x
+    F-covered : (x : Node) → F G Q x → Marked (built-graph old new F′ H wn last reads joint) (λ k. k ≡ 3) x
     F-covered x f =
         let D = f .edge in
         let t = W .edges (edge (D .pair) (D .row) x) .0 (D .edge) in
@@ -120,14 +123,14 @@ module _ (old new : Chart) (F′ : FaultlessChart old) (H : FaultlessChart new) 
         let o = not-open x (there .0) (f .outside) in
         let below : nodeNumber x < 4096 =
         dite (decLt (nodeNumber x) 4096) (λ z. z)
-        (λ z. let k = left-mark old new F′ H wo wn joint (nodeNumber x) (there .1) in absurd (o .1 (final old new F′ H joint .ranks .node (nodeNumber x) (omega arith) (k .0) (k .1)))) in (
+        (λ z. let k = left-mark old new F′ H wn last reads joint (nodeNumber x) (there .1) in absurd (o .1 (final old new F′ H joint .ranks .node (nodeNumber x) (omega arith) (k .0) (k .1)))) in (
           there .0,
           subst (λ (k : ℕ). m k ≡ 3) (t .is)
               (covered-all old new F′ H joint (number (D .pair)) (D .row) (number-below (D .pair) (t .pred)) (pair-one (D .pair) (subst (λ (y : Node). y isIn Q) (D .is) (f .«open»))) (t .two) (omega (arith, t .is))
               (subst (λ (k : ℕ). m k ≢ 0) (sym (t .is)) (there .1)) (subst (λ (k : ℕ). m k ≢ 1) (sym (t .is)) (o .0))),
         )
 
-    covered-F : (x : Node) → Marked (built-graph old new F′ H wo wn joint) (λ k. k ≡ 3) x → F G Q x
+    covered-F : (x : Node) → Marked (built-graph old new F′ H wn last reads joint) (λ k. k ≡ 3) x → F G Q x
     unfolding Open
     covered-F x M =
         let T = covered-only old new F′ H joint (nodeNumber x) (M .1) in
@@ -140,7 +143,7 @@ module _ (old new : Chart) (F′ : FaultlessChart old) (H : FaultlessChart new) 
         }
 
     -- ---- line 7
-    transition : (e : Edge) → Targeted (built-graph old new F′ H wo wn joint) e → m (number (e .pred)) ≡ 1 → Transition G Q e
+    transition : (e : Edge) → Targeted (built-graph old new F′ H wn last reads joint) e → m (number (e .pred)) ≡ 1 → Transition G Q e
     unfolding Open
     transition e t o =
         let f = W .edges e .1 t in
@@ -153,17 +156,15 @@ module _ (old new : Chart) (F′ : FaultlessChart old) (H : FaultlessChart new) 
 
     each : (i r : ℕ) → i < 4096 → r < 2 → m i ≡ 1 → to i r ≢ 65535 → (x : Node) × (nodeNumber x ≡ to i r) × Transition G Q (edge (pairOf i) r x)
     each i r l c o u =
-        dite (decLt (to i r) 4096) (λ b. by (aligned (pairOf (to i r))) (numbered (to i r) b) (number-is (to i r)))
-        (λ b. ⊎-elim (λ d. by (indicator (newOf (to i r))) (omega arith) (omega arith)) (λ d. absurd (u d)) (target-fits old new F′ H wo wn joint i r l c))
-      where
-        by : (x : Node) → NodeNumbered x → nodeNumber x ≡ to i r → (x : Node) × (nodeNumber x ≡ to i r) × Transition G Q (edge (pairOf i) r x)
-        by x B z =
-            (x, z, transition (edge (pairOf i) r x) (record { pred = numbered i l; two = c; succ = B; is = ap (λ (j : ℕ). to j r) (number-is i) ∙ sym z }) (ap m (number-is i) ∙ o))
+        ⊎-elim (λ d. absurd (u d))
+        (λ A. (A .0, A .1, transition (edge (pairOf i) r (A .0)) (W .edges (edge (pairOf i) r (A .0)) .0 (A .2)) (ap m (number-is i) ∙ o)))
+        (W .aims i r l c)
 
-    pub whole-condition : IsCondition (built-graph old new F′ H wo wn joint) G Q
+    pub whole-condition : IsCondition (built-graph old new F′ H wn last reads joint) G Q
     unfolding Open
     whole-condition =
         record {
+          highest = λ k l. mark-most old new F′ H wn last reads joint k;
           open-or-kept = λ x. (Q-open x, open-Q x);
           covered = λ x. (F-covered x, covered-F x);
           transitions = λ e. (λ t. (W .edges e .0 (t .edge), pair-one (e .pred) (t .from)), λ t. transition e (t .0) (t .1));

@@ -1,5 +1,5 @@
--- The targets between turns, read as the source's E_l; and what each part of a turn does to both. E_l keeps every edge that it ever had, and
--- the targets only the last one of a pair of the graph by each row. Assumes nothing.
+-- The targets between turns, read as the source's E_l; and what each part of a turn does to both. E_l keeps every edge
+-- that it ever had, and the targets only the last one of a pair of the graph by each row. Assumes nothing.
 use mathlib.Core.Path.{_≡_, sym, subst, _∙_}
 use mathlib.Core.Bool.{false, _||_, or-true}
 use mathlib.Core.Logic.{_⊎_, inl, inr, ⊎-elim, dite}
@@ -34,7 +34,8 @@ module _ (old new : Chart) where
     pub row : e .row < size (leaving (new .table) (e .pred .new .0))
     pub onto : Onto Δ (e .pred) (e .row) (e .succ)
 
-  -- t as the target of row r of pair i: the kept node of its place, and there is an edge; or a pair, and there is the edge to it
+  -- t as the target of row r of pair i: the kept node of its place, and there is an edge; or a pair, and there is the
+  -- edge to it
   pub record ToKept (E : SetOf Edge) (i r t : ℕ) : Type 0 where
     pub is : t ≡ keptNumber (leadsTo new i r)
     pub succ : Node

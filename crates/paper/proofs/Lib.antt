@@ -1,5 +1,6 @@
--- That a build is a run of the source's algorithms: the theorem is in Theorem. Lines 5 to 18 are in Successors and Stepping, lines 1 to 4 and 22
--- to 33 in Reading, Edges, Rows and Rounds, lines 19 to 21 in Returning and Alone, Algorithm 1 in Searching, Conditions and Alone.
+-- That a build is a run of the source's algorithms: the theorem is in Theorem; and that they return no other record: in
+-- Determined. Lines 5 to 18 are in Successors, Stepping and Outcomes, lines 1 to 4 and 22 to 33 in Reading, Edges, Rows
+-- and Rounds, lines 19 to 21 in Returning and Alone, Algorithm 1 in Searching, Conditions and Alone.
 pub mod Successors
 pub mod Members
 pub mod Stepping
@@ -13,3 +14,4 @@ pub mod Returning
 pub mod Conditions
 pub mod Alone
 pub mod Theorem
+pub mod Determined

@@ -1,4 +1,5 @@
--- The four buffers between turns, read as the source's variables; and what each part of a turn does to both. Assumes nothing.
+-- The four buffers between turns, read as the source's variables; and what each part of a turn does to both. Assumes
+-- nothing.
 use mathlib.Core.Path.{_≡_, refl, sym, ap, subst, _∙_}
 use mathlib.Core.Bool.{Bool, true, false, _&&_, _||_, not, and-true as and-yes, or-false as or-none, or-true}
 use mathlib.Core.Logic.{⊎-elim, dite}
@@ -22,7 +23,8 @@ use Rattle.paper.specs.Algorithm2.{State, toPlace, line29, toPair, poppe
 use Rattle.paper.proofs.Members.{in-either, only-pair, numbered, same-pair, other-pair}
 
 -- ---- waitlist, N_l, Δ and V_δ
--- the buffers clear the sets of pairs that leave the graph, and V_δ does not: they are the same where the new place is not kept
+-- the buffers clear the sets of pairs that leave the graph, and V_δ does not: they are the same where the new place is
+-- not kept
 pub record Sets (s : State) (g : Graph) : Type 0 where
   pub N : (i : ℕ) → i < 4096 → s .Nₗ (pairOf i) ≡ marked (g .marks) i
   pub N-numbered : (n : Pair) → n isIn s .Nₗ → Numbered n

@@ -1,9 +1,10 @@
--- What a build leaves, unless the start is the lone kept node, is the difference graph that lines 20 and 21 return. Assumes nothing.
+-- What a build leaves, unless the start is the lone kept node, is the difference graph that lines 20 and 21 return.
+-- Assumes nothing.
 use mathlib.Core.Path.{_≡_, refl, sym, ap, subst, _∙_}
 use mathlib.Core.Bool.{Bool, true, false}
 use mathlib.Core.Logic.{_⊎_, inl, inr, ⊎-elim, dite, _≢_}
 use mathlib.Core.List.{List}
-use Prim.Native.Nat.{ℕ, _%_, _<_}
+use Prim.Native.Nat.{ℕ, _%_, _≤_, _<_}
 use native.Mathlib.Omega.{arith}
 use native.Mathlib.Decide.{ℕ-discrete, decLt}
 use borrow.Author.Tests.{ltb-true, ltb-false}
@@ -23,16 +24,16 @@ use Rattle.graph.specs.Graphs.{firstPair, firstKept, marked}
 use Rattle.detector.specs.Turns.{rowsOf, leadsTo, explored}
 use Rattle.condition.specs.Builds.{redirected, finalTargets, alone}
 use Rattle.graph.proofs.Graphs.{markAt, targetAt, marked-yes, marked-no, is-marked, not-marked}
-use Rattle.detector.proofs.Invariant.{Inv, Every, ToKept, ToPair}
+use Rattle.detector.proofs.Invariant.{Inv, Every, ToKept, ToPair, explored-inv}
 use Rattle.marker.proofs.Marks.{rank-there}
 use Rattle.condition.proofs.Demand3.{marks, left, final}
 use Rattle.paper.specs.Nodes.{_isIn_, _isNotIn_, Pair, pair, Node, aligned, indicator, Edge, edge, number, nodeNumber, pairOf, Numbered, NodeNumbered}
 use Rattle.paper.specs.Algorithm2.{State, nodes, indicators, Replaced, Line20, whole}
-use Rattle.paper.specs.Returned.{Marked, Targeted, IsGraph}
-use Rattle.paper.proofs.Members.{not-in, pair-is, number-below}
+use Rattle.paper.specs.Returned.{Marked, Targeted, Aimed, IsGraph}
+use Rattle.paper.proofs.Members.{not-in, pair-is, number-is, number-below, numbered}
 use Rattle.paper.proofs.Edges as reading
-use Rattle.paper.proofs.Rounds.{Ran, explored-ran}
-use Rattle.paper.proofs.Searching.{node-below}
+use Rattle.paper.proofs.Rows.{Reads}
+use Rattle.paper.proofs.Searching.{node-below, nodeOf, nodeOf-numbered}
 
 -- ---- "At the end a target whose new place is kept becomes that kept node."
 record Turned (m : List ℕ) (t : ℕ) : Type 0 where
@@ -53,36 +54,31 @@ redirection m t = go (ltb t 4096) refl (marked m (keptNumber (newOf t))) refl
     go true d false e = inr (record { is = rw (d, e, redirected); free = λ l. not-marked m (keptNumber (newOf t)) e })
     go false d b e = inr (record { is = rw (d, redirected); free = λ l. absurd (let z = ltb-false t 4096 d in omega arith) })
 
-module _ (old new : Chart) (F : FaultlessChart old) (H : FaultlessChart new) (wo : Words (old .table)) (wn : Words (new .table)) where
-  abbrev pub ran : Ran old new F H (explored old new)
-  ran = explored-ran old new F H wo wn
-
-  abbrev pub last : State
-  last = ran .state
-
+-- any state that is read in what the build explores, as the end of a run is
+module _ (old new : Chart) (F : FaultlessChart old) (H : FaultlessChart new) (wn : Words (new .table)) (last : State) (reads : Reads old new last (explored old new)) where
   abbrev I : Inv old new Every (explored old new)
-  I = ran .inv
+  I = explored-inv old new F H
 
   -- ---- N_l and Δ where the loop has ended
   in-N : (i : ℕ) → i < 4096 → 0 < markAt (explored old new) i → pairOf i isIn last .Nₗ
-  in-N i l p = ran .reads .sets .N i l ∙ marked-yes (explored old new .marks) i p
+  in-N i l p = reads .sets .N i l ∙ marked-yes (explored old new .marks) i p
 
   N-in : (n : Pair) → n isIn last .Nₗ → Numbered n × (0 < markAt (explored old new) (number n))
   N-in n e =
-      let B = ran .reads .sets .N-numbered n e in
+      let B = reads .sets .N-numbered n e in
       let l = number-below n B in
-      (B, is-marked (explored old new .marks) (number n) (sym (ran .reads .sets .N (number n) l) ∙ ap (last .Nₗ) (pair-is n B) ∙ e))
+      (B, is-marked (explored old new .marks) (number n) (sym (reads .sets .N (number n) l) ∙ ap (last .Nₗ) (pair-is n B) ∙ e))
 
   in-Δ : (q : NewPlace) → q .0 < 64 → 0 < markAt (explored old new) (keptNumber q) → q isIn last .Δ
-  in-Δ q l p = ran .reads .sets .Δ q l ∙ marked-yes (explored old new .marks) (keptNumber q) p
+  in-Δ q l p = reads .sets .Δ q l ∙ marked-yes (explored old new .marks) (keptNumber q) p
 
   Δ-in : (q : NewPlace) → q isIn last .Δ → (q .0 < 64) × (0 < markAt (explored old new) (keptNumber q))
   Δ-in q e =
-      let l = ran .reads .sets .Δ-numbered q e in
-      (l, is-marked (explored old new .marks) (keptNumber q) (sym (ran .reads .sets .Δ q l) ∙ e))
+      let l = reads .sets .Δ-numbered q e in
+      (l, is-marked (explored old new .marks) (keptNumber q) (sym (reads .sets .Δ q l) ∙ e))
 
   free : (i : ℕ) → i < 4096 → 0 < markAt (explored old new) i → newOf i isNotIn last .Δ
-  free i l p = ran .reads .sets .Δ (newOf i) (omega arith) ∙ marked-no (explored old new .marks) (keptNumber (newOf i)) (I .apart i l p)
+  free i l p = reads .sets .Δ (newOf i) (omega arith) ∙ marked-no (explored old new .marks) (keptNumber (newOf i)) (I .apart i l p)
 
   module _ (joint : alone (headOf old) (headOf new) (explored old new .marks) ≡ false) where
     abbrev pub built-graph : Record
@@ -98,7 +94,7 @@ module _ (old new : Chart) (F : FaultlessChart old) (H : FaultlessChart new) (wo
         let f = redirected (explored old new .marks) in
         subst (λ (d : ℕ). getD (finalTargets (explored old new)) (index i r) d ≡ f (targetAt (explored old new) i r)) zero-stays (List·getD-map f (explored old new .targets) (index i r) 0)
 
-    pub target-fits : (i r : ℕ) → i < 4096 → r < 2 → (target (left old new F H joint) i r < 4160) ⊎ (target (left old new F H joint) i r ≡ 65535)
+    target-fits : (i r : ℕ) → i < 4096 → r < 2 → (target (left old new F H joint) i r < 4160) ⊎ (target (left old new F H joint) i r ≡ 65535)
     target-fits i r b c =
         rw (target-now i r)
         (⊎-elim (λ T. inl (omega (arith, T .is))) (λ S. ⊎-elim (λ a. inl (omega (arith, S .is))) (λ a. inr (S .is ∙ a)) (I .aims i r b c)) (redirection (explored old new .marks) (targetAt (explored old new) i r)))
@@ -146,13 +142,13 @@ module _ (old new : Chart) (F : FaultlessChart old) (H : FaultlessChart new) (wo
     -- the edge to y shows that the target of this row is used
     module _ (i r : ℕ) (l : i < 4096) (p : 0 < markAt (explored old new) i) (y : Node) (h : edge (pairOf i) r y isIn last .Eₗ) where
       sound : reading.Sound old new (last .Δ) (edge (pairOf i) r y)
-      sound = ran .reads .edges .sound (edge (pairOf i) r y) h
+      sound = reads .edges .sound (edge (pairOf i) r y) h
 
       two : r < 2
       two = omega (arith, sound .row, two-at-most new H (wn .small) (i % 64))
 
       used : targetAt (explored old new) i r ≡ 65535 → ⊥
-      used e = not-in h (ran .reads .edges .unused i r l two (free i l p) e y)
+      used e = not-in h (reads .edges .unused i r l two (free i l p) e y)
 
       leads : GoesKept i r ⊎ GoesPair i r
       leads = goes i r l p two (sound .row) used
@@ -170,12 +166,12 @@ module _ (old new : Chart) (F : FaultlessChart old) (H : FaultlessChart new) (wo
         let M = N-in m v in
         let z : keptNumber (newOf (number m)) ≡ keptNumber (leadsTo new i r) = omega (arith, S .onto .0, M .0 .new) in
         ⊎-elim (λ K. absurd (omega (arith, K .kept, subst (λ (k : ℕ). markAt (explored old new) k ≡ 0) z (I .apart (number m) (number-below m (M .0)) (M .1)))))
-        (λ P. P .is ∙ same P S (ran .reads .edges .aims i r l (two i r l p (aligned m) h) (free i l p) (used i r l p (aligned m) h))) (leads i r l p (aligned m) h)
+        (λ P. P .is ∙ same P S (reads .edges .aims i r l (two i r l p (aligned m) h) (free i l p) (used i r l p (aligned m) h))) (leads i r l p (aligned m) h)
       where
         same : GoesPair i r → reading.Sound old new (last .Δ) (edge (pairOf i) r (aligned m)) → reading.Aims old new (last .Eₗ) i r (targetAt (explored old new) i r) → targetAt (explored old new) i r ≡ number m
         same P S (inl K) = absurd (omega (arith, K .is, P .below))
         same P S (inr T) =
-            let U = ran .reads .edges .sound (edge (pairOf i) r (aligned (pairOf (targetAt (explored old new) i r)))) (T .edge) in
+            let U = reads .edges .sound (edge (pairOf i) r (aligned (pairOf (targetAt (explored old new) i r)))) (T .edge) in
             let o = ap (λ (x : OldPlace). x .0) (U .onto .1 ∙ sym (S .onto .1)) in
             omega (arith, o, U .onto .0, S .onto .0)
 
@@ -225,7 +221,7 @@ module _ (old new : Chart) (F : FaultlessChart old) (H : FaultlessChart new) (wo
             inl (subst (λ (x : NewPlace). edge (pairOf i) r (indicator x) isIn last .Eₗ) z h)
 
         aims : reading.Aims old new (last .Eₗ) i r (targetAt (explored old new) i r)
-        aims = ran .reads .edges .aims i r l c (free i l there) u
+        aims = reads .edges .aims i r l c (free i l there) u
 
         to-edge : (x : Node) → NodeNumbered x → target (left old new F H joint) i r ≡ nodeNumber x → (x isIn nodes last) × Kind (pairOf i) r x
         unfolding nodes
@@ -255,6 +251,16 @@ module _ (old new : Chart) (F : FaultlessChart old) (H : FaultlessChart new) (wo
           edge = subst (λ (n : Pair). Kind n (e .row) (e .succ)) (pair-is (e .pred) (T .pred)) (z .1);
         }
 
+    -- a target is unused, or there is an edge to it
+    each-target : (i r : ℕ) → i < 4096 → r < 2 → (target (left old new F H joint) i r ≡ 65535) ⊎ Aimed built-graph (whole old new last) i r
+    each-target i r l c = ⊎-elim (λ b. inr (by b)) inl (target-fits i r l c)
+      where
+        by : target (left old new F H joint) i r < 4160 → Aimed built-graph (whole old new last) i r
+        by b =
+            let (B, z) = nodeOf-numbered (target (left old new F H joint) i r) b in
+            let x = nodeOf (target (left old new F H joint) i r) in
+            (x, z, targets-line20 (edge (pairOf i) r x) (record { pred = numbered i l; two = c; succ = B; is = ap (λ (j : ℕ). target (left old new F H joint) j r) (number-is i) ∙ sym z }))
+
     -- ---- line 21
     module _ (k : ℕ) where
       pub left-mark : mark (left old new F H joint) k ≢ 0 → (k < 4160) × (0 < markAt (explored old new) k)
@@ -268,6 +274,13 @@ module _ (old new : Chart) (F : FaultlessChart old) (H : FaultlessChart new) (wo
 
     not-two : (k : ℕ) → k < 4096 → mark (left old new F H joint) k ≡ 2 → ⊥
     not-two k l e = ⊎-elim (λ a. omega arith) (λ a. ⊎-elim (λ b. omega arith) (λ b. omega arith) a) (pair-marks k l (left-mark k (λ z. omega arith) .1))
+
+    pub mark-most : (k : ℕ) → mark (left old new F H joint) k ≤ 4
+    mark-most k =
+        dite (ℕ-discrete (mark (left old new F H joint) k) 0) (λ e. omega arith)
+        (λ e. let z = left-mark k e in dite (decLt k 4096)
+        (λ l. ⊎-elim (λ a. omega arith) (λ a. ⊎-elim (λ b. omega arith) (λ b. omega arith) a) (pair-marks k l (z .1)))
+        (λ l. omega (arith, final old new F H joint .ranks .node k (omega arith) (z .0) (z .1))))
 
     in-nodes : (x : Node) → x isIn nodes last → Marked built-graph (λ m. m ≢ 0) x
     unfolding nodes
@@ -299,11 +312,12 @@ module _ (old new : Chart) (F : FaultlessChart old) (H : FaultlessChart new) (wo
           nodes = λ x. (in-nodes x, nodes-in x);
           kept = λ x. (in-kept x, kept-in x);
           edges = λ e. (line20-targets e, targets-line20 e);
+          aims = each-target;
           sets = λ n e.
               (let N = N-in n e in
               let l = number-below n (N .0) in
-              sym (ran .reads .sets .Vδ (number n) l (free (number n) l (N .1))) ∙ ap (last .Vδ) (pair-is n (N .0)));
+              sym (reads .sets .Vδ (number n) l (free (number n) l (N .1))) ∙ ap (last .Vδ) (pair-is n (N .0)));
           bare = λ n B e.
               (let l = number-below n B in
-              I .bare (number n) l (not-marked (explored old new .marks) (number n) (sym (ran .reads .sets .N (number n) l) ∙ ap (last .Nₗ) (pair-is n B) ∙ e)));
+              I .bare (number n) l (not-marked (explored old new .marks) (number n) (sym (reads .sets .N (number n) l) ∙ ap (last .Nₗ) (pair-is n B) ∙ e)));
         }

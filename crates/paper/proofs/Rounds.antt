@@ -1,8 +1,9 @@
--- A turn of a build is one round of Algorithm 2's loop, lines 3 to 18, with the lowest waiting pair, and all turns are one run of it. Assumes nothing.
+-- A turn of a build is one round of Algorithm 2's loop, lines 3 to 18, with the lowest waiting pair. All turns are one
+-- run of it, and every run of it has come to what the build comes to after some of its turns. Assumes nothing.
 use mathlib.Core.Path.{_≡_, refl, sym, ap, subst, _∙_}
 use mathlib.Core.Bool.{true, not}
 use mathlib.Core.Logic.{dite}
-use mathlib.Core.Option.{some}
+use mathlib.Core.Option.{Option, none, some}
 use Prim.Native.Nat.{ℕ, zero, suc, _%_, _^_, _≤_, _<_}
 use native.Mathlib.Omega.{arith}
 use native.Mathlib.Decide.{ℕ-discrete, decLt}
@@ -10,11 +11,12 @@ use borrow.Author.Tests.{le-ltb, eqb-true, not-false}
 use lib.Dec.{eqb}
 use lib.ListN.{length, getD, set, replicate}
 use Rattle.base.proofs.Tests.{T-true}
-use Rattle.base.proofs.Repeat.{repeated-keeps}
+use Rattle.base.proofs.Repeat.{Going, repeated-keeps, again-by, done-by}
 use Rattle.base.proofs.Walks.{zeros-at, same-at, first-is}
-use Rattle.chart.specs.Places.{keptNumber, newOf}
-use Rattle.chart.specs.Charts.{Chart, size}
+use Rattle.chart.specs.Places.{keptNumber, oldOf, newOf}
+use Rattle.chart.specs.Charts.{Chart, size, operation}
 use Rattle.chart.specs.Faultless.{FaultlessChart}
+use Rattle.align.specs.declared.spots.Spot.{Spot}
 use Rattle.align.proofs.Parts.{two-at-most}
 use Rattle.checker.specs.Records.{index}
 use Rattle.checker.specs.Promise.{Words}
@@ -22,18 +24,34 @@ use Rattle.graph.specs.Graphs.{Graph, marked, unwait}
 use Rattle.detector.specs.Turns.{rowsOf, next, lowest, setNow, begun, rowDone, secondDone, taken, explored}
 use Rattle.detector.proofs.Ones.{one-there, one-other}
 use Rattle.graph.proofs.Graphs.{markAt, setAt, Shaped, marked-yes, marked-no, is-marked, unwait-shaped}
-use Rattle.detector.proofs.Turns.{set-now, set-had, set-now-small, next-waits}
-use Rattle.detector.proofs.Measure.{row-lighter}
+use Rattle.detector.proofs.Turns.{Waiter, set-now, set-had, set-now-small, next-waits, none-waits}
+use Rattle.detector.proofs.Measure.{weight, turns, begun-shaped, begun-weight, row-lighter}
 use Rattle.detector.proofs.Invariant.{Inv, Every, turn-inv, begun-inv}
-use Rattle.paper.specs.Nodes.{_isIn_, _isNotIn_, onlyPair, pairOf, number, Numbered}
+use Rattle.paper.specs.Nodes.{_isIn_, _isNotIn_, Pair, onlyPair, pairOf, number, Numbered}
 use Rattle.paper.specs.Lines5to18.{Lines5to18}
-use Rattle.paper.specs.Algorithm2.{State, called, popped, ForEach, none-yet, one-more, Lowest, Run, line1, lines3to18}
+use Rattle.paper.specs.Algorithm2.{State, edges, called, popped, ForEach, none-yet, one-more, Lowest, Run, line1, lines3to18, Ended}
 use Rattle.paper.specs.Algorithm2 as algorithm2
-use Rattle.paper.proofs.Members.{only-pair, numbered, same-pair, other-pair, pair-is, number-below}
+use Rattle.paper.proofs.Members.{not-in, only-pair, numbered, same-pair, other-pair, pair-is, number-below}
 use Rattle.paper.proofs.Reading.{pop-sets}
-use Rattle.paper.proofs.Rows.{Reads, InHand, unwait-hand, Row, row-read, stepped, cameTo}
+use Rattle.paper.proofs.Rows.{Reads, InHand, unwait-hand, Row, stepped, any-read, cameTo}
 
 module _ (old new : Chart) (F : FaultlessChart old) (G : FaultlessChart new) where
+  -- ---- the loop of line 4 by its last edge
+  record Last (s : State) (n : Pair) (k : ℕ) (t : State) : Type 0 where
+    before : State
+    spot : Option Spot
+    loop : ForEach old new (Lines5to18 old) s n k before
+    lines : Lines5to18 old (n .old) (before .Vδ n) (operation (edges old new (n .new)) k) spot
+    is : t ≡ called old new before n k spot
+
+  abbrev ByLast : State → Pair → ℕ → State → Type 0
+  ByLast s n zero t = t ≡ s
+  ByLast s n (suc k) t = Last s n k t
+
+  by-last : {s : State} {n : Pair} {k : ℕ} {t : State} → ForEach old new (Lines5to18 old) s n k t → ByLast s n k t
+  by-last none-yet = refl
+  by-last (one-more {k} {t} o f L) = record { before = t; spot = o; loop = f; lines = L; is = refl }
+
   -- ---- a round
   module _ (wo : Words (old .table)) (wn : Words (new .table)) (s : State) (g : Graph) (n : ℕ) (l : n < 4096) (S : Shaped g) (R : Reads old new s g) (H : InHand (unwait g n) n) (free : newOf n isNotIn s .Δ) where
     v : ℕ
@@ -69,10 +87,6 @@ module _ (old new : Chart) (F : FaultlessChart old) (G : FaultlessChart new) whe
     unfolding s₀ popped v
     first-own = R .sets .Vδ n l free
 
-    -- the state after the first edge
-    s₁ : State
-    s₁ = called old new s₀ (pairOf n) 0 (cameTo old new n v 0)
-
     v₁ : ℕ
     v₁ = setNow (first .marks) (first .sets) n v
 
@@ -80,57 +94,72 @@ module _ (old new : Chart) (F : FaultlessChart old) (G : FaultlessChart new) whe
     unfolding first v
     first-shaped = row-lighter old new F G (unwait g n) n v 0 l (S .small n) (unwait-shaped g n S) .shaped
 
+    later-small : v₁ < 2 ^ 64
+    unfolding v v₁
+    later-small = set-now-small first n v (S .small n) first-shaped
+
+    -- what is read after one edge, and after both
     module _ (a : 0 < size (rowsOf new n)) where
-      row-one : Row old new n v s₁ first
-      unfolding first v s₁
-      row-one = row-read old new F G s₀ (unwait g n) n v 0 l (S .small n) (omega arith) a (unwait-shaped g n S) (start .reads) H first-own
+      one-read : (f : State) → f ≡ s₀ → (o : Option Spot) → Lines5to18 old (oldOf n) (f .Vδ (pairOf n)) (operation (rowsOf new n) 0) o
+          → Row old new n v (called old new f (pairOf n) 0 o) first
+      unfolding first v
+      one-read f e =
+          subst
+          (λ (x : State). (o : Option Spot) → Lines5to18 old (oldOf n) (x .Vδ (pairOf n)) (operation (rowsOf new n) 0) o → Row old new n v (called old new x (pairOf n) 0 o) first)
+          (sym e) (any-read old new F G s₀ (unwait g n) n v 0 l (S .small n) (omega arith) a (unwait-shaped g n S) (start .reads) H first-own wo wn)
 
-      loop-one : ForEach old new (Lines5to18 old) s₀ (pairOf n) 1 s₁
-      unfolding v s₁
-      loop-one = one-more (cameTo old new n v 0) none-yet
-          (stepped old new F G s₀ (unwait g n) n v 0 l (S .small n) (omega arith) a (unwait-shaped g n S) (start .reads) H first-own wo wn)
+      after-one : (t : State) → ForEach old new (Lines5to18 old) s₀ (pairOf n) 1 t → Row old new n v t first
+      after-one t f =
+          let K = by-last f in
+          subst (λ (x : State). Row old new n v x first) (sym (K .is)) (one-read (K .before) (by-last (K .loop)) (K .spot) (K .lines))
 
-    -- lines 4 to 18, for as many edges as there are
-    record Rounded (k : ℕ) : Type 0 where
-      state : State
-      loop : ForEach old new (Lines5to18 old) s₀ (pairOf n) k state
-      reads : Reads old new state (rowDone old new first n v₁ 1)
+      after-two : 1 < size (rowsOf new n) → (t : State) → ForEach old new (Lines5to18 old) s₀ (pairOf n) 2 t → Reads old new t (rowDone old new first n v₁ 1)
+      unfolding v₁
+      after-two c t f =
+          let K = by-last f in
+          let one = after-one (K .before) (K .loop) in
+          subst (λ (x : State). Reads old new x (rowDone old new first n v₁ 1)) (sym (K .is))
+          (any-read old new F G (K .before) first n v₁ 1 l later-small (omega arith) c first-shaped (one .reads) (one .hand) (own (K .before) first one) wo wn (K .spot) (K .lines) .reads)
 
-    rounds : (k : ℕ) → size (rowsOf new n) ≡ k → Rounded k
+    -- lines 4 to 18 for as many edges as there are: whatever they come to is read in what the turn leaves
+    reads-after : (k : ℕ) → size (rowsOf new n) ≡ k → (t : State) → ForEach old new (Lines5to18 old) s₀ (pairOf n) k t → Reads old new t (rowDone old new first n v₁ 1)
     unfolding first v v₁
-    rounds zero e =
-        record {
-          state = s₀;
-          loop = none-yet;
-          reads = subst (λ (h : Graph). Reads old new s₀ h) (sym (no-row first v₁ 1 (omega arith) ∙ no-row (unwait g n) v 0 (omega arith))) (start .reads);
-        }
-    rounds (suc zero) e =
-        record {
-          state = s₁;
-          loop = loop-one (omega arith);
-          reads = subst (λ (h : Graph). Reads old new s₁ h) (sym (no-row first v₁ 1 (omega arith))) (row-one (omega arith) .reads);
-        }
-    rounds (suc (suc zero)) e =
-        let one = row-one (omega arith) in
-        let small = set-now-small first n v (S .small n) first-shaped in
-        record {
-          state = called old new s₁ (pairOf n) 1 (cameTo old new n v₁ 1);
-          loop = one-more (cameTo old new n v₁ 1) (loop-one (omega arith))
-              (stepped old new F G s₁ first n v₁ 1 l small (omega arith) (omega arith) first-shaped (one .reads) (one .hand) (own s₁ first one) wo wn);
-          reads = row-read old new F G s₁ first n v₁ 1 l small (omega arith) (omega arith) first-shaped (one .reads) (one .hand) (own s₁ first one) .reads;
-        }
-    rounds (suc (suc (suc k))) e = absurd (omega (arith, two-at-most new G (wn .small) (n % 64)))
+    reads-after zero e t f =
+        subst (λ (h : Graph). Reads old new t h) (sym (no-row first v₁ 1 (omega arith) ∙ no-row (unwait g n) v 0 (omega arith)))
+        (subst (λ (x : State). Reads old new x (unwait g n)) (sym (by-last f)) (start .reads))
+    reads-after (suc zero) e t f = subst (λ (h : Graph). Reads old new t h) (sym (no-row first v₁ 1 (omega arith))) (after-one (omega arith) t f .reads)
+    reads-after (suc (suc zero)) e t f = after-two (omega arith) (omega arith) t f
+    reads-after (suc (suc (suc k))) e t f = absurd (omega (arith, two-at-most new G (wn .small) (n % 64)))
 
-    round : Rounded (size (rowsOf new n))
-    round = rounds (size (rowsOf new n)) refl
+    pub round-read : (t : State) → ForEach old new (Lines5to18 old) (popped s (pairOf n)) (pairOf n) (size (rowsOf new n)) t → Reads old new t (taken old new g n)
+    unfolding taken secondDone first v v₁ s₀
+    round-read t f = reads-after (size (rowsOf new n)) refl t f
 
-    round-read : Reads old new (round .state) (taken old new g n)
-    unfolding taken secondDone first v v₁
-    round-read = round .reads
+    -- and they come to something
+    first-state : State
+    first-state = called old new s₀ (pairOf n) 0 (cameTo old new n v 0)
 
-    round-run : Run old new (Lines5to18 old) Lowest s → pairOf n isIn s .waitlist → Lowest s (pairOf n) → Run old new (Lines5to18 old) Lowest (round .state)
+    loop-one : 0 < size (rowsOf new n) → ForEach old new (Lines5to18 old) s₀ (pairOf n) 1 first-state
+    unfolding v first-state
+    loop-one a = one-more (cameTo old new n v 0) none-yet
+        (stepped old new F G s₀ (unwait g n) n v 0 l (S .small n) (omega arith) a (unwait-shaped g n S) (start .reads) H first-own wo wn)
+
+    loops : (k : ℕ) → size (rowsOf new n) ≡ k → (t : State) × ForEach old new (Lines5to18 old) s₀ (pairOf n) k t
+    unfolding v₁
+    loops zero e = (s₀, none-yet)
+    loops (suc zero) e = (first-state, loop-one (omega arith))
+    loops (suc (suc zero)) e =
+        let f = loop-one (omega arith) in
+        let one = after-one (omega arith) first-state f in (
+          called old new first-state (pairOf n) 1 (cameTo old new n v₁ 1),
+          one-more (cameTo old new n v₁ 1) f
+              (stepped old new F G first-state first n v₁ 1 l later-small (omega arith) (omega arith) first-shaped (one .reads) (one .hand) (own first-state first one) wo wn),
+        )
+    loops (suc (suc (suc k))) e = absurd (omega (arith, two-at-most new G (wn .small) (n % 64)))
+
+    pub round : (t : State) × ForEach old new (Lines5to18 old) (popped s (pairOf n)) (pairOf n) (size (rowsOf new n)) t
     unfolding s₀
-    round-run r w c = lines3to18 (pairOf n) r w c (round .loop)
+    round = loops (size (rowsOf new n)) refl
 
   -- ---- the run
   pub record Ran (g : Graph) : Type 0 where
@@ -151,51 +180,62 @@ module _ (old new : Chart) (F : FaultlessChart old) (G : FaultlessChart new) whe
       absurd (omega (arith, is-marked (g .waiting) (number m) y)))
       (λ l. omega arith)
 
+  -- the pair that a turn takes, in hand
+  module _ (s : State) (g : Graph) (n : ℕ) (R : Reads old new s g) (I : Inv old new Every g) (e : next g ≡ some n) where
+    waiter : Waiter g n
+    waiter = next-waits g n e
+
+    below : n < 4096
+    below = omega (arith, waiter .below, I .shaped .sized .waiting)
+
+    there : 0 < markAt g n
+    there = I .waiters n below (waiter .waits)
+
+    not-kept : markAt g (keptNumber (newOf n)) ≡ 0
+    not-kept = I .apart n below there
+
+    in-hand : InHand (unwait g n) n
+    in-hand = unwait-hand g n (record { there = λ e. there; free = λ e. not-kept })
+
+    free : newOf n isNotIn s .Δ
+    free = R .sets .Δ (newOf n) (omega arith) ∙ marked-no (g .marks) (keptNumber (newOf n)) not-kept
+
+    taken-waits : pairOf n isIn s .waitlist
+    taken-waits = R .sets .waits n below ∙ marked-yes (g .waiting) n (waiter .waits)
+
   turn-ran : Words (old .table) → Words (new .table) → (g : Graph) (n : ℕ) → Ran g → next g ≡ some n → Ran (taken old new g n)
   turn-ran wo wn g n A e =
-      let L = next-waits g n e in
+      let s = A .state in
+      let R = A .reads in
       let I = A .inv in
-      let l : n < 4096 = omega (arith, L .below, I .shaped .sized .waiting) in
-      let p = I .waiters n l (L .waits) in
-      let z = I .apart n l p in
-      let f = A .reads .sets .Δ (newOf n) (omega arith) ∙ marked-no (g .marks) (keptNumber (newOf n)) z in
+      let f = round wo wn s g n (below s g n R I e) (I .shaped) R (in-hand s g n R I e) (free s g n R I e) in
       record {
-        state = round wo wn (A .state) g n l (I .shaped) (A .reads) (in-hand g n p z) f .state;
-        run = round-run wo wn (A .state) g n l (I .shaped) (A .reads) (in-hand g n p z) f (A .run) (A .reads .sets .waits n l ∙ marked-yes (g .waiting) n (L .waits))
-            (pops-lowest (A .state) g n (A .reads) (I .shaped .sized .waiting) e);
-        reads = round-read wo wn (A .state) g n l (I .shaped) (A .reads) (in-hand g n p z) f;
+        state = f .0;
+        run = lines3to18 (pairOf n) (A .run) (taken-waits s g n R I e) (pops-lowest s g n R (I .shaped .sized .waiting) e) (f .1);
+        reads = round-read wo wn s g n (below s g n R I e) (I .shaped) R (in-hand s g n R I e) (free s g n R I e) (f .0) (f .1);
         inv = turn-inv old new F G g n I e;
       }
-    where
-      in-hand : (g : Graph) (n : ℕ) → 0 < markAt g n → markAt g (keptNumber (newOf n)) ≡ 0 → InHand (unwait g n) n
-      in-hand g n p z = unwait-hand g n (record { there = λ e. p; free = λ e. z })
 
-  begun-ran : Ran (begun old new)
+  begun-read : Reads old new (algorithm2.begun old new) (begun old new)
   unfolding begun algorithm2.begun
-  begun-ran =
+  begun-read =
       record {
-        state = algorithm2.begun old new;
-        run = line1;
-        reads =
+        sets =
             record {
-              sets =
-                  record {
-                    N = λ i b. first-only 4160 (omega arith) i;
-                    N-numbered = λ n e. subst Numbered (only-pair (pairOf 0) n e) (numbered 0 (omega arith));
-                    Δ = λ q b. sym (marked-no (set (replicate 4160 0) 0 1) (keptNumber q) (one-other 4160 0 1 (keptNumber q) (λ e. omega arith)));
-                    Δ-numbered = λ q e. absurd (T-true e);
-                    waits = λ i b. first-only 4096 (omega arith) i;
-                    waits-numbered = λ n e. subst Numbered (only-pair (pairOf 0) n e) (numbered 0 (omega arith));
-                    Vδ = λ i b e. sym (zeros-at 4096 i);
-                  };
-              edges =
-                  record {
-                    sound = λ e h. absurd (T-true h);
-                    unused = λ i r b c f u x. refl;
-                    aims = λ i r b c f u. absurd (u (same-at 8192 65535 (index i r) (omega arith)));
-                  };
+              N = λ i b. first-only 4160 (omega arith) i;
+              N-numbered = λ n e. subst Numbered (only-pair (pairOf 0) n e) (numbered 0 (omega arith));
+              Δ = λ q b. sym (marked-no (set (replicate 4160 0) 0 1) (keptNumber q) (one-other 4160 0 1 (keptNumber q) (λ e. omega arith)));
+              Δ-numbered = λ q e. absurd (T-true e);
+              waits = λ i b. first-only 4096 (omega arith) i;
+              waits-numbered = λ n e. subst Numbered (only-pair (pairOf 0) n e) (numbered 0 (omega arith));
+              Vδ = λ i b e. sym (zeros-at 4096 i);
             };
-        inv = begun-inv old new F G;
+        edges =
+            record {
+              sound = λ e h. absurd (T-true h);
+              unused = λ i r b c f u x. refl;
+              aims = λ i r b c f u. absurd (u (same-at 8192 65535 (index i r) (omega arith)));
+            };
       }
     where
       first-only : (m : ℕ) → 0 < m → (i : ℕ) → onlyPair (pairOf 0) (pairOf i) ≡ marked (set (replicate m 0) 0 1) i
@@ -206,4 +246,69 @@ module _ (old new : Chart) (F : FaultlessChart old) (G : FaultlessChart new) whe
   -- where nothing waits any more, the build stands at the end of a run
   pub explored-ran : Words (old .table) → Words (new .table) → Ran (explored old new)
   unfolding explored
-  explored-ran wo wn = repeated-keeps next (taken old new) Ran (turn-ran wo wn) (2 ^ 80) (begun old new) begun-ran
+  explored-ran wo wn =
+      repeated-keeps next (taken old new) Ran (turn-ran wo wn) (2 ^ 80) (begun old new)
+      (record { state = algorithm2.begun old new; run = line1; reads = begun-read; inv = begun-inv old new F G })
+
+  -- ---- any run: the build, after some of its turns, reads what it has come to
+  record Come (s : State) : Type 0 where
+    graph : Graph
+    reads : Reads old new s graph
+    inv : Inv old new Every graph
+    going : Going next (taken old new) weight Shaped (explored old new) graph
+
+  -- the lowest waiting pair is the one that the turn takes
+  takes-it : (s : State) (g : Graph) (i : ℕ) → Reads old new s g → Inv old new Every g → i < 4096 → pairOf i isIn s .waitlist → Lowest s (pairOf i) → next g ≡ some i
+  takes-it s g i R I l w c = go (next g) refl
+    where
+      go : (x : Option ℕ) → next g ≡ x → next g ≡ some i
+      go none e =
+          absurd
+          (let z = none-waits g e i (omega (arith, I .shaped .sized .waiting)) in
+          not-in (sym (R .sets .waits i l) ∙ w) (marked-no (g .waiting) i z))
+      go (some k) e =
+          let a = pops-lowest s g k R (I .shaped .sized .waiting) e (pairOf i) w in
+          let b = c (pairOf k) (taken-waits s g k R I e) in
+          let z : k ≡ i = omega (arith, a, b) in
+          e ∙ ap some z
+
+  turn-come : Words (old .table) → Words (new .table) → (s t : State) → Come s → (i : ℕ) → i < 4096 → pairOf i isIn s .waitlist → Lowest s (pairOf i)
+      → ForEach old new (Lines5to18 old) (popped s (pairOf i)) (pairOf i) (size (rowsOf new i)) t → Come t
+  turn-come wo wn s t A i l w c f =
+      let g = A .graph in
+      let R = A .reads in
+      let I = A .inv in
+      let e = takes-it s g i R I l w c in
+      record {
+        graph = taken old new g i;
+        reads = round-read wo wn s g i l (I .shaped) R (in-hand s g i R I e) (free s g i R I e) t f;
+        inv = turn-inv old new F G g i I e;
+        going = again-by next (taken old new) weight Shaped (turns old new F G) (A .going) e refl;
+      }
+
+  come : Words (old .table) → Words (new .table) → {s : State} → Run old new (Lines5to18 old) Lowest s → Come s
+  unfolding explored
+  come wo wn line1 =
+      record {
+        graph = begun old new;
+        reads = begun-read;
+        inv = begun-inv old new F G;
+        going = record { good = begun-shaped old new F G; turns = 2 ^ 80; enough = begun-weight old new F G; same = refl };
+      }
+  come wo wn (lines3to18 {s} {t} n r w c f) =
+      let A = come wo wn r in
+      let B = A .reads .sets .waits-numbered n w in
+      subst
+      (λ (m : Pair). m isIn s .waitlist → Lowest s m → ForEach old new (Lines5to18 old) (popped s m) m (size (edges old new (m .new))) t → Come t)
+      (pair-is n B) (turn-come wo wn s t A (number n) (number-below n B)) w c f
+
+  -- a run that has ended is read in what the build explores
+  pub ended-read : Words (old .table) → Words (new .table) → {s : State} → Run old new (Lines5to18 old) Lowest s → Ended s → Reads old new s (explored old new)
+  ended-read wo wn {s} r d = go (come wo wn r)
+    where
+      go : Come s → Reads old new s (explored old new)
+      go A = subst (λ (h : Graph). Reads old new s h) (done-by next (taken old new) weight Shaped (turns old new F G) (A .going) (rests (next (A .graph)) refl)) (A .reads)
+        where
+          rests : (x : Option ℕ) → next (A .graph) ≡ x → next (A .graph) ≡ none
+          rests none e = e
+          rests (some k) e = absurd (not-in (taken-waits s (A .graph) k (A .reads) (A .inv) e) (d (pairOf k)))

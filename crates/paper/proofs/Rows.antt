@@ -1,4 +1,5 @@
--- One edge of the pair in hand: what a row of a turn does to the buffers, lines 5 to 18 and PROCESS do to the source's variables. Assumes nothing.
+-- One edge of the pair in hand: what a row of a turn does to the buffers, lines 5 to 18 and PROCESS do to the source's
+-- variables. Assumes nothing.
 use mathlib.Core.Path.{_≡_, refl, sym, ap, subst, _∙_}
 use mathlib.Core.Bool.{Bool, true, false, _&&_, _||_, not, or-true}
 use mathlib.Core.Logic.{inl, inr, dite}
@@ -32,6 +33,7 @@ use Rattle.paper.specs.Algorithm2.{State, toPlace, line27, toPair, proce
 use Rattle.paper.proofs.Successors.{successor, one-successor}
 use Rattle.paper.proofs.Members.{the-place, pair-is, other-pair}
 use Rattle.paper.proofs.Stepping.{step-lines}
+use Rattle.paper.proofs.Outcomes.{one-outcome}
 use Rattle.paper.proofs.Reading.{Sets, keep-sets, kept-sets, join-sets}
 use Rattle.paper.proofs.Edges.{Sound, Edges, keep-edges, aim-edges, added}
 
@@ -259,13 +261,26 @@ module _ (old new : Chart) (F : FaultlessChart old) (G : FaultlessChart new) whe
         subst (λ (f : State). Row old new n v f (turns.arrived (old .alarm) g n r (leadsTo new n r) h)) (sym (z .1))
         (some-row h (z .0) T (marked (g .marks) (keptNumber (leadsTo new n r))) refl)
 
-    pub row-read : Row old new n v (called old new s (pairOf n) r (cameTo old new n v r)) (rowDone old new g n v r)
+    row-read : Row old new n v (called old new s (pairOf n) r (cameTo old new n v r)) (rowDone old new g n v r)
     row-read = subst (λ (f : Graph). Row old new n v (called old new s (pairOf n) r (cameTo old new n v r)) f) (sym row-done) (edge-done (stepOf old new n v r) refl)
 
-    -- lines 5 to 18
-    pub stepped : Words (old .table) → Words (new .table) → Lines5to18 old (oldOf n) (s .Vδ (pairOf n)) (operation (rowsOf new n) r) (cameTo old new n v r)
-    stepped wo wn =
-        let (i, k) = row-of (new .table) (n % 64) r a in
-        let fits = subst Operands (sym (row-same (new .table) (n % 64) k .operation-same)) (operands new G (wn .small) i (k .inside)) in
-        subst (λ (u : ℕ). Lines5to18 old (oldOf n) u (operation (rowsOf new n) r) (moved old (record { place = oldOf n; set = v }) (operation (rowsOf new n) r))) (sym own)
-        (step-lines old F wo (oldOf n) v (operation (rowsOf new n) r) (omega arith) w fits)
+    module _ (wo : Words (old .table)) (wn : Words (new .table)) where
+      fits : Operands (operation (rowsOf new n) r)
+      fits =
+          let (i, k) = row-of (new .table) (n % 64) r a in
+          subst Operands (sym (row-same (new .table) (n % 64) k .operation-same)) (operands new G (wn .small) i (k .inside))
+
+      -- lines 5 to 18 can come to what the step comes to
+      pub stepped : Lines5to18 old (oldOf n) (s .Vδ (pairOf n)) (operation (rowsOf new n) r) (cameTo old new n v r)
+      stepped =
+          subst (λ (u : ℕ). Lines5to18 old (oldOf n) u (operation (rowsOf new n) r) (cameTo old new n v r)) (sym own)
+          (step-lines old F wo (oldOf n) v (operation (rowsOf new n) r) (omega arith) w fits)
+
+      -- and to nothing else: whatever they come to, the row is read
+      pub any-read : (o : Option Spot) → Lines5to18 old (oldOf n) (s .Vδ (pairOf n)) (operation (rowsOf new n) r) o
+          → Row old new n v (called old new s (pairOf n) r o) (rowDone old new g n v r)
+      any-read o L =
+          subst (λ (x : Option Spot). Row old new n v (called old new s (pairOf n) r x) (rowDone old new g n v r))
+          (sym
+          (one-outcome old F wo (oldOf n) v (omega arith) w (operation (rowsOf new n) r) fits
+          (subst (λ (u : ℕ). Lines5to18 old (oldOf n) u (operation (rowsOf new n) r) o) own L))) row-read

@@ -1,12 +1,12 @@
--- Algorithm 1's search: it finds the least set that has n_0 and Δ and every node from which one of its nodes is reached by an edge; and on a
--- graph whose edges are a record's targets it can be run to its end. Assumes nothing.
+-- Algorithm 1's search: it finds the least set that has n_0 and Δ and every node from which one of its nodes is reached
+-- by an edge; and on a graph whose edges are a record's targets it can be run to its end. Assumes nothing.
 use mathlib.Core.Path.{_≡_, refl, sym, ap, subst}
 use mathlib.Core.Bool.{Bool, true, false, _&&_, _||_, not}
 use mathlib.Core.Logic.{inl, inr, ⊎-elim, _↔_, _≢_}
 use mathlib.Core.Option.{Option, some}
 use Prim.Native.Nat.{ℕ, zero, suc, _+_, _≤_, _<_}
 use native.Mathlib.Omega.{arith}
-use borrow.Author.Tests.{eq-eqb, eqb-true, lt-ltb, le-ltb, ltb-true, not-true}
+use borrow.Author.Tests.{eq-eqb, eqb-true, lt-ltb, le-ltb, ltb-true, ltb-false, not-true}
 use lib.Dec.{eqb, ltb}
 use Rattle.base.specs.Options.{when, firstOf}
 use Rattle.base.specs.Repeat.{repeated}
@@ -21,7 +21,7 @@ use Rattle.paper.specs.Nodes.{SetOf, _isIn_, _isNotIn_, _plus_, _minus_,
 use Rattle.paper.specs.Algorithm2.{DifferenceGraph}
 use Rattle.paper.specs.Algorithm1.{Precedes, Turn, Search, line1, lines3to5}
 use Rattle.paper.specs.Returned.{Targeted}
-use Rattle.paper.proofs.Members.{in-either, in-first, in-second, not-in, in-or-not, only-node, the-node, pair-is, number-below}
+use Rattle.paper.proofs.Members.{in-either, in-first, in-second, not-in, in-or-not, only-node, the-node, pair-is, number-is, number-below, numbered}
 
 -- ---- what any search finds
 module _ (G : DifferenceGraph) where
@@ -67,6 +67,16 @@ node-is (indicator q) b = rw (le-ltb (4096 + q .0) 4096 (omega arith), nodeOf) (
 pub node-below : (x : Node) → NodeNumbered x → nodeNumber x < 4160
 node-below (aligned n) B = omega (arith, number-below n B)
 node-below (indicator q) b = omega arith
+
+-- every number below 4160 is one of them
+pub nodeOf-numbered : (k : ℕ) → k < 4160 → NodeNumbered (nodeOf k) × (nodeNumber (nodeOf k) ≡ k)
+unfolding nodeOf
+nodeOf-numbered k l = go (ltb k 4096) refl
+  where
+    go : (b : Bool) → ltb k 4096 ≡ b
+        → let x : Node = elim b as (λ _. Node) [ true ↦ aligned (pairOf k) | false ↦ indicator (newOf k) ] in NodeNumbered x × (nodeNumber x ≡ k)
+    go true e = (numbered k (ltb-true k 4096 e), number-is k)
+    go false e = let z = ltb-false k 4096 e in (omega arith, omega arith)
 
 small : SetOf Pair
 small n = ltb (n .old .0) 64 && ltb (n .new .0) 64

@@ -1,5 +1,5 @@
--- The successor that lines 5 to 18 find does not depend on the set: only whether the step fails does, so that a pair and an edge of the new
--- chart have one successor. Assumes nothing.
+-- The successor that lines 5 to 18 find does not depend on the set: only whether the step fails does, so that a pair
+-- and an edge of the new chart have one successor. Assumes nothing.
 use mathlib.Core.Path.{_≡_, refl, sym, _∙_}
 use mathlib.Core.Bool.{Bool, true, false, _||_, not}
 use mathlib.Core.Option.{Option, none, some}

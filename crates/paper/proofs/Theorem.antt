@@ -1,13 +1,15 @@
--- Demand 2 in the source's words: what a build leaves is what Algorithms 2 and 1 return. For any two faultless charts Algorithm 2, popping
--- the lowest waiting pair each time, has a run that ends; the record of the build is the graph that its lines 19 to 21 return, and its
--- marks are the condition that Algorithm 1 makes of that graph. What each of these words means is `Returned`, in specs/Returned.antt. That the
--- code leaves this record is the contract of `builder::build`. Assumes nothing.
+-- Demand 2 in the source's words: what a build leaves is what Algorithms 2 and 1 return. For any two faultless charts
+-- Algorithm 2, popping the lowest waiting pair each time, has a run that ends; the record of the build is the graph
+-- that its lines 19 to 21 return, and its marks are the condition that Algorithm 1 makes of that graph. What each of
+-- these words means is `Returned`, in specs/Returned.antt. That the code leaves this record is the contract of
+-- `builder::build`. Assumes nothing.
 use mathlib.Core.Path.{_≡_, refl, sym, ap, subst, _∙_}
 use mathlib.Core.Bool.{Bool, true, false, _&&_, _||_, not}
 use mathlib.Core.Logic.{⊎-elim}
 use Prim.Native.Nat.{ℕ}
 use native.Mathlib.Omega.{arith}
 use lib.Dec.{eqb}
+use lib.ListN.{length-map}
 use Rattle.chart.specs.Charts.{Chart}
 use Rattle.chart.specs.Faultless.{FaultlessChart}
 use Rattle.checker.specs.Records.{Record, recordOf}
@@ -16,46 +18,49 @@ use Rattle.checker.specs.Promise.{Words}
 use Rattle.graph.specs.Graphs.{Graph, graph, firstPair, firstKept, marked}
 use Rattle.detector.specs.Turns.{explored}
 use Rattle.marker.specs.Marks.{finalMarks}
-use Rattle.condition.specs.Builds.{finalTargets, alone, finished, built, startOf, recorded}
+use Rattle.condition.specs.Builds.{redirected, finalTargets, alone, finished, built, startOf, recorded}
 use Rattle.condition.specs.Builds as builds
 use Rattle.graph.proofs.Graphs.{marked-no}
 use Rattle.detector.proofs.Measure.{nothing-waits}
+use Rattle.detector.proofs.Invariant.{explored-inv}
+use Rattle.condition.proofs.Demand3.{final}
 use Rattle.paper.specs.Nodes.{SetOf, _isNotIn_, Pair, Node, edge, number, NodeNumbered}
-use Rattle.paper.specs.Algorithm2.{DifferenceGraph, Ended, line19, lone, whole, returned}
+use Rattle.paper.specs.Algorithm2.{State, DifferenceGraph, Ended, line19, lone, whole, returned}
 use Rattle.paper.specs.Algorithm1.{Search}
-use Rattle.paper.specs.Returned.{IsGraph, IsCondition, Returned}
+use Rattle.paper.specs.Returned.{IsGraph, IsCondition, Returned, Lengths}
 use Rattle.paper.proofs.Members.{in-or-not, pair-is, number-below, numbered}
 use Rattle.paper.proofs.Searching.{Found, search-ends, nodeOf, node-is}
-use Rattle.paper.proofs.Returning.{ran, last, whole-graph}
+use Rattle.paper.proofs.Rows.{Reads}
+use Rattle.paper.proofs.Rounds.{explored-ran}
+use Rattle.paper.proofs.Returning.{whole-graph}
 use Rattle.paper.proofs.Conditions.{whole-condition}
 use Rattle.paper.proofs.Alone.{lone-graph, lone-condition}
 
 -- the graph that is returned, and one run of Algorithm 1 on it
-record Ends (R : Record) (G : DifferenceGraph) (Vδ : Pair → ℕ) : Type 0 where
-  graph : IsGraph R G Vδ
-  found : Found G
-  condition : {Q W : SetOf Node} → Search G Q W → ((n : Node) → n isNotIn W) → IsCondition R G Q
+pub record Ends (R : Record) (G : DifferenceGraph) (Vδ : Pair → ℕ) : Type 0 where
+  pub lengths : Lengths R
+  pub graph : IsGraph R G Vδ
+  pub found : Found G
+  pub condition : {Q W : SetOf Node} → Search G Q W → ((n : Node) → n isNotIn W) → IsCondition R G Q
 
 searched : {R : Record} {G : DifferenceGraph} {Vδ : Pair → ℕ} → IsGraph R G Vδ → NodeNumbered (G .n₀) → Found G
 searched {R} {G} g a = search-ends R G (g .edges) a (λ x e. g .kept x .0 e .0)
 
-module _ (old new : Chart) (F : FaultlessChart old) (H : FaultlessChart new) (wo : Words (old .table)) (wn : Words (new .table)) where
+module _ (old new : Chart) (F : FaultlessChart old) (H : FaultlessChart new) (wn : Words (new .table)) (s : State) (reads : Reads old new s (explored old new)) where
   -- nothing waits
-  ended : Ended (last old new F H wo wn)
+  ended : Ended s
   ended n =
       ⊎-elim
-      (λ e. let B = ran old new F H wo wn .reads .sets .waits-numbered n e in
+      (λ e. let B = reads .sets .waits-numbered n e in
       let l = number-below n B in
-      sym (ap (last old new F H wo wn .waitlist) (pair-is n B))
-      ∙ ran old new F H wo wn .reads .sets .waits (number n) l
-      ∙ marked-no (explored old new .waiting) (number n) (nothing-waits old new F H (number n) l))
-      (λ e. e) (in-or-not (last old new F H wo wn .waitlist n))
+      sym (ap (s .waitlist) (pair-is n B)) ∙ reads .sets .waits (number n) l ∙ marked-no (explored old new .waiting) (number n) (nothing-waits old new F H (number n) l))
+      (λ e. e) (in-or-not (s .waitlist n))
 
   -- line 19
-  line19-is : line19 old new (last old new F H wo wn) ≡ alone (headOf old) (headOf new) (explored old new .marks)
+  line19-is : line19 old new s ≡ alone (headOf old) (headOf new) (explored old new .marks)
   unfolding line19 alone
   line19-is =
-      rw (ran old new F H wo wn .reads .sets .Δ (record { 0 = 0 }) (omega arith))
+      rw (reads .sets .Δ (record { 0 = 0 }) (omega arith))
       (go (marked (explored old new .marks) (firstKept new)) (eqb 0 (new .alarm)) (eqb 0 (old .alarm)))
     where
       go : (k a b : Bool) → k || (a && not b) ≡ k || not (not a || b)
@@ -78,40 +83,51 @@ module _ (old new : Chart) (F : FaultlessChart old) (H : FaultlessChart new) (wo
   ends : (b : Bool) → alone (headOf old) (headOf new) (explored old new .marks) ≡ b
       → Ends
       (recordOf (elim b [ true ↦ firstKept new | false ↦ firstPair old new ]) (left b .marks) (left b .targets) (left b .sets))
-      (elim b as (λ _. DifferenceGraph) [ true ↦ lone old new | false ↦ whole old new (last old new F H wo wn) ])
-      (last old new F H wo wn .Vδ)
-  unfolding left builds.lone
+      (elim b as (λ _. DifferenceGraph) [ true ↦ lone old new | false ↦ whole old new s ]) (s .Vδ)
+  unfolding left builds.lone finalTargets
   ends true e =
-      let g = lone-graph old new (last old new F H wo wn .Vδ) in
-      record { graph = g; found = searched g (omega arith); condition = λ f e. lone-condition old new f }
+      let g = lone-graph old new (s .Vδ) in
+      record { lengths = record { marks = refl; targets = refl; sets = refl }; graph = g; found = searched g (omega arith); condition = λ f e. lone-condition old new f }
   ends false e =
-      let g = whole-graph old new F H wo wn e in
-      record { graph = g; found = searched g (numbered 0 (omega arith)); condition = λ f z. whole-condition old new F H wo wn e f z }
-
-  returns : Returned old new (recorded old new)
-  unfolding recorded built finished startOf returned left
-  returns =
-      let E =
-      subst
-      (λ (b : Bool). Ends (recorded old new) (elim b as (λ _. DifferenceGraph) [ true ↦ lone old new | false ↦ whole old new (last old new F H wo wn) ])
-      (last old new F H wo wn .Vδ))
-      (sym line19-is) (ends (alone (headOf old) (headOf new) (explored old new .marks)) refl) in
+      let g = whole-graph old new F H wn s reads e in
+      let S = explored-inv old new F H .shaped .sized in
       record {
-        state = last old new F H wo wn;
-        ran = ran old new F H wo wn .run;
-        ended = ended;
-        graph = E .graph;
-        Q = E .found .Q;
-        waitlist = E .found .W;
-        searched = E .found .search;
-        emptied = E .found .emptied;
-        condition = E .condition;
+        lengths =
+            record {
+              marks = final old new F H e .ranks .long;
+              targets = length-map (explored old new .targets) (redirected (explored old new .marks)) ∙ S .targets;
+              sets = S .sets;
+            };
+        graph = g;
+        found = searched g (numbered 0 (omega arith));
+        condition = λ f z. whole-condition old new F H wn s reads e f z;
       }
+
+  -- whichever state reads what the build explores: the build's record is the graph that is returned there, with its
+  -- condition
+  pub read-ends : Ends (recorded old new) (returned old new s) (s .Vδ)
+  unfolding recorded built finished startOf returned left
+  read-ends =
+      subst (λ (b : Bool). Ends (recorded old new) (elim b as (λ _. DifferenceGraph) [ true ↦ lone old new | false ↦ whole old new s ]) (s .Vδ))
+      (sym line19-is) (ends (alone (headOf old) (headOf new) (explored old new .marks)) refl)
 
 -- every build is one run of the source's algorithms
 pub demand-2 : (old new : Chart) → FaultlessChart old → FaultlessChart new → Words (old .table) → Words (new .table)
     → Returned old new (recorded old new)
-demand-2 = returns
+demand-2 old new F H wo wn =
+    let A = explored-ran old new F H wo wn in
+    let E = read-ends old new F H wn (A .state) (A .reads) in
+    record {
+      state = A .state;
+      ran = A .run;
+      ended = ended old new F H wn (A .state) (A .reads);
+      graph = E .graph;
+      Q = E .found .Q;
+      waitlist = E .found .W;
+      searched = E .found .search;
+      emptied = E .found .emptied;
+      condition = E .condition;
+    }
 
 -- a pair and a row have one edge
 pub one-edge : {R : Record} {G : DifferenceGraph} {Vδ : Pair → ℕ} → IsGraph R G Vδ → (n : Pair) (r : ℕ) (x y : Node) → G .E (edge n r x) → G .E (edge n r y) → x ≡ y

@@ -1,7 +1,7 @@
--- The source's Algorithm 2, the difference detector, line by line. P is the old chart, P' the new one; ℓ_err and ℓ'_err are their alarms.
--- Two parameters: the source leaves open which waiting pair line 3 pops, and document 01 takes the lowest (`Lowest`); lines 5 to 18 are
--- transcribed by themselves in Lines5to18.antt. Lines are counted as the listing counts them; the source's prose counts those of PROCESS one
--- lower.
+-- The source's Algorithm 2, the difference detector, line by line. P is the old chart, P' the new one; ℓ_err and ℓ'_err
+-- are their alarms. It has two parameters: the waiting pairs that line 3 may pop, which the source leaves open
+-- (document 01's choice is `Lowest`), and lines 5 to 18, which are transcribed by themselves in Lines5to18.antt. Lines
+-- are counted as the listing counts them; the source's prose counts those of PROCESS one lower.
 use mathlib.Core.Bool.{Bool, true, false, _&&_, _||_, not}
 use mathlib.Core.Logic.{_⊎_}
 use mathlib.Core.List.{List}
@@ -16,7 +16,8 @@ use Rattle.align.specs.declared.spots.Spot.{Spot}
 use Rattle.align.specs.Sets.{joined, holdsAll}
 use Rattle.paper.specs.Nodes.{SetOf, _isIn_, _isNotIn_, emptySet, _plus_, _minus_, Pair, pair, Node, aligned, indicator, Edge, edge, onlyPlace, onlyPair, onlyEdge, onlyNode, withPlace, number}
 
--- the variables of line 1. V_δ gives each pair a set of variables, as a number whose bit i tells of vi (align/specs/Sets.antt)
+-- the variables of line 1. V_δ gives each pair a set of variables, as a number whose bit i tells of vi
+-- (align/specs/Sets.antt)
 pub record State : Type 0 where
   pub waitlist : SetOf Pair
   pub Nₗ : SetOf Pair
@@ -24,8 +25,8 @@ pub record State : Type 0 where
   pub Δ : SetOf NewPlace
   pub Vδ : Pair → ℕ
 
--- lines 5 to 18, a parameter: from ℓ_1, V_δ of the pair and the operation op' of the edge to what PROCESS is called with, `none` for ℓ'_2 or
--- ℓ of the pair (ℓ, ℓ'_2) with V_diff
+-- lines 5 to 18, a parameter: from ℓ_1, V_δ of the pair and the operation op' of the edge to what PROCESS is called
+-- with, `none` for ℓ'_2 or ℓ of the pair (ℓ, ℓ'_2) with V_diff
 abbrev pub Step : Type 1
 Step = OldPlace → ℕ → Operation → Option Spot → Type 0
 
@@ -71,11 +72,19 @@ module _ (old new : Chart) where
 
   -- line 1. Document 01: "Waiting: node 0, set empty, in the graph, even where place 0 is the old alarm."
   unfoldable pub begun : State
-  begun = record { waitlist = onlyPair (pair ℓ₀ ℓ₀′); Nₗ = onlyPair (pair ℓ₀ ℓ₀′); Eₗ = emptySet; Δ = emptySet; Vδ = λ n. 0 }
+  begun =
+      record {
+        waitlist = onlyPair (pair ℓ₀ ℓ₀′);
+        Nₗ = onlyPair (pair ℓ₀ ℓ₀′);
+        Eₗ = emptySet;
+        Δ = emptySet;
+        Vδ = λ n. 0;
+      }
 
   -- the test of line 29: succ is not in L × Δ, not in {ℓ_err} × L', and not in N_l or V_diff is not within V_δ(succ)
   unfoldable pub line29 : State → Pair → ℕ → Bool
-  line29 s succ v = not (s .Δ (succ .new)) && (not (isErr (succ .old)) && (not (s .Nₗ succ) || not (holdsAll (s .Vδ succ) v)))
+  line29 s succ v =
+      not (s .Δ (succ .new)) && (not (isErr (succ .old)) && (not (s .Nₗ succ) || not (holdsAll (s .Vδ succ) v)))
 
   -- lines 29 to 33
   unfoldable pub toPair : State → Pair → ℕ → Pair → ℕ → State
@@ -97,7 +106,8 @@ module _ (old new : Chart) where
 
   unfoldable pub process : State → Pair → ℕ → Node → ℕ → State
   process s pred g (indicator succ) v = toPlace s pred g succ
-  process s pred g (aligned succ) v = elim (line27 succ) [ true ↦ toPlace s pred g (succ .new) | false ↦ toPair s pred g succ v ]
+  process s pred g (aligned succ) v =
+      elim (line27 succ) [ true ↦ toPlace s pred g (succ .new) | false ↦ toPair s pred g succ v ]
 
   -- ---- lines 1 to 18
   -- the edges that leave ℓ'_1, and ℓ'_2 of edge r
@@ -113,11 +123,13 @@ module _ (old new : Chart) where
   called s n r (some h) = process s n r (aligned (pair (h .place) (ℓ₂′ (n .new) r))) (h .set)
 
   module _ (lines5to18 : Step) where
-    -- line 4: the first k edges of the pair n one after another, "its rows in table order, reading its set afresh for each". V_δ keeps the
-    -- set of a pair that left N_l: "Rows of the pair in hand are finished, under the set it had, even if it left the graph."
+    -- line 4: the first k edges of the pair n one after another, "its rows in table order, reading its set afresh for
+    -- each". V_δ keeps the set of a pair that left N_l: "Rows of the pair in hand are finished, under the set it had,
+    -- even if it left the graph."
     pub data ForEach (s : State) (n : Pair) : ℕ → State → Type 0 where
       none-yet : ForEach s n 0 s
-      one-more : {k : ℕ} {t : State} (o : Option Spot) → ForEach s n k t → lines5to18 (n .old) (t .Vδ n) (operation (edges (n .new)) k) o
+      one-more : {k : ℕ} {t : State} (o : Option Spot) → ForEach s n k t
+          → lines5to18 (n .old) (t .Vδ n) (operation (edges (n .new)) k) o
           → ForEach s n (suc k) (called t n k o)
 
     -- the states that the loop of line 2 can come to, where line 3 pops waiting pairs of this choice
@@ -163,9 +175,16 @@ module _ (old new : Chart) where
   unfoldable pub line19 : State → Bool
   line19 s = s .Δ (ℓ₀′ old new) || (isErr′ old new (ℓ₀′ old new) && not (isErr old new (ℓ₀ old new)))
 
-  -- line 19. Document 01: "If place 0 is kept, or is the new alarm without being the old one, the graph is node 4,096 alone, kept"
+  -- line 19. Document 01: "If place 0 is kept, or is the new alarm without being the old one, the graph is node 4,096
+  -- alone, kept"
   abbrev pub lone : DifferenceGraph
-  lone = record { N = onlyNode (indicator (ℓ₀′ old new)); E = λ e. ⊥; n₀ = indicator (ℓ₀′ old new); Δ = onlyNode (indicator (ℓ₀′ old new)) }
+  lone =
+      record {
+        N = onlyNode (indicator (ℓ₀′ old new));
+        E = λ e. ⊥;
+        n₀ = indicator (ℓ₀′ old new);
+        Δ = onlyNode (indicator (ℓ₀′ old new));
+      }
 
   -- line 21
   abbrev pub whole : State → DifferenceGraph

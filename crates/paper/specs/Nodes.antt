@@ -1,4 +1,5 @@
--- The source's own data: sets, the nodes and edges of a difference graph; and the numbers that document 01 gives to its nodes.
+-- The source's own data: sets, the nodes and edges of a difference graph; and the numbers that document 01 gives to its
+-- nodes.
 use mathlib.Core.Path.{_≡_}
 use mathlib.Core.Bool.{Bool, true, false, _&&_, _||_, not}
 use Prim.Native.Nat.{ℕ, _<_}
@@ -45,7 +46,8 @@ pub data Node : Type 0 where
   aligned : Pair → Node
   indicator : NewPlace → Node
 
--- (n, g', n'): the edge g' of the new chart is told by its number among the rows that leave n's new place, in table order
+-- (n, g', n'): the edge g' of the new chart is told by its number among the rows that leave n's new place, in table
+-- order
 pub record Edge : Type 0 where
   pub pred : Pair
   pub row : ℕ

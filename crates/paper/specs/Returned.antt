@@ -1,8 +1,10 @@
--- A record is what Algorithms 2 and 1 return: document 01's marks, targets and sets in the source's words. That every build leaves such a
--- record is the theorem in proofs/Theorem.antt.
+-- A record is what Algorithms 2 and 1 return: document 01's marks, targets and sets in the source's words. That every
+-- build leaves such a record is the theorem in proofs/Theorem.antt, and that there is no other one of the stated
+-- lengths that in proofs/Determined.antt.
 use mathlib.Core.Path.{_≡_}
 use mathlib.Core.Logic.{_⊎_, _≢_, _↔_}
-use Prim.Native.Nat.{ℕ, _<_}
+use Prim.Native.Nat.{ℕ, _≤_, _<_}
+use lib.ListN.{length}
 use Rattle.chart.specs.Charts.{Chart}
 use Rattle.checker.specs.Records.{Record, mark, setAt, target}
 use Rattle.paper.specs.Nodes.{SetOf, _isIn_, _isNotIn_, Pair, Node, aligned, Edge, edge, number, nodeNumber, pairOf, Numbered, NodeNumbered}
@@ -15,12 +17,17 @@ module _ (R : Record) where
   abbrev pub Marked : (ℕ → Type 0) → Node → Type 0
   Marked P x = NodeNumbered x × P (mark (R .graph) (nodeNumber x))
 
-  -- an edge as the record has it: "targets ([..] at 2 × pair + 0 or 1 for a place's first and second row)". 65535 is no node's number
+  -- an edge as the record has it: "targets ([..] at 2 × pair + 0 or 1 for a place's first and second row)". 65535 is no
+  -- node's number
   pub record Targeted (e : Edge) : Type 0 where
     pub pred : Numbered (e .pred)
     pub two : e .row < 2
     pub succ : NodeNumbered (e .succ)
     pub is : target (R .graph) (number (e .pred)) (e .row) ≡ nodeNumber (e .succ)
+
+  -- row r of pair i has an edge to the node that is its target
+  abbrev pub Aimed : DifferenceGraph → ℕ → ℕ → Type 0
+  Aimed G i r = (x : Node) × (nodeNumber x ≡ target (R .graph) i r) × G .E (edge (pairOf i) r x)
 
   -- the difference graph G, with the sets V_δ
   pub record IsGraph (G : DifferenceGraph) (Vδ : Pair → ℕ) : Type 0 where
@@ -28,22 +35,26 @@ module _ (R : Record) where
     pub nodes : (x : Node) → (x isIn G .N) ↔ Marked (λ m. m ≢ 0) x
     pub kept : (x : Node) → (x isIn G .Δ) ↔ Marked (λ m. m ≡ 2) x
     pub edges : (e : Edge) → G .E e ↔ Targeted e
+    -- "unused targets are 65535": every other one is that of an edge
+    pub aims : (i r : ℕ) → i < 4096 → r < 2 → (target (R .graph) i r ≡ 65535) ⊎ Aimed G i r
     -- V_δ on N_l, and 0 elsewhere
     pub sets : (n : Pair) → aligned n isIn G .N → setAt (R .graph) (number n) ≡ Vδ n
     pub bare : (n : Pair) → Numbered n → aligned n isNotIn G .N → setAt (R .graph) (number n) ≡ 0
 
   -- the condition that lines 6 and 7 make of it with Q
   pub record IsCondition (G : DifferenceGraph) (Q : SetOf Node) : Type 0 where
-    -- marks 1 and 2 are Q, mark 3 is F
+    -- marks 1 and 2 are Q, mark 3 is F; and no mark is above 4, so that 4 is the rest of N
+    pub highest : (k : ℕ) → k < 4160 → mark (R .graph) k ≤ 4
     pub open-or-kept : (x : Node) → (x isIn Q) ↔ Marked (λ m. (m ≡ 1) ⊎ (m ≡ 2)) x
     pub covered : (x : Node) → F G Q x ↔ Marked (λ m. m ≡ 3) x
-    -- "The condition's transitions are the targets of open pairs": those of line 7; and each target of an open pair is one, 65535 excepted
+    -- "The condition's transitions are the targets of open pairs": those of line 7; and each target of an open pair is
+    -- one, 65535 excepted
     pub transitions : (e : Edge) → Transition G Q e ↔ (Targeted e × (mark (R .graph) (number (e .pred)) ≡ 1))
     pub each : (i r : ℕ) → i < 4096 → r < 2 → mark (R .graph) i ≡ 1 → target (R .graph) i r ≢ 65535
         → (x : Node) × (nodeNumber x ≡ target (R .graph) i r) × Transition G Q (edge (pairOf i) r x)
 
--- the run of Algorithm 2 that always pops the lowest waiting pair, to its end, and the graph that it returns; and of Algorithm 1 on that graph
--- some search that ends, while every one that ends finds the same condition
+-- the run of Algorithm 2 that always pops the lowest waiting pair, to its end, and the graph that it returns; and of
+-- Algorithm 1 on that graph some search that ends, while every one that ends finds the same condition
 pub record Returned (old new : Chart) (R : Record) : Type 0 where
   pub state : State
   pub ran : Run old new (Lines5to18 old) Lowest state
@@ -53,4 +64,11 @@ pub record Returned (old new : Chart) (R : Record) : Type 0 where
   pub waitlist : SetOf Node
   pub searched : Search (returned old new state) Q waitlist
   pub emptied : (n : Node) → n isNotIn waitlist
-  pub condition : {Q W : SetOf Node} → Search (returned old new state) Q W → ((n : Node) → n isNotIn W) → IsCondition R (returned old new state) Q
+  pub condition : {Q W : SetOf Node} → Search (returned old new state) Q W → ((n : Node) → n isNotIn W)
+      → IsCondition R (returned old new state) Q
+
+-- "Lent: marks (4,160 bytes), targets (8,192 u16 [..]), sets (4,096 u64 [..])"
+pub record Lengths (R : Record) : Type 0 where
+  pub marks : length (R .graph .marks) ≡ 4160
+  pub targets : length (R .graph .targets) ≡ 8192
+  pub sets : length (R .graph .sets) ≡ 4096
