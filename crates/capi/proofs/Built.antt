@@ -13,7 +13,8 @@ use lib.ListN.{length}
 use Rattle.base.specs.Answers.{Answer, given, refused}
 use Rattle.base.specs.Chains.{mapped}
 use Rattle.base.specs.Options.{orElse}
-use Rattle.base.specs.Refusals.{Refusal, refusedIf}
+use Rattle.base.specs.declared.Refusal.{Refusal}
+use Rattle.base.specs.Refusals.{sole, due, unless}
 use Rattle.base.specs.Says.{bool}
 use Rattle.base.specs.Walks.{count}
 use Rattle.base.proofs.OnSome.{OnSome, or-on}
@@ -30,15 +31,14 @@ use Rattle.checker.proofs.Passed.{passed}
 use Rattle.condition.specs.declared.Summary.{Summary}
 use Rattle.builder.specs.declared.answers.Built.{Built}
 use Rattle.builder.specs.declared.answers.Built.the-variants as builts
-use Rattle.builder.specs.declared.answers.Verdict.the-variants as verdicts
-use Rattle.graph.specs.Graphs.{graph}
+use Rattle.graph.specs.Graphs.{Graph}
 use Rattle.condition.specs.Builds.{recorded, summary}
 use Rattle.condition.proofs.Demand3.{record-passes}
 use Rattle.paper.specs.Returned.{Returned}
 use Rattle.builder.specs.Answers.{told, lent, refusal, answered}
 use Rattle.builder.proofs.Answering.{accepted}
-use Rattle.capi.specs.Numbers.{number, ofBuild}
-use Rattle.capi.proofs.Refusals.{Small, due-small, in-chart-small}
+use Rattle.capi.specs.Numbers.{number, Fits, ofBuild}
+use Rattle.capi.proofs.Refusals.{Small, small-fits, due-small, in-chart-small}
 
 count-most : (v : ℕ) (l : List ℕ) → count v l ≤ length l
 unfolding count
@@ -55,7 +55,7 @@ module _ (old new : Chart) (R : Record) (e : checkRefusal old new R ≡ none) wh
   unfolding checkRefusal sized
   marks-long =
       let t = sized (old .table) (new .table) (R .graph) in
-      let a = both-missing (refusedIf (not (bool t)) 21 0 0) (orElse (inChart 0 (fault old)) (orElse (inChart 1 (fault new)) (recordFault old new R))) e in
+      let a = both-missing (due (not (bool t)) 21 0) (orElse (inChart 0 (fault old)) (orElse (inChart 1 (fault new)) (recordFault old new R))) e in
       says t (T-true (not-false (bool t) (not-due (not (bool t)) _ (a .0)))) .0
 
   start-near : R .start ≤ 4096
@@ -71,7 +71,7 @@ pub record Few (s : Summary) : Type 0 where
 
 abbrev SmallBuild : Answer Summary → Type 0
 SmallBuild (given s) = Few s
-SmallBuild (refused n c p) = Small (record { number = n; chart = c; position = p })
+SmallBuild (refused r) = Small r
 
 recorded-few : (old new : Chart) → checkRefusal old new (recorded old new) ≡ none → Few (summary (recorded old new .start) (recorded old new .graph .marks))
 unfolding summary
@@ -85,40 +85,36 @@ recorded-few old new e =
       covered = omega (arith, count-most 3 m);
     }
 
-module _ (old new : Chart) (m t s w : List ℕ) where
-  due-is-small : OnSome Small (refusal old new (graph m t s w))
+module _ (old new : Chart) (g : Graph) where
+  due-is-small : OnSome Small (refusal old new g)
   unfolding refusal
   due-is-small =
-      let lengths = not (bool (lent (old .table) (new .table) (graph m t s w))) in
-      or-on Small (refusedIf lengths 21 0 0) (orElse (inChart 0 (fault old)) (inChart 1 (fault new))) (due-small lengths 21 0 (omega arith) (omega arith) (omega arith))
+      let lengths = not (bool (lent (old .table) (new .table) g)) in
+      or-on Small (due lengths 21 0) (orElse (inChart 0 (fault old)) (inChart 1 (fault new))) (due-small lengths 21 0 (omega arith) (omega arith) (omega arith))
       (λ _. or-on Small (inChart 0 (fault old)) (inChart 1 (fault new)) (in-chart-small 0 (omega arith) (fault old) (fault-slight old))
       (λ _. in-chart-small 1 (omega arith) (fault new) (fault-slight new)))
 
   -- Whatever a build answers is small.
-  build-small : SmallBuild (answered old new (graph m t s w))
+  build-small : SmallBuild (answered old new g)
   unfolding answered
-  build-small = go (refusal old new (graph m t s w)) refl
+  build-small = go (refusal old new g) refl
     where
-      go : (o : Option Refusal) → o ≡ refusal old new (graph m t s w)
-          → SmallBuild
-          (elim o as (λ _. Answer Summary) [
-            | none ↦ given (summary (recorded old new .start) (recorded old new .graph .marks))
-            | some r ↦ refused (r .number) (r .chart) (r .position)
-          ])
+      go : (o : Option Refusal) → o ≡ refusal old new g
+          → SmallBuild (unless o (summary (recorded old new .start) (recorded old new .graph .marks)))
       go none e =
-          let A = accepted old new m t s w verdicts.Sound e refl in
-          recorded-few old new (record-passes old new (A .old-faultless) (A .new-faultless) (A .old-sound) (A .new-sound))
+          let A = accepted old new g (sym e) in
+          recorded-few old new (record-passes old new (A .old-faultless) (A .new-faultless))
       go (some r) e = subst (OnSome Small) (sym e) due-is-small
 
-  module _ {b : Built} (is : told b ≡ answered old new (graph m t s w)) where
+  module _ {b : Built} (is : told b ≡ answered old new g) where
     module _ {s′ : Summary} (done : b ≡ builts.Done s′) where
-      given-is : given s′ ≡ answered old new (graph m t s w)
+      given-is : given s′ ≡ answered old new g
       given-is = ap told (sym done) ∙ is
 
       pub done-few : Few s′
       done-few = subst SmallBuild (sym given-is) build-small
 
-      pub done-number : {x : ℕ} → x ≡ number (given (ofBuild s′)) → x ≡ number (mapped ofBuild (answered old new (graph m t s w)))
+      pub done-number : {x : ℕ} → x ≡ number (given (ofBuild s′)) → x ≡ number (mapped ofBuild (answered old new g))
       done-number e = e ∙ ap (λ (a : Answer Summary). number (mapped ofBuild a)) given-is
 
       -- the start is the answer's first number
@@ -134,16 +130,19 @@ module _ (old new : Chart) (m t s w : List ℕ) where
             → Returned old new (recordOf (x % 2 ^ 14) m′ t′ s″)
         done-returned returned l = subst (λ (k : ℕ). Returned old new (recordOf k m′ t′ s″)) (done-start e) (returned s′ done)
 
-    module _ {n c p : ℕ} (stopped : b ≡ builts.Refused n c p) where
-      refused-is : refused n c p ≡ answered old new (graph m t s w)
+    module _ {r : Refusal} (stopped : b ≡ builts.Refused r) where
+      refused-is : refused r ≡ answered old new g
       refused-is = ap told (sym stopped) ∙ is
 
-      pub stopped-small : Small (record { number = n; chart = c; position = p })
+      stopped-small : Small r
       stopped-small = subst SmallBuild (sym refused-is) build-small
 
-      pub stopped-number : {x : ℕ} → x ≡ number (refused n c p) → x ≡ number (mapped ofBuild (answered old new (graph m t s w)))
+      pub stopped-fits : Fits r
+      stopped-fits = small-fits stopped-small
+
+      pub stopped-number : {x : ℕ} → x ≡ number (refused r) → x ≡ number (mapped ofBuild (answered old new g))
       stopped-number e = e ∙ ap (λ (a : Answer Summary). number (mapped ofBuild a)) refused-is
 
       -- a refusal is 2^56 or more
-      pub stopped-none : {A : Type 0} {x : ℕ} → x ≡ number (refused n c p) → x < 2 ^ 56 → A
+      pub stopped-none : {A : Type 0} {x : ℕ} → x ≡ number (refused r) → x < 2 ^ 56 → A
       stopped-none {A} {x} e l = absurd (omega (arith, stopped-small .some-number))

@@ -158,10 +158,6 @@ pub extern "C" fn picker_build<'a>(
                 + s.kept as u64 * 268435456
                 + s.covered as u64 * 4398046511104
         }
-        Built::Refused {
-            number,
-            chart,
-            position,
-        } => number as u64 * 72057594037927936 + chart as u64 * 281474976710656 + position as u64,
+        Built::Refused(r) => packed(r),
     }
 }
