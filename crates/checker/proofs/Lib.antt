@@ -6,3 +6,4 @@ pub mod Shapes
 pub mod Targets
 pub mod Absent
 pub mod Answers
+pub mod Instance

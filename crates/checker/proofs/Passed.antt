@@ -64,7 +64,7 @@ module _ (old new : Chart) (R : Record) (e : refusal old new R ≡ none) where
       let a = both-missing (due (not (bool (sized (old .table) (new .table) (R .graph)))) 21 0) _ e in
       let b = both-missing (inChart 0 (fault old)) _ (a .1) in
       let c = both-missing (inChart 1 (fault new)) _ (b .1) in
-      let d = both-missing (due (not (bool shape)) 31 0) _ (c .1) in
+      let d = both-missing _ (ruleFault old new R) (c .1) in
       let f = both-missing (when (not (bool begins)) 8192) (firstOf 4096 (pairFault old new (R .graph))) (no-rule (broken old new R) (d .1)) in (
         passed-test (sized (old .table) (new .table) (R .graph)) _ (a .0),
         no-fault 0 (fault old) (b .0),

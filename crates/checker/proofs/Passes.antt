@@ -1,14 +1,12 @@
 -- A record of which every part is as the check asks is passed. Assumes nothing.
 use mathlib.Core.Path.{_≡_}
-use mathlib.Core.Bool.{not}
+use mathlib.Core.Bool.{true}
 use mathlib.Core.Logic.{_≢_, dite}
 use mathlib.Core.Option.{none}
 use Prim.Native.Nat.{ℕ, _<_}
 use native.Mathlib.Omega.{arith}
 use native.Mathlib.Decide.{ℕ-discrete, decLt}
 use borrow.Author.Tests.{eq-eqb, ne-eqb, lt-ltb, le-ltb}
-use Rattle.base.specs.Options.{when}
-use Rattle.base.specs.Refusals.{sole}
 use Rattle.base.specs.Says.{Test, bool, Says}
 use Rattle.base.proofs.Options.{none-everywhere}
 use Rattle.base.proofs.Says.{said}
@@ -16,13 +14,13 @@ use Rattle.base.proofs.Tests.{is-true}
 use Rattle.chart.specs.Charts.{Chart, size, leaving}
 use Rattle.chart.specs.Faults.{fault}
 use Rattle.chart.specs.Places.{newOf}
-use Rattle.checker.specs.Records.{Graph, Record, mark, index}
+use Rattle.checker.specs.Records.{Graph, Record, mark}
 use Rattle.checker.specs.Rules.{headOf, shaped, startFits, rowFits}
 use Rattle.checker.specs.Checks.{sized, targetFault, rowsFault, pairFault, broken, ruleFault, recordFault, refusal}
 
--- what is due where a test fails is not due where it says what is so
-off : {A : Type 0} (t : Test) (r : A) → Says t → when (not (bool t)) r ≡ none
-off t r h = rw (is-true (bool t) (said t h))
+-- a test passes where what it says is so
+met : (t : Test) → Says t → bool t ≡ true
+met t h = is-true (bool t) (said t h)
 
 -- each row of each present pair is as its rule says
 abbrev pub Rules : Chart → Chart → Graph → Type 0
@@ -35,7 +33,7 @@ module _ (old new : Chart) (G : Graph) (rules : Rules old new G) where
   unfolding targetFault
   row-off m k b p c =
       dite (decLt k (size (leaving (new .table) (newOf m .0))))
-      (λ l. rw (lt-ltb k (size (leaving (new .table) (newOf m .0))) l) (off (rowFits old new G m (leaving (new .table) (newOf m .0)) k) (index m k) (rules m k b p c l)))
+      (λ l. rw (lt-ltb k (size (leaving (new .table) (newOf m .0))) l) (rw (met (rowFits old new G m (leaving (new .table) (newOf m .0)) k) (rules m k b p c l))))
       (λ l. rw (le-ltb k (size (leaving (new .table) (newOf m .0))) (omega arith)))
 
   pair-off : (m : ℕ) → m < 4096 → pairFault old new G m ≡ none
@@ -53,10 +51,10 @@ module _ (old new : Chart) (R : Record) where
   unfolding refusal recordFault ruleFault broken
   passes z fo fn sh st rules =
       rw (
-        off (sized (old .table) (new .table) (R .graph)) (sole 21 0) z,
+        met (sized (old .table) (new .table) (R .graph)) z,
         fo,
         fn,
-        off (shaped (headOf old) (headOf new) (R .start) (R .graph .marks) (R .graph .targets)) (sole 31 0) sh,
-        off {A = ℕ} (startFits (headOf old) (headOf new) (R .start) (R .graph .marks)) 8192 st,
+        met (shaped (headOf old) (headOf new) (R .start) (R .graph .marks) (R .graph .targets)) sh,
+        met (startFits (headOf old) (headOf new) (R .start) (R .graph .marks)) st,
         none-everywhere (pairFault old new (R .graph)) 4096 (λ m b. pair-off old new (R .graph) rules m b),
       )
