@@ -46,7 +46,7 @@ module _ (old new : Chart) (R : Record) where
   module _ {b : Bool} (e : b ≡ bool (shaped (headOf old) (headOf new) (R .start) (R .graph .marks) (R .graph .targets))) where
     pub shape-refused : b ≡ false → some (sole 31 0) ≡ recordFault old new R
     unfolding recordFault
-    shape-refused u = rw (sym e ∙ u)
+    shape-refused u = rw (sym e ∙ u) refl
 
     pub rules-judged : {r : Option ℕ} → b ≡ true → r ≡ broken old new R → ruleAt r ≡ recordFault old new R
     unfolding recordFault ruleFault
