@@ -4,13 +4,14 @@ use mathlib.Core.Path.{_≡_, refl, sym, ap, subst, _∙_}
 use mathlib.Core.Bool.{Bool, true, false, _&&_, not}
 use mathlib.Core.List.{List}
 use mathlib.Core.Option.{Option, none, some}
-use Prim.Native.Nat.{ℕ, _<_}
+use Prim.Native.Nat.{ℕ, _≤_, _<_}
 use native.Mathlib.Omega.{arith}
 use lib.Dec.{eqb, ltb}
-use Rattle.base.specs.Options.{orElse, firstOf}
-use Rattle.base.specs.Refusals.{Refusal, refusedIf}
+use Rattle.base.specs.Options.{when, orElse, firstOf}
+use Rattle.base.specs.declared.Refusal.{Refusal}
+use Rattle.base.specs.Refusals.{sole, due, unless}
 use Rattle.base.specs.Says.{bool}
-use Rattle.base.proofs.OnSome.{OnSome, or-on, first-on}
+use Rattle.base.proofs.OnSome.{OnSome, when-on, or-on, first-on}
 use Rattle.chart.specs.Charts.{Chart, size, leaving}
 use Rattle.chart.specs.Faults.{fault}
 use Rattle.chart.specs.Places.{newOf}
@@ -18,59 +19,68 @@ use Rattle.chart.proofs.Bounds.{fault-slight}
 use Rattle.checker.specs.declared.records.Checked.{Checked}
 use Rattle.checker.specs.Records.{Graph, Record, mark, index}
 use Rattle.checker.specs.Rules.{headOf, shaped, startFits, rowFits}
-use Rattle.checker.specs.Checks.{told, sized, inChart, targetFault, rowsFault, pairFault, ruleFault, recordFault, refusal}
+use Rattle.checker.specs.Checks.{told, sized, inChart, ruleAt, targetFault, rowsFault, pairFault, broken, ruleFault, recordFault, refusal}
 use Rattle.checker.specs.Promise.{Promise}
-use Rattle.capi.specs.Numbers.{number, unlessDue}
+use Rattle.capi.specs.Numbers.{number, zeros}
 use Rattle.capi.proofs.Refusals.{Small, due-small, in-chart-small}
 
+-- a position that a rule is refused at
+Near : ℕ → Type 0
+Near i = i ≤ 8192
+
 module _ (old new : Chart) (G : Graph) where
-  target-small : (m : ℕ) (rows : List ℕ) (k : ℕ) → m < 4096 → k < 2 → OnSome Small (targetFault old new G m rows k)
-  unfolding targetFault
-  target-small m rows k l h =
-      due-small (ltb k (size rows) && not (bool (rowFits old new G m rows k))) 32 (index m k) (omega arith) (omega arith) (omega arith)
+  target-near : (m : ℕ) (rows : List ℕ) (k : ℕ) → m < 4096 → k < 2 → OnSome Near (targetFault old new G m rows k)
+  unfolding targetFault Near
+  target-near m rows k l h = when-on Near (ltb k (size rows) && not (bool (rowFits old new G m rows k))) (index m k) (omega arith)
 
-  rows-small : (m : ℕ) (rows : List ℕ) → m < 4096 → OnSome Small (rowsFault old new G m rows)
+  rows-near : (m : ℕ) (rows : List ℕ) → m < 4096 → OnSome Near (rowsFault old new G m rows)
   unfolding rowsFault
-  rows-small m rows l =
-      or-on Small (targetFault old new G m rows 0) (targetFault old new G m rows 1) (target-small m rows 0 l (omega arith))
-      (λ _. target-small m rows 1 l (omega arith))
+  rows-near m rows l =
+      or-on Near (targetFault old new G m rows 0) (targetFault old new G m rows 1) (target-near m rows 0 l (omega arith))
+      (λ _. target-near m rows 1 l (omega arith))
 
-  pair-small : (m : ℕ) → m < 4096 → OnSome Small (pairFault old new G m)
+  pair-near : (m : ℕ) → m < 4096 → OnSome Near (pairFault old new G m)
   unfolding pairFault
-  pair-small m l = go (eqb (mark G m) 0)
+  pair-near m l = go (eqb (mark G m) 0)
     where
-      go : (b : Bool) → OnSome Small (elim b as (λ _. Option Refusal) [ true ↦ none | false ↦ rowsFault old new G m (leaving (new .table) (newOf m .0)) ])
+      go : (b : Bool) → OnSome Near (elim b as (λ _. Option ℕ) [ true ↦ none | false ↦ rowsFault old new G m (leaving (new .table) (newOf m .0)) ])
       go true = tt
-      go false = rows-small m (leaving (new .table) (newOf m .0)) l
+      go false = rows-near m (leaving (new .table) (newOf m .0)) l
+
+rule-at-small : (o : Option ℕ) → OnSome Near o → OnSome Small (ruleAt o)
+unfolding Near
+rule-at-small none h = tt
+rule-at-small (some i) h = record { some-number = omega arith; few = omega arith; one-of-two = omega arith; near = h }
 
 module _ (old new : Chart) (R : Record) where
-  rule-small : OnSome Small (ruleFault old new R)
-  unfolding ruleFault
-  rule-small =
+  broken-near : OnSome Near (broken old new R)
+  unfolding broken Near
+  broken-near =
       let starts = not (bool (startFits (headOf old) (headOf new) (R .start) (R .graph .marks))) in
-      or-on Small (refusedIf starts 32 0 8192) (firstOf 4096 (pairFault old new (R .graph))) (due-small starts 32 8192 (omega arith) (omega arith) (omega arith))
-      (λ _. first-on Small 4096 (pairFault old new (R .graph)) (λ m l. pair-small old new (R .graph) m l))
+      or-on Near (when starts 8192) (firstOf 4096 (pairFault old new (R .graph))) (when-on Near starts 8192 (omega arith))
+      (λ _. first-on Near 4096 (pairFault old new (R .graph)) (λ m l. pair-near old new (R .graph) m l))
 
   record-small : OnSome Small (recordFault old new R)
-  unfolding recordFault
+  unfolding recordFault ruleFault
   record-small =
       let shape = not (bool (shaped (headOf old) (headOf new) (R .start) (R .graph .marks) (R .graph .targets))) in
-      or-on Small (refusedIf shape 31 0 0) (ruleFault old new R) (due-small shape 31 0 (omega arith) (omega arith) (omega arith)) (λ _. rule-small)
+      or-on Small (due shape 31 0) (ruleFault old new R) (due-small shape 31 0 (omega arith) (omega arith) (omega arith))
+      (λ _. rule-at-small (broken old new R) broken-near)
 
   -- Whatever the check refuses is small.
   pub check-small : OnSome Small (refusal old new R)
   unfolding refusal
   check-small =
       let lengths = not (bool (sized (old .table) (new .table) (R .graph))) in
-      or-on Small (refusedIf lengths 21 0 0) (orElse (inChart 0 (fault old)) (orElse (inChart 1 (fault new)) (recordFault old new R)))
+      or-on Small (due lengths 21 0) (orElse (inChart 0 (fault old)) (orElse (inChart 1 (fault new)) (recordFault old new R)))
       (due-small lengths 21 0 (omega arith) (omega arith) (omega arith))
       (λ _. or-on Small (inChart 0 (fault old)) (orElse (inChart 1 (fault new)) (recordFault old new R)) (in-chart-small 0 (omega arith) (fault old) (fault-slight old))
       (λ _. or-on Small (inChart 1 (fault new)) (recordFault old new R) (in-chart-small 1 (omega arith) (fault new) (fault-slight new)) (λ _. record-small)))
 
   -- the number of an answer is 0 only where none is due
-  zero-passes : (o : Option Refusal) → OnSome Small o → number (unlessDue o) ≡ 0 → o ≡ none
+  zero-passes : (o : Option Refusal) → OnSome Small o → number (unless o zeros) ≡ 0 → o ≡ none
   zero-passes none s e = refl
-  zero-passes (some f) s e = absurd (omega (arith, s .some-number))
+  zero-passes (some r) s e = absurd (omega (arith, s .some-number))
 
   module _ {r s : Checked} (is : told r ≡ refusal old new R) (case : r ≡ s) where
     told-is : told s ≡ refusal old new R
@@ -79,7 +89,7 @@ module _ (old new : Chart) (R : Record) where
     pub told-small : OnSome Small (told s)
     told-small = subst (OnSome Small) (sym told-is) check-small
 
-    pub answered : {x : ℕ} → (told r ≡ none → Promise old new R) → x ≡ number (unlessDue (told s))
-        → (x ≡ number (unlessDue (refusal old new R))) × (x ≡ 0 → Promise old new R)
+    pub answered : {x : ℕ} → (told r ≡ none → Promise old new R) → x ≡ number (unless (told s) zeros)
+        → (x ≡ number (unless (refusal old new R) zeros)) × (x ≡ 0 → Promise old new R)
     answered {x} keeps e =
-        (e ∙ ap (λ (o : Option Refusal). number (unlessDue o)) told-is, λ z. keeps (ap told case ∙ zero-passes (told s) told-small (sym e ∙ z)))
+        (e ∙ ap (λ (o : Option Refusal). number (unless o zeros)) told-is, λ z. keeps (ap told case ∙ zero-passes (told s) told-small (sym e ∙ z)))

@@ -1,6 +1,6 @@
 -- A part that the lookup hands back fits 12 entries, and what is answered of it.
 -- Assumes nothing.
-use mathlib.Core.Path.{_≡_, refl, sym}
+use mathlib.Core.Path.{_≡_, refl, sym, ap, _∙_}
 use mathlib.Core.Bool.{Bool, true, false, cond}
 use mathlib.Core.List.{List, [], _++_}
 use Prim.Native.Nat.{ℕ, _*_, _/_, _^_, _≤_, _<_}
@@ -11,6 +11,8 @@ use lib.ListN.{length, getD, drop}
 use Rattle.base.specs.Answers.{given, refused}
 use Rattle.base.specs.Chains.{mapped}
 use Rattle.base.specs.Options.{missing}
+use Rattle.base.specs.declared.Refusal.{Refusal}
+use Rattle.base.specs.Refusals.{sole}
 use Rattle.base.proofs.Options.{missing-none}
 use Rattle.base.proofs.Tests.{and-true}
 use Rattle.chart.specs.Charts.{Chart, size, leaving}
@@ -18,8 +20,12 @@ use Rattle.chart.specs.Faults.{refusal}
 use Rattle.chart.specs.Lookup.{openTo, lookup}
 use Rattle.chart.proofs.Faultless.{faultless}
 use Rattle.align.proofs.Parts.{whole, two-at-most}
-use Rattle.capi.specs.Numbers.{number}
+use Rattle.capi.specs.Numbers.{number, Fits}
 use Rattle.capi.specs.Lookups.{lookedUp, handed, ofRows}
+
+-- the refusal of another length than 12
+pub length-fits : {r : Refusal} → r ≡ sole 21 0 → Fits r
+length-fits e = rw e (record { number = omega arith; chart = omega arith; position = omega arith })
 
 -- the entries of a lent table are u32
 abbrev Words : Chart → Type 0
@@ -50,7 +56,7 @@ module _ (old new : Chart) (chart p : ℕ) where
   part-short v w e = rw e (short v w)
 
   module _ (rows : List ℕ) where
-    refused-21 : (length rows ≡ 12 → ⊥) → lookedUp old new chart p rows ≡ refused 21 0 0
+    refused-21 : (length rows ≡ 12 → ⊥) → lookedUp old new chart p rows ≡ refused (sole 21 0)
     unfolding lookedUp
     refused-21 n = rw (ne-eqb (length rows) 12 n, lookedUp)
 
@@ -59,10 +65,10 @@ module _ (old new : Chart) (chart p : ℕ) where
     given-part e = rw (eq-eqb (length rows) 12 e, lookedUp)
 
     -- another length than 12
-    pub length-refused : (length rows ≡ 12 → ⊥)
-        → (21 * 72057594037927936 ≡ number (mapped ofRows (lookedUp old new chart p rows))) × (rows ≡ handed (lookedUp old new chart p rows) rows)
+    pub length-refused : {x : ℕ} {r : Refusal} → (length rows ≡ 12 → ⊥) → r ≡ sole 21 0 → x ≡ number (refused r)
+        → (x ≡ number (mapped ofRows (lookedUp old new chart p rows))) × (rows ≡ handed (lookedUp old new chart p rows) rows)
     unfolding handed
-    length-refused n = rw (refused-21 n) (omega arith, refl)
+    length-refused n i e = rw (refused-21 n) (e ∙ ap (λ (r : Refusal). number (refused r)) i, refl)
 
     pub part-handed : {part after : List ℕ} → length rows ≡ 12 → part ≡ lookup old new chart p → after ≡ part ++ drop (length part) rows
         → (length part / 6 ≡ number (mapped ofRows (lookedUp old new chart p rows))) × (after ≡ handed (lookedUp old new chart p rows) rows)

@@ -1,26 +1,49 @@
--- The numbers of a refusal that a call with two charts gives.
+-- The numbers of a refusal that a call gives: they are small, and fit the places that they have in one number.
 -- Assumes nothing.
+use mathlib.Core.Path.{_≡_, sym, ap}
 use mathlib.Core.Bool.{Bool}
 use mathlib.Core.Option.{Option, none, some}
 use Prim.Native.Nat.{ℕ, _≤_}
 use native.Mathlib.Omega.{arith}
-use Rattle.base.specs.Refusals.{Refusal, refusedIf, Fault}
+use Rattle.base.specs.Answers.{Answer, given, refused}
+use Rattle.base.specs.Chains.{mapped}
+use Rattle.base.specs.declared.Refusal.{Refusal}
+use Rattle.base.specs.Refusals.{sole, due}
+use Rattle.base.proofs.Answers.{different}
 use Rattle.base.proofs.OnSome.{OnSome, when-on}
 use Rattle.chart.proofs.Bounds.{Slight}
 use Rattle.checker.specs.Checks.{inChart}
+use Rattle.capi.specs.Numbers.{Four, number, Fits}
 
+-- ---- of a call with two charts
 -- a refusal's number, chart and position
-pub record Small (f : Refusal) : Type 0 where
-  pub some-number : 1 ≤ f .number
-  pub few : f .number ≤ 32
-  pub one-of-two : f .chart ≤ 1
-  pub near : f .position ≤ 8192
+pub record Small (r : Refusal) : Type 0 where
+  pub some-number : 1 ≤ r .number
+  pub few : r .number ≤ 32
+  pub one-of-two : r .chart ≤ 1
+  pub near : r .position ≤ 8192
 
-pub due-small : (b : Bool) (n p : ℕ) → 1 ≤ n → n ≤ 32 → p ≤ 8192 → OnSome Small (refusedIf b n 0 p)
-due-small b n p l h g =
-    when-on Small b (record { number = n; chart = 0; position = p }) (record { some-number = l; few = h; one-of-two = omega arith; near = g })
+pub small-fits : {r : Refusal} → Small r → Fits r
+small-fits s = record { number = omega (arith, s .few); chart = omega (arith, s .one-of-two); position = omega (arith, s .near) }
 
-pub in-chart-small : (chart : ℕ) → chart ≤ 1 → (o : Option Fault) → OnSome Slight o → OnSome Small (inChart chart o)
+pub due-small : (b : Bool) (n p : ℕ) → 1 ≤ n → n ≤ 32 → p ≤ 8192 → OnSome Small (due b n p)
+due-small b n p l h g = when-on Small b (sole n p) (record { some-number = l; few = h; one-of-two = omega arith; near = g })
+
+pub in-chart-small : (chart : ℕ) → chart ≤ 1 → (o : Option Refusal) → OnSome Slight o → OnSome Small (inChart chart o)
 in-chart-small chart l none s = tt
 in-chart-small chart l (some f) s =
     record { some-number = s .some-number; few = omega (arith, s .few); one-of-two = l; near = omega (arith, s .row) }
+
+-- ---- of an answer that gives something else
+abbrev pub RefusalFits : {A : Type 0} → Answer A → Type 0
+RefusalFits (given x) = Unit
+RefusalFits (refused r) = Fits r
+
+-- the code refuses: its refusal fits, and makes the number of the answer
+pub record Stopped {A : Type 0} (of : A → Four) (r : Refusal) (a : Answer A) : Type 0 where
+  pub fits : Fits r
+  pub is : number (refused r) ≡ number (mapped of a)
+
+pub stopped : {A B : Type 0} (of : A → Four) (f : A → B) (r : Refusal) (a : Answer A) → RefusalFits a → refused r ≡ mapped f a → Stopped of r a
+stopped of f r (given x) s e = absurd (different (sym e))
+stopped of f r (refused q) s e = let i : r ≡ q = cc in record { fits = rw i s; is = ap (λ (q : Refusal). number (refused q)) i }

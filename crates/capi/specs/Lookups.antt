@@ -1,22 +1,23 @@
 -- The row lookup with its part copied.
-use mathlib.Core.Bool.{true, false}
+use mathlib.Core.Bool.{not}
 use mathlib.Core.List.{List, _++_}
 use Prim.Native.Nat.{ℕ}
 use lib.Dec.{eqb}
 use lib.ListN.{length, drop}
 use Rattle.base.specs.Answers.{Answer, given, refused}
+use Rattle.base.specs.Refusals.{due, unless}
 use Rattle.chart.specs.Charts.{Chart, size}
 use Rattle.chart.specs.Lookup.{lookup}
 use Rattle.capi.specs.Numbers.{Four}
 
 -- the part that the lookup hands back, for 12 lent entries; "21, a lent length differs from the stated one"
 unfoldable pub lookedUp : Chart → Chart → ℕ → ℕ → List ℕ → Answer (List ℕ)
-lookedUp old new chart p rows = elim (eqb (length rows) 12) [ true ↦ given (lookup old new chart p) | false ↦ refused 21 0 0 ]
+lookedUp old new chart p rows = unless (due (not (eqb (length rows) 12)) 21 0) (lookup old new chart p)
 
 -- the lent entries afterwards: the part at the front, and those past it stay; "lent memory is untouched" by a refusal
 unfoldable pub handed : Answer (List ℕ) → List ℕ → List ℕ
 handed (given part) rows = part ++ drop (length part) rows
-handed (refused n c p) rows = rows
+handed (refused r) rows = rows
 
 -- a part: the count of its rows, 0, 0, 0
 abbrev pub ofRows : List ℕ → Four

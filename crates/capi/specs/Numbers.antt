@@ -1,10 +1,9 @@
 -- An answer as one number.
 use mathlib.Core.List.{List}
-use mathlib.Core.Option.{Option, none, some}
-use Prim.Native.Nat.{ℕ, _+_, _*_, _^_}
+use Prim.Native.Nat.{ℕ, _+_, _*_, _^_, _<_}
 use lib.ListN.{length}
 use Rattle.base.specs.Answers.{Answer, given, refused}
-use Rattle.base.specs.Refusals.{Refusal}
+use Rattle.base.specs.declared.Refusal.{Refusal}
 use Rattle.chart.specs.Charts.{Chart, size}
 use Rattle.condition.specs.declared.Summary.{Summary}
 
@@ -22,7 +21,14 @@ pub record Four : Type 0 where
 -- a success is a + b × 2^14 + c × 2^28 + d × 2^42, a refusal number × 2^56 + chart × 2^48 + position
 abbrev pub number : Answer Four → ℕ
 number (given f) = f .a + f .b * 2 ^ 14 + f .c * 2 ^ 28 + f .d * 2 ^ 42
-number (refused n chart p) = n * 2 ^ 56 + chart * 2 ^ 48 + p
+number (refused r) = r .number * 2 ^ 56 + r .chart * 2 ^ 48 + r .position
+
+-- the three numbers of a refusal fit these places, as those of every refusal do (proofs/Refusals.antt): what the function that makes one
+-- number of them has to know
+pub record Fits (r : Refusal) : Type 0 where
+  pub number : r .number < 2 ^ 8
+  pub chart : r .chart < 2 ^ 8
+  pub position : r .position < 2 ^ 48
 
 -- a chart that is read: places, alarm, rows, 0
 abbrev pub ofChart : Chart → Four
@@ -33,9 +39,8 @@ abbrev pub ofText : List ℕ → Four
 ofText t = record { a = length t; b = 0; c = 0; d = 0 }
 
 -- a call that answers only whether a refusal is due: 0, 0, 0, 0
-abbrev pub unlessDue : Option Refusal → Answer Four
-unlessDue none = given (record { a = 0; b = 0; c = 0; d = 0 })
-unlessDue (some f) = refused (f .number) (f .chart) (f .position)
+abbrev pub zeros : Four
+zeros = record { a = 0; b = 0; c = 0; d = 0 }
 
 -- a build: start, open, kept, covered
 abbrev pub ofBuild : Summary → Four

@@ -3,7 +3,9 @@ ghost use mathlib.Core.Path.{_≡_};
 ghost use mathlib.Core.Option.{none};
 ghost use Prim.Native.Nat.{_%_, _^_, _<_};
 ghost use lib.ListN.{length};
+ghost use Rattle.base.specs.Answers.{refused};
 ghost use Rattle.base.specs.Chains.{mapped};
+ghost use Rattle.base.specs.Refusals.{unless};
 ghost use Rattle.text.specs.Texts.{readInto, filled};
 ghost use Rattle.text.specs.Written.{writing, printed};
 ghost use Rattle.checker.specs.Records.{recordOf};
@@ -13,13 +15,23 @@ ghost use Rattle.graph.specs.Graphs.{graph};
 ghost use Rattle.paper.specs.Returned.{Returned};
 ghost use Rattle.builder.specs.Answers.{answered, left};
 ghost use Rattle.capi.specs.Lookups.{lookedUp, handed, ofRows};
-ghost use Rattle.capi.specs.Numbers.{chartOf, number, ofChart, ofText, unlessDue, ofBuild};
+ghost use Rattle.capi.specs.Numbers.{chartOf, number, Fits, ofChart, ofText, zeros, ofBuild};
+use base::Refusal;
+use base::sole;
 use builder::answers::Built;
 use chart::charts::Head;
 use checker::records::Checked;
 use text::answers::Read;
 use text::answers::Wrote;
 use text::inner::table::copy;
+
+// A refusal as one number.
+fn packed(r: Refusal) -> u64
+    requires { ⌜ Fits r ⌝ }
+    ensures { λ n. ⌜ n ≡ number (refused r) ⌝ }
+{
+    r.number as u64 * 72057594037927936 + r.chart as u64 * 281474976710656 + r.position as u64
+}
 
 // The chart of a text, its rows at the front of the table: places, alarm, rows, 0.
 #[no_mangle]
@@ -31,7 +43,7 @@ pub extern "C" fn picker_read(text: &[u8], table: &mut [u32]) -> u64
         Read::Chart(head, rows) => {
             head.places as u64 + head.alarm as u64 * 16384 + rows as u64 * 268435456
         }
-        Read::Refused(n, position) => n as u64 * 72057594037927936 + position as u64,
+        Read::Refused(r) => packed(r),
     }
 }
 
@@ -43,7 +55,7 @@ pub extern "C" fn picker_write(places: u32, alarm: u32, rows: &[u32], bytes: &mu
 {
     match text::write(Head { places, alarm }, rows, bytes) {
         Wrote::Bytes(n) => n as u64,
-        Wrote::Refused(n, position) => n as u64 * 72057594037927936 + position as u64,
+        Wrote::Refused(r) => packed(r),
     }
 }
 
@@ -64,7 +76,7 @@ pub extern "C" fn picker_lookup<'a>(
         × (now (rows .exit) ≡ handed (lookedUp (chartOf «old_places» «old_alarm» (now («old_rows» .entry))) (chartOf «new_places» «new_alarm» (now («new_rows» .entry))) chart place (now (rows .entry))) (now (rows .entry))) ⌝ }
 {
     if rows.len() != 12 {
-        return 21 * 72057594037927936;
+        return packed(sole(21, 0));
     }
     let old = Head {
         places: old_places,
@@ -94,7 +106,7 @@ pub extern "C" fn picker_check<'a>(
     targets: &[u16],
     sets: &[u64],
 ) -> u64
-    ensures is { λ r. ⌜ r ≡ number (unlessDue (refusal (chartOf «old_places» «old_alarm» (now («old_rows» .entry))) (chartOf «new_places» «new_alarm» (now («new_rows» .entry))) (recordOf start (now (marks .entry)) (now (targets .entry)) (now (sets .entry))))) ⌝ }
+    ensures is { λ r. ⌜ r ≡ number (unless (refusal (chartOf «old_places» «old_alarm» (now («old_rows» .entry))) (chartOf «new_places» «new_alarm» (now («new_rows» .entry))) (recordOf start (now (marks .entry)) (now (targets .entry)) (now (sets .entry)))) zeros) ⌝ }
     ensures promise { λ r. ⌜ (r ≡ 0 → Promise (chartOf «old_places» «old_alarm» (now («old_rows» .entry))) (chartOf «new_places» «new_alarm» (now («new_rows» .entry))) (recordOf start (now (marks .entry)) (now (targets .entry)) (now (sets .entry)))) ⌝ }
 {
     let old = Head {
@@ -107,16 +119,7 @@ pub extern "C" fn picker_check<'a>(
     };
     match checker::check(old, old_rows, new, new_rows, start, marks, targets, sets) {
         Checked::Passed => 0,
-        Checked::Lengths => 21 * 72057594037927936,
-        Checked::OldFault { number, position } => {
-            number as u64 * 72057594037927936 + position as u64
-        }
-        Checked::NewFault { number, position } => {
-            number as u64 * 72057594037927936 + 281474976710656 + position as u64
-        }
-        Checked::Shape => 31 * 72057594037927936,
-        Checked::Start => 32 * 72057594037927936 + 8192,
-        Checked::Target(index) => 32 * 72057594037927936 + index as u64,
+        Checked::Refused(r) => packed(r),
     }
 }
 

@@ -1,15 +1,18 @@
 -- `capi::picker_lookup` meets its contract: a part has 12 entries at most. Assumes nothing.
-use Rattle.capi.proofs.Handed.{part-short, length-refused, part-handed}
+use Rattle.capi.proofs.Handed.{length-fits, part-short, length-refused, part-handed}
 use native.Mathlib.Omega.{arith}
 use borrow.Author.Needs.{needs}
 use Rattle.capi.proofs.picker_lookup.Statement.{statement}
 use Rattle.capi.proofs.picker_lookup.Tie as tie
 
-mul-result : tie.Need-mul-result
-mul-result c = search needs
+sole-requires : tie.Need-sole-requires
+sole-requires c κs = search needs
+
+packed-requires : tie.Need-packed-requires
+packed-requires c κs = length-fits (c .sole .ensures)
 
 returns : tie.Need-returns
-returns c = length-refused _ _ _ _ _ (c .if1 .taken)
+returns c = length-refused _ _ _ _ _ (c .before .before .if1 .taken) (c .before .sole .ensures) (c .packed .ensures)
 
 lookup-requires : tie.Need-lookup-requires
 lookup-requires c κs = search needs
@@ -27,4 +30,4 @@ returns-2 c = part-handed _ _ _ _ _ (c .before .before .before .before .before .
 
 pub picker-lookup-spec : {M : Type 1} → statement M
 picker-lookup-spec =
-    tie.close (tie.spec mul-result returns lookup-requires copy-requires same-length returns-2)
+    tie.close (tie.spec sole-requires packed-requires returns lookup-requires copy-requires same-length returns-2)

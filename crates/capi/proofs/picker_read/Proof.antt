@@ -1,4 +1,5 @@
 -- `capi::picker_read` meets its contract: the answers are small, so that no sum wraps. Assumes nothing.
+use mathlib.Core.Path.{_∙_}
 use Rattle.capi.proofs.Small.{chart-read, refusal-read}
 use native.Mathlib.Omega.{arith}
 use borrow.Author.Needs.{needs}
@@ -29,17 +30,11 @@ mul-result-2 c = let b = chart-read (c .before .before .before .before .before .
 add-result-2 : tie.Need-add-result-2
 add-result-2 c = let b = chart-read (c .before .before .before .before .before .before .before .before .before .before .before .args .text .now) (c .before .before .before .before .before .before .before .before .before .before .before .args .table .now) _ (c .before .before .before .before .before .before .before .read .ensures .0) _ _ (c .before .before .before .head .given .1) in omega arith
 
-enum-known-n : tie.Need-enum-known-n
-enum-known-n c = search needs
+enum-known-r : tie.Need-enum-known-r
+enum-known-r c = search needs
 
-cast-result-3 : tie.Need-cast-result-3
-cast-result-3 c = search needs
-
-mul-result-3 : tie.Need-mul-result-3
-mul-result-3 c = let b = refusal-read (c .before .before .before .before .before .before .before .before .before .args .text .now) (c .before .before .before .before .before .before .before .before .before .args .table .now) _ (c .before .before .before .before .before .read .ensures .0) _ _ (c .before .n .given .1) in omega arith
-
-add-result-3 : tie.Need-add-result-3
-add-result-3 c = let b = refusal-read (c .before .before .before .before .before .before .before .before .before .args .text .now) (c .before .before .before .before .before .before .before .before .before .args .table .now) _ (c .before .before .before .before .before .read .ensures .0) _ _ (c .before .n .given .1) in omega arith
+packed-requires : tie.Need-packed-requires
+packed-requires c κs = refusal-read (c .before .before .before .before .before .before .before .before .before .args .text .now) (c .before .before .before .before .before .before .before .before .before .args .table .now) _ (c .before .before .before .before .before .read .ensures .0) _ (c .before .r .given .1) .fits
 
 same-length : tie.Need-same-length
 same-length c = search needs
@@ -51,7 +46,9 @@ same-length-2 : tie.Need-same-length-2
 same-length-2 c = search needs
 
 returns-2 : tie.Need-returns-2
-returns-2 c = let b = refusal-read (c .before .before .before .before .before .before .before .before .before .args .text .now) (c .before .before .before .before .before .before .before .before .before .args .table .now) _ (c .before .before .before .before .before .read .ensures .0) _ _ (c .before .n .given .1) in (b .is, c .before .before .before .before .before .read .ensures .1)
+returns-2 c =
+    let b = refusal-read (c .before .before .before .before .before .before .before .before .before .before .args .text .now) (c .before .before .before .before .before .before .before .before .before .before .args .table .now) _ (c .before .before .before .before .before .before .read .ensures .0) _ (c .before .before .r .given .1) in
+    (c .packed .ensures ∙ b .is, c .before .before .before .before .before .before .read .ensures .1)
 
 pub picker-read-spec : {M : Type 1} → statement M
 picker-read-spec =
@@ -65,10 +62,8 @@ picker-read-spec =
     add-result
     mul-result-2
     add-result-2
-    enum-known-n
-    cast-result-3
-    mul-result-3
-    add-result-3
+    enum-known-r
+    packed-requires
     same-length
     returns
     same-length-2

@@ -1,6 +1,6 @@
 -- `capi::picker_write` meets its contract: the answers are small, so that no sum wraps. Assumes nothing.
+use mathlib.Core.Path.{_∙_}
 use Rattle.capi.proofs.Small.{text-written, refusal-written}
-use native.Mathlib.Omega.{arith}
 use borrow.Author.Needs.{needs}
 use Rattle.capi.proofs.picker_write.Statement.{statement}
 use Rattle.capi.proofs.picker_write.Tie as tie
@@ -11,17 +11,11 @@ write-requires c κs = search needs
 enum-known-n : tie.Need-enum-known-n
 enum-known-n c = search needs
 
-enum-known-n-2 : tie.Need-enum-known-n-2
-enum-known-n-2 c = search needs
+enum-known-r : tie.Need-enum-known-r
+enum-known-r c = search needs
 
-cast-result : tie.Need-cast-result
-cast-result c = search needs
-
-mul-result : tie.Need-mul-result
-mul-result c = let b = refusal-written _ _ _ (c .before .before .before .before .before .write .ensures .0) _ _ (c .before .n2 .given .1) in omega arith
-
-add-result : tie.Need-add-result
-add-result c = let b = refusal-written _ _ _ (c .before .before .before .before .before .write .ensures .0) _ _ (c .before .n2 .given .1) in omega arith
+packed-requires : tie.Need-packed-requires
+packed-requires c κs = refusal-written _ _ _ (c .before .before .before .before .before .write .ensures .0) _ (c .before .r .given .1) .fits
 
 same-length : tie.Need-same-length
 same-length c = search needs
@@ -33,7 +27,9 @@ same-length-2 : tie.Need-same-length-2
 same-length-2 c = search needs
 
 returns-2 : tie.Need-returns-2
-returns-2 c = let b = refusal-written _ _ _ (c .before .before .before .before .before .write .ensures .0) _ _ (c .before .n2 .given .1) in (b .is, c .before .before .before .before .before .write .ensures .1)
+returns-2 c =
+    let b = refusal-written _ _ _ (c .before .before .before .before .before .before .write .ensures .0) _ (c .before .before .r .given .1) in
+    (c .packed .ensures ∙ b .is, c .before .before .before .before .before .before .write .ensures .1)
 
 pub picker-write-spec : {M : Type 1} → statement M
 picker-write-spec =
@@ -41,10 +37,8 @@ picker-write-spec =
     (tie.spec
     write-requires
     enum-known-n
-    enum-known-n-2
-    cast-result
-    mul-result
-    add-result
+    enum-known-r
+    packed-requires
     same-length
     returns
     same-length-2
