@@ -28,7 +28,7 @@ use Rattle.text.proofs.Told.{whole-after, whole-end, parsed-some}
 
 -- ---- a text that is read has the chart's fields
 
-on-then : {A B : Type 0} (P : A → Type 0) (Q : B → Type 0) (a : Answer A) (f : A → Answer B) → OnGiven P a → ((x : A) → P x → OnGiven Q (f x)) → OnGiven Q (andThen a f)
+pub on-then : {A B : Type 0} (P : A → Type 0) (Q : B → Type 0) (a : Answer A) (f : A → Answer B) → OnGiven P a → ((x : A) → P x → OnGiven Q (f x)) → OnGiven Q (andThen a f)
 on-then P Q (given x) f h g = g x h
 on-then P Q (refused r) f h g = tt
 

@@ -10,6 +10,7 @@ pub mod Spelling
 pub mod Sequences
 pub mod Grammar
 pub mod Told
+pub mod Walking
 pub mod Charts
 pub mod Exactly
 pub mod Lengths

@@ -13,7 +13,7 @@ use lib.Seq.{drop-cons}
 use Rattle.text.specs.declared.fields.Kind.{Kind}
 use Rattle.text.specs.declared.fields.Field.{Field}
 use Rattle.text.specs.declared.fields.Field.the-variants.{Number, Unfit}
-use Rattle.text.specs.Fields.{byteAt, digitOf, TellsDigit, digits, value, kind, judged, bounded, ended, numberOf, numberAt, followed, fieldAt, lineEnd, closed, missing, itemAt, reached}
+use Rattle.text.specs.Fields.{byteAt, digitOf, TellsDigit, digits, value, kind, judged, bounded, ended, numberOf, numberAt, followed, fieldAt, lineEnd, closed, missing, itemAt}
 use Rattle.text.specs.declared.fields.Kind.the-variants.{Plain, Count, Spare}
 use native.Mathlib.Decide.{decLt}
 use mathlib.Core.Logic.{dite}
@@ -325,13 +325,3 @@ module _ (k : ℕ) (text : List ℕ) (at : ℕ) where
   pub item-there : (m : Bool) (f r : Field) → m ≡ missing k text at → m ≡ false → f ≡ fieldAt (kind k) text at → r ≡ closed k text f → r ≡ itemAt k text at
   unfolding itemAt
   item-there m f r e h g i = rw (sym e ∙ h, itemAt, ← g) i
-
--- ---- the offset reached
-
-pub past-number : (f : Field) (x p at : ℕ) → f ≡ Number x p → p ≡ reached f at
-unfolding reached
-past-number f x p at e = rw e
-
-pub past-unfit : (f : Field) (n p at : ℕ) → f ≡ Unfit n p → at ≡ reached f at
-unfolding reached
-past-unfit f n p at e = rw e

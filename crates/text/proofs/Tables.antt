@@ -1,23 +1,33 @@
 -- Laws of tables: fields that are read into one, and a table that is copied.
 -- Assumes nothing.
 use mathlib.Core.Path.{_≡_, refl, sym, ap, _∙_, subst}
-use mathlib.Core.List.{List, [], _∷_, _++_}
+use mathlib.Core.List.{List, [], _∷_, _++_, append-assoc, append-nil}
 use Prim.Native.Nat.{ℕ, suc, _+_, _-_, _≤_, _<_}
 use native.Mathlib.Numerals.{add-one}
 use native.Mathlib.Omega.{arith}
-use lib.ListN.{length, getD, take, drop, set, length-set}
-use lib.Seq.{take-suc-set, take-all, paste, paste-zero, paste-suc, length-paste}
+use lib.ListN.{length, getD, take, drop, set, length-set, take-append-drop}
+use lib.Seq.{length-take-le, drop-drop, drop-set-lt, take-suc-set, take-all, paste, paste-zero, paste-suc, length-paste}
 use Rattle.text.specs.declared.fields.Field.{Field}
 use Rattle.text.specs.declared.fields.Field.the-variants.{Number, Unfit}
+use Rattle.text.specs.declared.inner.table.Reach.{Reach}
 use Rattle.text.specs.declared.inner.table.Reach.the-variants.{Past, Stopped}
 use Rattle.text.specs.Fields.{itemAt}
-use Rattle.text.specs.Spans.{fieldsAt, toldReach}
+use Rattle.text.specs.Spans.{fieldsAt}
+use Rattle.text.specs.Walk.{numbersAt, laid, reachOf, reachAt, reached}
 
 -- ---- fields are read into a table
+
+-- a table whose front of i entries is new
+laid-front : (table₀ table l : List ℕ) (i : ℕ) → i ≤ length table → l ≡ take i table → drop i table ≡ drop i table₀ → table ≡ laid l table₀
+laid-front table₀ table l i h e d =
+    let n : length l ≡ i = ap length e ∙ length-take-le i table h in
+    sym (take-append-drop i table) ∙ rw (n, e, d)
 
 -- i of the n fields are in the table, and reading the others after them gives what reading all gives
 pub record Reading (n k : ℕ) (text : List ℕ) (at : ℕ) (table₀ table : List ℕ) (p i : ℕ) : Type 0 where
   pub is : fieldsAt n k text at [] ≡ fieldsAt (n - i) (k + i) text p (take i table)
+  pub numbers : numbersAt n k text at ≡ take i table ++ numbersAt (n - i) (k + i) text p
+  pub rest : drop i table ≡ drop i table₀
   pub most : i ≤ n
   pub long : length table ≡ length table₀
 
@@ -25,33 +35,54 @@ pub reading-start : (n k : ℕ) (text : List ℕ) (at : ℕ) (table : List ℕ) 
 reading-start n k text at table =
     let z : n - 0 ≡ n = omega arith in
     let y : k + 0 ≡ k = omega arith in
-    record { is = rw (z, y); most = omega arith; long = refl }
+    record { is = rw (z, y); numbers = rw (z, y); rest = refl; most = omega arith; long = refl }
 
 module _ (n k : ℕ) (text : List ℕ) (at : ℕ) (table₀ table : List ℕ) (p i : ℕ) (c : Reading n k text at table₀ table p i) where
   left : i < n → n - i ≡ suc (n - (i + 1))
   left h = omega arith
 
-  pub reading-stop : (l : List ℕ) (f : Field) (m q : ℕ) → i < n → f ≡ itemAt (k + i) text p → f ≡ Unfit m q → toldReach (Stopped m q) l ≡ fieldsAt n k text at []
-  unfolding fieldsAt toldReach
-  reading-stop l f m q h e g = rw (c .is, left h, fieldsAt, sym e ∙ g)
+  -- what is answered, and left in the table
+  abbrev Into : Reach → List ℕ → Type 0
+  Into r after = (r ≡ reachAt n k text at) × (after ≡ laid (numbersAt n k text at) table₀)
+
+  -- nothing more is read
+  ends : n ≤ length table₀ → numbersAt (n - i) (k + i) text p ≡ [] → table ≡ laid (numbersAt n k text at) table₀
+  ends w e =
+      laid-front table₀ table (numbersAt n k text at) i (omega (arith, c .most, c .long))
+      (c .numbers ∙ rw e (append-nil (take i table))) (c .rest)
+
+  pub reading-stop : (f : Field) (m q : ℕ) → n ≤ length table₀ → i < n → f ≡ itemAt (k + i) text p → f ≡ Unfit m q → Into (Stopped m q) table
+  unfolding fieldsAt numbersAt reachOf
+  reading-stop f m q w h e g = (rw (c .is, left h, fieldsAt, sym e ∙ g), ends w (rw (left h, numbersAt, sym e ∙ g)))
 
   pub reading-more : (f : Field) (x q : ℕ) (after : List ℕ) → n ≤ length table₀ → i < n → f ≡ itemAt (k + i) text p → f ≡ Number x q → after ≡ set table i x → Reading n k text at table₀ after q (i + 1)
-  unfolding fieldsAt
+  unfolding fieldsAt numbersAt
   reading-more f x q after w h e g s =
       let z : k + (i + 1) ≡ suc (k + i) = omega arith in
       let t : take (i + 1) after ≡ take i table ++ (x ∷ []) = rw (s, add-one i) (take-suc-set table i x (omega (arith, c .long))) in
+      let d : drop (i + 1) table ≡ drop (i + 1) table₀ = sym (drop-drop 1 i table) ∙ rw (c .rest) (drop-drop 1 i table₀) in
       record {
         is = rw (c .is, left h, fieldsAt, sym e ∙ g, z, t);
+        numbers = c .numbers ∙ rw (left h, numbersAt, sym e ∙ g, z, t) (sym (append-assoc (take i table) (x ∷ []) (numbersAt (n - (i + 1)) (suc (k + i)) text q)));
+        rest = rw s (drop-set-lt (i + 1) table i x (omega arith) ∙ d);
         most = omega arith;
         long = ap length s ∙ length-set table i x ∙ c .long;
       }
 
-  pub reading-done : n ≤ i → toldReach (Past p) (take n table) ≡ fieldsAt n k text at []
-  unfolding fieldsAt toldReach
-  reading-done h =
+  pub reading-done : n ≤ length table₀ → n ≤ i → Into (Past p) table
+  unfolding fieldsAt numbersAt reachOf
+  reading-done w h =
       let z : n - i ≡ 0 = omega arith in
-      let e : i ≡ n = omega (arith, c .most) in
-      rw (c .is, z, fieldsAt, e)
+      (rw (c .is, z, fieldsAt), ends w (rw (z, numbersAt)))
+
+-- the offset reached
+pub reached-past : (f : Reach) (p at : ℕ) → f ≡ Past p → p ≡ reached f at
+unfolding reached
+reached-past f p at e = rw e
+
+pub reached-stopped : (f : Reach) (n p at : ℕ) → f ≡ Stopped n p → at ≡ reached f at
+unfolding reached
+reached-stopped f n p at e = rw e
 
 -- ---- a table is copied
 

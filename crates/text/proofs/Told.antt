@@ -5,8 +5,8 @@ use mathlib.Core.List.{List, [], _∷_, _++_}
 use Prim.Native.Nat.{ℕ, _+_, _*_, _/_, _%_, _≤_, _<_}
 use native.Mathlib.Omega.{arith}
 use borrow.Author.Tests.{eq-eqb, ne-eqb, le-leb, lt-leb, lt-ltb, le-ltb}
-use lib.ListN.{length, getD, take, drop}
-use lib.Seq.{sets-eq, getD-take}
+use lib.ListN.{length, getD, drop}
+use lib.Seq.{sets-eq}
 use Rattle.base.specs.declared.Refusal.{Refusal}
 use Rattle.base.specs.Answers.{Answer, given, refused}
 use Rattle.base.specs.Chains.{andThen, mapped}
@@ -22,11 +22,9 @@ use Rattle.text.specs.declared.answers.Read.{Read}
 use Rattle.text.specs.declared.answers.Read.the-variants as read
 use Rattle.text.specs.declared.answers.Wrote.{Wrote}
 use Rattle.text.specs.declared.answers.Wrote.the-variants as wrote
-use Rattle.text.specs.declared.inner.table.Reach.{Reach}
-use Rattle.text.specs.declared.inner.table.Reach.the-variants.{Past, Stopped}
 use Rattle.text.specs.Fields.{kind}
-use Rattle.text.specs.Spans.{Span, fieldsAt, toldReach}
-use Rattle.text.specs.Texts.{whole, rowsAt, parsed, faultless, readText, readInto, filled, Heading, heading, toldRead}
+use Rattle.text.specs.Spans.{Span, fieldsAt}
+use Rattle.text.specs.Texts.{whole, rowsAt, parsed, readText, readInto, filled, Heading, heading, toldRead}
 use Rattle.text.specs.Written.{numbers, written, writing, printed, toldWrote, Put}
 use Rattle.text.proofs.Headings.{first, second, third}
 use Rattle.text.proofs.Sequences.{FitAll, OnGiven, Shown, fields-show, items-fit}
@@ -47,10 +45,10 @@ short-table C j h e =
 -- ---- the reader
 
 -- what is said of an answer, and of the table after it
-abbrev ReadAs : Answer Chart → Read → List ℕ → List ℕ → Type 0
+abbrev pub ReadAs : Answer Chart → Read → List ℕ → List ℕ → Type 0
 ReadAs a r table after = (toldRead r ≡ mapped heading a) × (after ≡ filled a table)
 
-read-refused : (a : Answer Chart) (table : List ℕ) (r : Refusal) → a ≡ refused r → ReadAs a (read.Refused r) table table
+pub read-refused : (a : Answer Chart) (table : List ℕ) (r : Refusal) → a ≡ refused r → ReadAs a (read.Refused r) table table
 unfolding filled toldRead
 read-refused a table r e = (rw e, rw e)
 
@@ -73,24 +71,6 @@ pub whole-end : (text : List ℕ) (at : ℕ) (C : Chart) → length text ≤ at 
 unfolding whole
 whole-end text at C h = rw (le-ltb _ _ h, whole)
 
-module _ (text : List ℕ) (at n alarm count : ℕ) (table : List ℕ) (r : Reach) (l : List ℕ) (is : toldReach r l ≡ fieldsAt (6 * count) 6 text at []) where
-  pub rows-stopped : (s : Refusal) (m p : ℕ) → s ≡ sole m p → r ≡ Stopped m p → ReadAs (faultless (rowsAt text at n alarm count)) (read.Refused s) table table
-  unfolding rowsAt toldReach
-  rows-stopped s m p g e = read-refused _ table s (rw (← is, e, g))
-
-  pub rows-after : (s : Refusal) (end : ℕ) → s ≡ sole 14 end → r ≡ Past end → end < length text → ReadAs (faultless (rowsAt text at n alarm count)) (read.Refused s) table table
-  unfolding rowsAt toldReach
-  rows-after s end g e h = read-refused _ table s (rw (← is, e, whole-after text end _ h, g))
-
-  pub rows-whole : (end : ℕ) (a : Read) (after : List ℕ) → r ≡ Past end → length text ≤ end → length l % 6 ≡ 0
-      → ReadAs (unless (refusal (record { places = n; alarm = alarm; table = l })) (record { places = n; alarm = alarm; table = l })) a table after
-      → ReadAs (faultless (rowsAt text at n alarm count)) a table after
-  unfolding rowsAt toldReach
-  rows-whole end a after e h w g =
-      let C : Chart = record { places = n; alarm = alarm; table = l } in
-      let i : faultless (rowsAt text at n alarm count) ≡ unless (refusal C) C = rw (← is, e, whole-end text end C h, whole-rows C w) in
-      rw i g
-
 -- the count of a first record that is read is at most 128
 third-few : (l : List ℕ) → length l ≡ 6 → FitAll 0 l → getD l 2 0 ≤ 128
 unfolding kind
@@ -104,11 +84,6 @@ few-counted text s e =
     let g : Shown 6 0 text 0 [] s = subst (OnGiven (Shown 6 0 text 0 [])) e (fields-show 6 0 text 0 []) in
     rw (g .is) (third-few (g .numbers) (g .count) (items-fit (g .numbers) 0 _ _ (g .items)))
 
-parsed-none : (text : List ℕ) → length text ≡ 0 → parsed text ≡ refused (sole 11 0)
-unfolding parsed
-parsed-none [] h = refl
-parsed-none (b ∷ s) h = absurd (omega arith)
-
 pub parsed-some : (text : List ℕ) → (length text ≡ 0 → ⊥) → parsed text
     ≡ andThen (fieldsAt 6 0 text 0 []) (λ (f : Span). rowsAt text (f .next) (getD (f .numbers) 0 0) (getD (f .numbers) 1 0) (getD (f .numbers) 2 0))
 unfolding parsed
@@ -121,32 +96,9 @@ module _ (text table : List ℕ) where
   read-unsized s g h = read-refused _ table s (rw (ne-eqb _ _ h, readInto, g))
 
   module _ (sized : length table ≡ 768) where
-    read-sized : readInto text table ≡ readText text
+    pub read-sized : readInto text table ≡ readText text
     unfolding readInto
     read-sized = rw (eq-eqb _ _ sized, readInto)
-
-    pub read-empty : (s : Refusal) → s ≡ sole 11 0 → length text ≡ 0 → ReadAs (readInto text table) (read.Refused s) table table
-    unfolding readText
-    read-empty s g h = read-refused _ table s (read-sized ∙ rw (parsed-none text h, g))
-
-    module _ (some-byte : length text ≡ 0 → ⊥) (r : Reach) (l : List ℕ) (is : toldReach r (take 6 l) ≡ fieldsAt 6 0 text 0 []) where
-      pub read-stopped : (s : Refusal) (m p : ℕ) → s ≡ sole m p → r ≡ Stopped m p → ReadAs (readInto text table) (read.Refused s) table table
-      unfolding readText toldReach
-      read-stopped s m p g e = read-refused _ table s (read-sized ∙ rw (parsed-some text some-byte, ← is, e, g))
-
-      pub read-few : (at : ℕ) → r ≡ Past at → getD l 2 0 ≤ 128
-      unfolding toldReach
-      read-few at e =
-          let n = few-counted text (record { numbers = take 6 l; next = at }) (sym is ∙ rw e) in
-          rw (getD-take 6 l 2 0 (omega arith)) at n
-
-      pub read-rows : (at : ℕ) (a : Read) (after : List ℕ) → r ≡ Past at → ReadAs (faultless (rowsAt text at (getD l 0 0) (getD l 1 0) (getD l 2 0))) a table after
-          → ReadAs (readInto text table) a table after
-      unfolding readText toldReach
-      read-rows at a after e g =
-          let i : readInto text table ≡ faultless (rowsAt text at (getD l 0 0) (getD l 1 0) (getD l 2 0)) =
-          read-sized ∙ rw (parsed-some text some-byte, ← is, e, getD-take 6 l 0 0 (omega arith), getD-take 6 l 1 0 (omega arith), getD-take 6 l 2 0 (omega arith)) in
-          rw i g
 
 -- ---- the writer
 

@@ -96,9 +96,3 @@ missing k text at = eqb (k % 6) 0 && leb (length text) at
 unfoldable pub itemAt : ℕ → List ℕ → ℕ → Field
 itemAt k text at =
     elim (missing k text at) [ true ↦ Unfit 14 (length text) | false ↦ closed k text (fieldAt (kind k) text at) ]
-
--- ---- the walk over a text
--- the offset reached after a field: past a number, and still where it was at a refusal
-unfoldable pub reached : Field → ℕ → ℕ
-reached (Number x p) at = p
-reached (Unfit n p) at = at

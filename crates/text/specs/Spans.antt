@@ -5,8 +5,6 @@ use Rattle.base.specs.Answers.{Answer, given, refused}
 use Rattle.base.specs.Refusals.{sole}
 use Rattle.text.specs.declared.fields.Field.{Field}
 use Rattle.text.specs.declared.fields.Field.the-variants.{Number, Unfit}
-use Rattle.text.specs.declared.inner.table.Reach.{Reach}
-use Rattle.text.specs.declared.inner.table.Reach.the-variants.{Past, Stopped}
 use Rattle.text.specs.Fields.{itemAt}
 
 -- the numbers that were read, and the offset after them
@@ -23,8 +21,3 @@ onField (Unfit n p) f = refused (sole n p)
 unfoldable pub fieldsAt : ℕ → ℕ → List ℕ → ℕ → List ℕ → Answer Span
 fieldsAt zero k text at before = given (record { numbers = before; next = at })
 fieldsAt (suc n) k text at before = onField (itemAt k text at) (λ x p. fieldsAt n (suc k) text p (before ++ (x ∷ [])))
-
--- what the code's answer says, with the numbers that it left in its table
-unfoldable pub toldReach : Reach → List ℕ → Answer Span
-toldReach (Past p) l = given (record { numbers = l; next = p })
-toldReach (Stopped n p) l = refused (sole n p)

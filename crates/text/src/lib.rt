@@ -10,15 +10,13 @@ use answers::Wrote;
 use base::sole;
 use chart::charts::Head;
 use chart::charts::Judged;
-use inner::reader::rows_into;
-use inner::table::Reach;
-use inner::table::fields_into;
+use inner::reader::hand_over;
+use inner::walk::parse;
 use inner::writer::put_chart;
 
 pub mod answers; // answers.rt: what reading and writing answer
 pub mod fields; // fields.rt: the fields of a text
 pub mod inner; // inner.rt: what reading and writing are made of
-pub mod walk; // walk.rt: the walk over a text
 
 // The chart of a text: its rows go to the front of the table, which has 768 entries. A refusal leaves the table as it was.
 pub fn read(text: &[u8], table: &mut [u32]) -> Read
@@ -28,19 +26,10 @@ pub fn read(text: &[u8], table: &mut [u32]) -> Read
     if table.len() != 768 {
         return Read::Refused(sole(21, 0));
     }
-    if text.len() == 0 {
-        return Read::Refused(sole(11, 0));
-    }
-    let mut first = [0u32; 6];
-    match fields_into(text, 0, 0, 6, &mut first) {
-        Reach::Stopped(number, position) => Read::Refused(sole(number, position)),
-        Reach::Past(at) => {
-            let head = Head {
-                places: first[0],
-                alarm: first[1],
-            };
-            rows_into(text, at, head, first[2], table)
-        }
+    let mut rows = [0u32; 768];
+    match parse(text, &mut rows) {
+        Read::Refused(r) => Read::Refused(r),
+        Read::Chart(head, count) => hand_over(head, &rows[..6 * count], count, table),
     }
 }
 

@@ -1,6 +1,9 @@
 -- `text::read` meets its contract: a law for each way through it. Assumes nothing.
-use Rattle.text.proofs.Told.{read-unsized, read-empty, read-stopped, read-few, read-rows}
+use lib.ListN.{length-take}
+use Rattle.text.proofs.Told.{read-unsized}
+use Rattle.text.proofs.Walking.{spelt, handed, read-unspelt, read-spelt}
 use borrow.Author.Needs.{needs}
+use native.Mathlib.Omega.{arith}
 use Rattle.text.proofs.read.Statement.{statement}
 use Rattle.text.proofs.read.Tie as tie
 
@@ -10,47 +13,38 @@ sole-requires c κs = search needs
 returns : tie.Need-returns
 returns c = read-unsized _ _ _ (c .sole .ensures) (c .before .if1 .taken)
 
-sole-requires-2 : tie.Need-sole-requires-2
-sole-requires-2 c κs = search needs
+slice-aggregate-parse : tie.Need-slice-aggregate-parse
+slice-aggregate-parse c = search needs
+
+parse-requires : tie.Need-parse-requires
+parse-requires c κs = search needs
+
+enum-known-r : tie.Need-enum-known-r
+enum-known-r c = search needs
+
+enum-known-head : tie.Need-enum-known-head
+enum-known-head c = search needs
+
+mul-rows : tie.Need-mul-rows
+mul-rows c = let s = spelt _ _ (c .before .before .before .before .parse .ensures .0) _ _ (c .before .head .given .1) in omega (arith, s .rows, s .few)
+
+array-share-prefix-rows : tie.Need-array-share-prefix-rows
+array-share-prefix-rows c = let s = spelt _ _ (c .before .before .before .before .parse .ensures .0) _ _ (c .before .head .given .1) in omega (arith, s .rows, s .few)
+
+slice-aggregate-hand-over : tie.Need-slice-aggregate-hand-over
+slice-aggregate-hand-over c = let s = spelt _ _ (c .before .before .before .before .before .parse .ensures .0) _ _ (c .before .before .head .given .1) in simp length-take (omega (arith, s .rows, s .few))
+
+hand-over-requires : tie.Need-hand-over-requires
+hand-over-requires c κs = handed _ (c .before .before .before .before .before .before .before .before .before .before .before .args .table .now) _ _ _ _ (c .before .before .before .before .before .before .before .before .if1 .left) (spelt _ _ (c .before .before .before .before .before .before .parse .ensures .0) _ _ (c .before .before .before .head .given .1)) (c .before .before .before .before .before .before .parse .ensures .1)
 
 returns-2 : tie.Need-returns-2
-returns-2 c = read-empty _ _ (c .before .before .if1 .left) _ (c .sole2 .ensures) (c .before .if2 .taken)
-
-slice-aggregate-fields-into : tie.Need-slice-aggregate-fields-into
-slice-aggregate-fields-into c = search needs
-
-fields-into-requires : tie.Need-fields-into-requires
-fields-into-requires c κs = search needs
-
-enum-known-number : tie.Need-enum-known-number
-enum-known-number c = search needs
-
-enum-known-at : tie.Need-enum-known-at
-enum-known-at c = search needs
-
-array-read-rows-into : tie.Need-array-read-rows-into
-array-read-rows-into c = search needs
-
-array-read-t22 : tie.Need-array-read-t22
-array-read-t22 c = search needs
-
-array-read-rows-into-2 : tie.Need-array-read-rows-into-2
-array-read-rows-into-2 c = search needs
-
-rows-into-requires : tie.Need-rows-into-requires
-rows-into-requires c κs = (read-few (c .before .before .before .before .before .before .before .before .before .before .before .args .text .now) (c .before .before .before .before .before .before .before .before .before .before .before .args .table .now) (c .before .before .before .before .before .before .before .before .if1 .left) (c .before .before .before .before .before .before .before .if2 .left) _ (c .before .before .before .before .before .fields-into .last .1 .1 .1 .1 .0) (c .before .before .before .before .before .fields-into .ensures .0) _ (c .before .before .at .given .1), search needs)
-
-sole-requires-3 : tie.Need-sole-requires-3
-sole-requires-3 c κs = search needs
-
-returns-3 : tie.Need-returns-3
-returns-3 c = read-stopped _ _ (c .before .before .before .before .before .before .before .before .if1 .left) (c .before .before .before .before .before .before .before .if2 .left) _ (c .before .before .before .before .before .fields-into .last .1 .1 .1 .1 .0) (c .before .before .before .before .before .fields-into .ensures .0) _ _ _ (c .sole3 .ensures) (c .before .before .number .given .1)
+returns-2 c = read-unspelt _ _ (c .before .before .before .before .before .before .if1 .left) _ (c .before .before .before .before .parse .ensures .0) _ (c .before .r .given .1)
 
 same-length : tie.Need-same-length
 same-length c = search needs
 
-returns-4 : tie.Need-returns-4
-returns-4 c = read-rows _ _ (c .before .before .before .before .before .before .before .before .before .before .before .if1 .left) (c .before .before .before .before .before .before .before .before .before .before .if2 .left) _ (c .before .before .before .before .before .before .before .before .fields-into .last .1 .1 .1 .1 .0) (c .before .before .before .before .before .before .before .before .fields-into .ensures .0) _ _ _ (c .before .before .before .before .before .at .given .1) (c .before .before .rows-into .ensures)
+returns-3 : tie.Need-returns-3
+returns-3 c = read-spelt _ _ (c .before .before .before .before .before .before .before .before .before .before .before .if1 .left) _ (c .before .before .before .before .before .before .before .before .before .parse .ensures .0) _ _ _ _ _ _ (c .before .before .before .before .before .before .head .given .1) (c .before .before .before .before .before .before .before .before .before .parse .ensures .1) (c .before .before .hand-over .ensures)
 
 pub read-spec : {M : Type 1} → statement M
 read-spec =
@@ -58,17 +52,14 @@ read-spec =
     (tie.spec
     sole-requires
     returns
-    sole-requires-2
+    slice-aggregate-parse
+    parse-requires
+    enum-known-r
+    enum-known-head
+    mul-rows
+    array-share-prefix-rows
+    slice-aggregate-hand-over
+    hand-over-requires
     returns-2
-    slice-aggregate-fields-into
-    fields-into-requires
-    enum-known-number
-    sole-requires-3
-    enum-known-at
-    array-read-rows-into
-    array-read-t22
-    array-read-rows-into-2
-    rows-into-requires
-    returns-3
     same-length
-    returns-4)
+    returns-3)

@@ -1,11 +1,11 @@
 // Fields read into a table of numbers.
 ghost use mathlib.Core.Path.{_≡_};
-ghost use mathlib.Core.List.{[], _++_};
+ghost use mathlib.Core.List.{_++_};
 ghost use Prim.Native.Nat.{_+_, _<_, _≤_};
-ghost use lib.ListN.{length, take, drop, set};
-ghost use Rattle.text.specs.Spans.{fieldsAt, toldReach};
+ghost use lib.ListN.{length, drop, set};
+ghost use Rattle.text.specs.Walk.{numbersAt, laid, reachAt, reached};
 use crate::fields::Field;
-use crate::walk::item;
+use crate::fields::item_at;
 
 // The offset after the fields read, or the refusal and its offset.
 pub enum Reach {
@@ -21,17 +21,16 @@ fn put(table: &mut [u32], i: usize, x: u32)
     table[i] = x;
 }
 
-// So many fields of a text, from this field at an offset on, into the front of a table.
+// So many fields of a text, from this field at an offset on, into the front of a table: up to the first refusal, and the rest stays.
 pub fn fields_into(text: &[u8], at: usize, field: usize, n: usize, table: &mut [u32]) -> Reach
-    requires { ⌜ n ≤ length (now table) ⌝ }
-    requires { ⌜ field + n ≤ 774 ⌝ }
-    ensures { λ r. ⌜ (toldReach r (take n (now (table .exit))) ≡ fieldsAt n field (now (text .entry)) at [])
-        × (length (now (table .exit)) ≡ length (now (table .entry))) ⌝ }
+    requires { ⌜ (n ≤ length (now table)) × (field + n ≤ 774) ⌝ }
+    ensures { λ r. ⌜ (r ≡ reachAt n field (now (text .entry)) at)
+        × (now (table .exit) ≡ laid (numbersAt n field (now (text .entry)) at) (now (table .entry))) ⌝ }
 {
     let mut p = at;
     let mut i = 0;
     while i < n {
-        match item(text, p, field + i) {
+        match item_at(text, p, field + i) {
             Field::Unfit(number, position) => {
                 return Reach::Stopped(number, position);
             }
@@ -43,6 +42,16 @@ pub fn fields_into(text: &[u8], at: usize, field: usize, n: usize, table: &mut [
         i += 1;
     }
     Reach::Past(p)
+}
+
+// The offset reached by fields that were read from an offset on.
+pub fn after_fields(f: Reach, at: usize) -> usize
+    ensures { λ r. ⌜ r ≡ reached f at ⌝ }
+{
+    match f {
+        Reach::Past(p) => p,
+        Reach::Stopped(_, _) => at,
+    }
 }
 
 // The numbers into the front of a table.

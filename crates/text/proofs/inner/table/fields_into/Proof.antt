@@ -14,11 +14,11 @@ abbrev μ-loop : tie.MeasureT-loop
 loop-holds : tie.Need-loop-holds Inv-loop μ-loop
 loop-holds c = search reading-start
 
-add-item : tie.Need-add-item Inv-loop μ-loop
-add-item c = search needs
+add-item-at : tie.Need-add-item-at Inv-loop μ-loop
+add-item-at c = search needs
 
-item-requires : tie.Need-item-requires Inv-loop μ-loop
-item-requires c κs = search needs
+item-at-requires : tie.Need-item-at-requires Inv-loop μ-loop
+item-at-requires c κs = search needs
 
 enum-known-number : tie.Need-enum-known-number Inv-loop μ-loop
 enum-known-number c = search needs
@@ -27,7 +27,7 @@ same-length : tie.Need-same-length Inv-loop μ-loop
 same-length c = search needs
 
 returns : tie.Need-returns Inv-loop μ-loop
-returns c = (search reading-stop, search needs)
+returns c = reading-stop _ _ _ _ _ _ _ _ (c .before .before .before .before .before .loop .inv) _ _ _ (c .before .before .before .before .before .before .before .before .pre .0) (c .before .before .before .before .loop-test .taken) (c .before .before .before .item-at .ensures) (c .before .number .given .1)
 
 enum-known-x : tie.Need-enum-known-x Inv-loop μ-loop
 enum-known-x c = search needs
@@ -48,7 +48,7 @@ same-length-2 : tie.Need-same-length-2 Inv-loop μ-loop
 same-length-2 c = search needs
 
 returns-2 : tie.Need-returns-2 Inv-loop μ-loop
-returns-2 c = (search reading-done, search needs)
+returns-2 c = reading-done _ _ _ _ _ _ _ _ (c .before .loop .inv) (c .before .before .before .before .pre .0) (c .loop-test .left)
 
 pub fields-into-spec : {M : Type 1} → statement M
 fields-into-spec =
@@ -57,8 +57,8 @@ fields-into-spec =
     Inv-loop
     μ-loop
     loop-holds
-    add-item
-    item-requires
+    add-item-at
+    item-at-requires
     enum-known-number
     same-length
     returns
