@@ -128,6 +128,28 @@ fn the_old_chart_first() {
     assert_eq!(printed(Some(&text(2, 2, &[[0, 1, 0, 0, 0, 0]])), Some("x")), "9999,3,0,0\r\n");
 }
 
+/// A line of the reference's table of refusals: the new text, and what is printed.
+fn example(line: &str) -> Option<(String, String)> {
+    let (text, rest) = line.strip_prefix("| `")?.split_once("` | `9999,")?;
+    let (answer, _) = rest.split_once("` |")?;
+    Some((text.replace('␍', "\r").replace('␊', "\n"), format!("9999,{answer}\r\n")))
+}
+
+/// What docs/REFERENCE.md says is printed: for its worked example and each of its refusals.
+#[test]
+fn examples_of_the_reference() {
+    let reference = include_str!("../../docs/REFERENCE.md");
+    let examples: Vec<(String, String)> = reference.lines().filter_map(example).collect();
+    assert!(examples.len() >= 19, "only {} examples", examples.len());
+    for (text, answer) in examples {
+        assert_eq!(printed(Some(OLD), Some(&text)), answer, "{text:?}");
+    }
+    for (from, to) in [("0,1,0,1,0,5", "0,1,0,1,0,6"), ("", ""), ("6,5,5,0,0,0", "6,0,5,0,0,0")] {
+        let shown: String = printed(Some(OLD), Some(&OLD.replace(from, to))).lines().map(|l| format!("    {l}\n")).collect();
+        assert!(reference.contains(&format!("\n\n{shown}\n")), "not in the reference:\n{shown}");
+    }
+}
+
 #[test]
 fn long_files() {
     // More than the program reads of a file: refused at the first byte after the last record.
