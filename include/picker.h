@@ -98,8 +98,8 @@ uint64_t picker_write(uint32_t places, uint32_t alarm,
                       const uint32_t *rows, size_t rows_len, /* rows_len: entries, six for each row */
                       uint8_t *bytes, size_t bytes_len);     /* PICKER_TEXT_LEN or more */
 
-/* The rows that leave a place of the chart named, at the front of rows; entries past them stay.
- * picker_lookup_rows. There are none where the chart named is faulty, or there is no such chart or place. */
+/* The rows that leave a place of the chart named, at the front of rows; entries past them stay. picker_lookup_rows.
+ * There are none where the chart named is faulty, by its length too, or there is no such chart or place. */
 uint64_t picker_lookup(uint32_t old_places, uint32_t old_alarm,
                        const uint32_t *old_rows, size_t old_rows_len, /* old_rows_len: entries, six for each row */
                        uint32_t new_places, uint32_t new_alarm,
