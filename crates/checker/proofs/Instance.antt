@@ -122,14 +122,14 @@ unfolding shaped marksFit targetsFit startFits marks
 instance-passes = passes C C R sized-so no-fault no-fault (inl refl, (marks-so, targets-so)) (inl (refl, (refl, inl (λ e. omega arith)))) rules-so
 
 -- ---- what it promises
-pub zeros : List ℕ
+unfoldable pub zeros : List ℕ
 zeros = replicate 64 0
 
 pub zeros-values : Values zeros
 unfolding zeros
 zeros-values = record { count = refl; small = λ i. rw (zeros-at 64 i) (omega arith) }
 
-pub ones : List ℕ
+unfoldable pub ones : List ℕ
 ones = replicate 64 1
 
 -- the entries of a table that is written out

@@ -1,0 +1,79 @@
+-- The promise is not empty of what is built: a record that a build leaves, with a run that it covers and that has an old run therefore, a
+-- run that it does not cover, and a list of rows that is no run. Assumes nothing.
+use mathlib.Core.Path.{_≡_, refl, ap}
+use mathlib.Core.Bool.{true, false}
+use mathlib.Core.List.{List, [], _∷_}
+use mathlib.Core.Option.{none}
+use Prim.Native.Nat.{ℕ}
+use lib.ListN.{set, replicate}
+use Rattle.chart.specs.Charts.{Chart}
+use Rattle.chart.specs.Faults.{refusal as chartRefusal}
+use Rattle.chart.specs.Runs.{begin, run, reaches}
+use Rattle.chart.proofs.Faultless.{faultless}
+use Rattle.checker.specs.Records.{Record, recordOf, covered}
+use Rattle.checker.specs.Checks.{refusal}
+use Rattle.checker.proofs.Demand3.{demand-3-first}
+use Rattle.checker.proofs.Instance.{zeros, zeros-values, words-of}
+use Rattle.condition.specs.Builds.{recorded}
+use Rattle.condition.proofs.Demand3.{record-passes}
+use Rattle.base.specs.Options as base-options
+use Rattle.base.specs.Repeat as base-repeat
+use Rattle.base.specs.Walks as base-walks
+use Rattle.base.specs.Tests as base-tests
+use Rattle.operations.specs.Operations as operations-operations
+use Rattle.chart.specs.Charts as chart-charts
+use Rattle.chart.specs.Faults as chart-faults
+use Rattle.chart.specs.Runs as chart-runs
+use Rattle.align.specs.Sets as align-sets
+use Rattle.align.specs.Steps as align-steps
+use Rattle.checker.specs.Records as checker-records
+use Rattle.graph.specs.Graphs as builder-graphs
+use Rattle.detector.specs.Turns as builder-turns
+use Rattle.marker.specs.Marks as builder-marks
+use Rattle.condition.specs.Builds as builder-builds
+
+-- both charts, `3,2,2,0,0,0 0,1,0,0,0,1 1,2,0,1,0,2`: two assignments, one after the other, lead to the alarm
+abbrev pub C : Chart
+C = record { places = 3; alarm = 2; table = 0 ∷ 1 ∷ 0 ∷ 0 ∷ 0 ∷ 1 ∷ 1 ∷ 2 ∷ 0 ∷ 1 ∷ 0 ∷ 2 ∷ [] }
+
+-- what is built of it: the start open, the pair after row 0 covered, that of both alarms beyond; a set is nowhere needed
+pub R : Record
+R = recordOf 0 (set (set (set (replicate 4160 0) 0 1) 65 3) 130 4) (set (set (replicate 8192 65535) 0 65) 130 130) (replicate 4096 0)
+
+pub is-built : recorded C C ≡ R
+unfolding R base-options.firstOf base-repeat.repeated base-walks.pass base-walks.firstFrom chart-charts.leavingOf chart-charts.leaving operations-operations.kind operations-operations.operandB operations-operations.assignedC operations-operations.operandC operations-operations.reads operations-operations.same align-sets.alone align-sets.joined align-sets.with align-sets.without align-sets.meets align-sets.holdsAll align-sets.setOf align-sets.readSet align-steps.find align-steps.along align-steps.matching align-steps.matched align-steps.rewritten align-steps.assigned align-steps.onward align-steps.follow align-steps.followed align-steps.counterpart align-steps.assumed align-steps.moved align-steps.arrived align-steps.step builder-graphs.marked builder-graphs.gone builder-graphs.cleared builder-graphs.untargeted builder-graphs.keep builder-graphs.aim builder-graphs.due builder-graphs.waits builder-graphs.join builder-graphs.unwait builder-turns.lowest builder-turns.next builder-turns.setNow builder-turns.begun builder-turns.stepOf builder-turns.arrived builder-turns.processed builder-turns.rowDone builder-turns.secondDone builder-turns.taken builder-turns.explored builder-marks.plainMark builder-marks.plainMarks builder-marks.inQ builder-marks.opening builder-marks.nextOpening builder-marks.allOpened builder-marks.transitions builder-marks.cover builder-marks.covered builder-marks.allCovered builder-marks.finalMarks builder-builds.redirected builder-builds.finalTargets builder-builds.alone builder-builds.lone builder-builds.finished builder-builds.built builder-builds.startOf builder-builds.recorded
+is-built = refl
+
+-- ---- it passes, as all that is built does
+no-refusal : chartRefusal C ≡ none
+unfolding chart-faults.refusal base-options.firstOf base-tests.someBelow chart-charts.leavingOf chart-charts.leaving chart-faults.countFault chart-faults.alarmFault chart-faults.rowFault chart-faults.clash chart-faults.conflictFault chart-faults.rowsFault chart-faults.fault operations-operations.kind operations-operations.operandB operations-operations.assignedC operations-operations.operandC operations-operations.operandsFit operations-operations.reads
+no-refusal = refl
+
+pub built-passes : refusal C C (recorded C C) ≡ none
+built-passes = let F = faultless C no-refusal in record-passes C C F F
+
+-- ---- what it promises
+-- rows 0 and 1, from zeros, are a run that reaches the new alarm and is covered, at node 65, before it comes there
+pub reached-alarm : reaches C zeros (0 ∷ 1 ∷ []) ≡ true
+unfolding zeros operations-operations.kind operations-operations.operandB operations-operations.value operations-operations.related operations-operations.holds chart-runs.lets chart-runs.after chart-runs.ready chart-runs.run chart-runs.alarmed chart-runs.reaches
+reached-alarm = refl
+
+pub is-covered : covered C (recorded C C) (0 ∷ 1 ∷ []) ≡ true
+unfolding R chart-charts.leavingOf checker-records.nodes checker-records.covered
+is-covered = ap (λ (R : Record). covered C R (0 ∷ 1 ∷ [])) is-built
+
+-- so there is an old run that reaches the old alarm
+pub old-run : (js : List ℕ) × (reaches C zeros js ≡ true)
+old-run =
+    demand-3-first C C (words-of (C .table) tt) (words-of (C .table) tt) (recorded C C) built-passes zeros (0 ∷ 1 ∷ []) zeros-values
+    reached-alarm is-covered
+
+-- the run of no rows stays at the start, which is open: it is not covered
+pub not-covered : covered C (recorded C C) [] ≡ false
+unfolding R chart-charts.leavingOf checker-records.nodes checker-records.covered
+not-covered = ap (λ (R : Record). covered C R []) is-built
+
+-- row 1 does not leave the start: the list is no run
+pub no-run : run C (begin C zeros) (1 ∷ []) ≡ none
+unfolding zeros operations-operations.kind operations-operations.operandB operations-operations.value operations-operations.related operations-operations.holds chart-runs.lets chart-runs.after chart-runs.ready chart-runs.run chart-runs.alarmed chart-runs.reaches
+no-run = refl
