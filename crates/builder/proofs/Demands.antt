@@ -1,8 +1,8 @@
--- Demand 3, both halves, of the definitions alone. The first: a run that reaches the new alarm and is covered by a record that the check
--- passes has a run of the old chart, from the same values, that reaches the old alarm. The second: the check passes what a build leaves,
--- whatever its buffers held; and none is refused that has faultless charts and the stated lengths. The contracts of `checker::check` and
--- `builder::build` say each half of the code. Assumes nothing.
-use mathlib.Core.Path.{_≡_, refl, ap, _∙_}
+-- Demand 3, both halves, of the definitions alone. The first: a run that reaches the new alarm and is covered by a record
+-- that the check passes has a run of the old chart, from the same values, that reaches the old alarm. The second: the check
+-- passes what a build leaves, whatever its buffers held; and no build is refused that has faultless charts and the stated
+-- lengths. The contracts of `checker::check` and `builder::build` say each half of the code. Assumes nothing.
+use mathlib.Core.Path.{_≡_, ap, _∙_}
 use mathlib.Core.Option.{none}
 use Rattle.base.specs.Answers.{given}
 use Rattle.base.specs.Says.{Test, bool}
@@ -19,9 +19,10 @@ use Rattle.condition.specs.declared.Summary.{Summary}
 use Rattle.condition.specs.Builds.{recorded, summary}
 use Rattle.condition.proofs.Demand3.{sound, record-passes}
 use Rattle.builder.specs.Answers.{lent, refusal, answered, left}
-use Rattle.builder.proofs.Answering.{Accepted, accepted}
+use Rattle.builder.proofs.Answering.{accepted}
 
-pub first-half : (old new : Chart) → Words (old .table) → Words (new .table) → (R : Record) → checkRefusal old new R ≡ none → Promise old new R
+pub first-half : (old new : Chart) → Words (old .table) → Words (new .table) → (R : Record)
+    → checkRefusal old new R ≡ none → Promise old new R
 first-half = demand-3-first
 
 module _ (old new : Chart) (g : Graph) where

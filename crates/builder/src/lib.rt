@@ -131,8 +131,8 @@ fn complete<'a>(
     finish(old, new, marks, targets, sets, waiting, &seen)
 }
 
-// A build, or the refusal that is due, which writes nothing. What a build leaves, with the start it answers, the check passes, and it is what
-// the source's Algorithms 2 and 1 return.
+// A build, or the refusal that is due, which writes nothing. What a build leaves, with the start it answers, the check
+// passes, and it is what the source's Algorithms 2 and 1 return.
 pub fn build<'a>(
     old: Head,
     old_rows: &'a [u32],
@@ -149,7 +149,8 @@ pub fn build<'a>(
     ensures passes { λ r. ⌜ ((s : Summary) → r ≡ Done s
         → checkRefusal (charted old (now («old_rows» .entry))) (charted new (now («new_rows» .entry))) (recordOf (s .start) (now (marks .exit)) (now (targets .exit)) (now (sets .exit))) ≡ none) ⌝ }
     ensures algorithms { λ r. ⌜ ((s : Summary) → r ≡ Done s
-        → Returned (charted old (now («old_rows» .entry))) (charted new (now («new_rows» .entry))) (recordOf (s .start) (now (marks .exit)) (now (targets .exit)) (now (sets .exit)))) ⌝ }
+        → Returned (charted old (now («old_rows» .entry))) (charted new (now («new_rows» .entry)))
+        (recordOf (s .start) (now (marks .exit)) (now (targets .exit)) (now (sets .exit)))) ⌝ }
 {
     match judge(
         old,

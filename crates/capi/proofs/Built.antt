@@ -14,7 +14,7 @@ use Rattle.base.specs.Answers.{Answer, given, refused}
 use Rattle.base.specs.Chains.{mapped}
 use Rattle.base.specs.Options.{orElse}
 use Rattle.base.specs.declared.Refusal.{Refusal}
-use Rattle.base.specs.Refusals.{sole, due, unless}
+use Rattle.base.specs.Refusals.{due, unless}
 use Rattle.base.specs.Says.{bool}
 use Rattle.base.specs.Walks.{count}
 use Rattle.base.proofs.OnSome.{OnSome, or-on}

@@ -123,8 +123,8 @@ pub extern "C" fn picker_check<'a>(
     }
 }
 
-// A build: start, open, kept, covered. What an answer below 2^56 leaves in marks, targets and sets, with the start that it tells, the check
-// passes, and it is what the source's Algorithms 2 and 1 return.
+// A build: start, open, kept, covered. What an answer below 2^56 leaves in marks, targets and sets, with the start that it
+// tells, the check passes, and it is what the source's Algorithms 2 and 1 return.
 #[no_mangle]
 pub extern "C" fn picker_build<'a>(
     old_places: u32,
@@ -144,7 +144,9 @@ pub extern "C" fn picker_build<'a>(
     ensures passes { λ r. ⌜ (r < 2 ^ 56
         → refusal (chartOf «old_places» «old_alarm» (now («old_rows» .entry))) (chartOf «new_places» «new_alarm» (now («new_rows» .entry))) (recordOf (r % 2 ^ 14) (now (marks .exit)) (now (targets .exit)) (now (sets .exit))) ≡ none) ⌝ }
     ensures algorithms { λ r. ⌜ (r < 2 ^ 56
-        → Returned (chartOf «old_places» «old_alarm» (now («old_rows» .entry))) (chartOf «new_places» «new_alarm» (now («new_rows» .entry))) (recordOf (r % 2 ^ 14) (now (marks .exit)) (now (targets .exit)) (now (sets .exit)))) ⌝ }
+        → Returned (chartOf «old_places» «old_alarm» (now («old_rows» .entry)))
+        (chartOf «new_places» «new_alarm» (now («new_rows» .entry)))
+        (recordOf (r % 2 ^ 14) (now (marks .exit)) (now (targets .exit)) (now (sets .exit)))) ⌝ }
 {
     let old = Head {
         places: old_places,
