@@ -10,7 +10,7 @@ use Rattle.chart.specs.Charts.{Chart}
 use Rattle.chart.specs.Faults.{refusal as chartRefusal}
 use Rattle.chart.specs.Runs.{begin, run, reaches}
 use Rattle.chart.proofs.Faultless.{faultless}
-use Rattle.checker.specs.Records.{Record, recordOf, covered}
+use Rattle.checker.specs.Records.{Record, recordOf, nodes, covered}
 use Rattle.checker.specs.Checks.{refusal}
 use Rattle.checker.proofs.Demand3.{demand-3-first}
 use Rattle.checker.proofs.Instance.{zeros, zeros-values, words-of}
@@ -53,10 +53,14 @@ pub built-passes : refusal C C (recorded C C) ≡ none
 built-passes = let F = faultless C no-refusal in record-passes C C F F
 
 -- ---- what it promises
--- rows 0 and 1, from zeros, are a run that reaches the new alarm and is covered, at node 65, before it comes there
+-- rows 0 and 1, from zeros, are a run that reaches the new alarm; it is covered before it comes there, at node 65
 pub reached-alarm : reaches C zeros (0 ∷ 1 ∷ []) ≡ true
 unfolding zeros operations-operations.kind operations-operations.operandB operations-operations.value operations-operations.related operations-operations.holds chart-runs.lets chart-runs.after chart-runs.ready chart-runs.run chart-runs.alarmed chart-runs.reaches
 reached-alarm = refl
+
+pub met : nodes C (recorded C C .graph) (recorded C C .start) (0 ∷ 1 ∷ []) ≡ 0 ∷ 65 ∷ []
+unfolding R chart-charts.leavingOf checker-records.nodes
+met = ap (λ (R : Record). nodes C (R .graph) (R .start) (0 ∷ 1 ∷ [])) is-built
 
 pub is-covered : covered C (recorded C C) (0 ∷ 1 ∷ []) ≡ true
 unfolding R chart-charts.leavingOf checker-records.nodes checker-records.covered
