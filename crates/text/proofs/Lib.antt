@@ -15,5 +15,6 @@ pub mod Charts
 pub mod Exactly
 pub mod Lengths
 pub mod Theorems
+pub mod Filed
 pub mod Bounds
 pub mod Headings

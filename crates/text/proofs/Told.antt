@@ -102,7 +102,7 @@ module _ (text table : List ℕ) where
 
 -- ---- the writer
 
-abbrev WroteAs : Answer (List ℕ) → Wrote → List ℕ → List ℕ → Type 0
+abbrev pub WroteAs : Answer (List ℕ) → Wrote → List ℕ → List ℕ → Type 0
 WroteAs a r bytes after = (toldWrote r ≡ mapped length a) × (after ≡ printed a bytes)
 
 write-refused : (a : Answer (List ℕ)) (bytes : List ℕ) (r : Refusal) → a ≡ refused r → WroteAs a (wrote.Refused r) bytes bytes

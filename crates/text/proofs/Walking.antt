@@ -1,4 +1,5 @@
--- Laws of the walk over a text: its two answers together are what the text spells, and what it leaves in its table are the rows.
+-- Laws of the walk over a text: its two answers together are what the text spells, and what it leaves in its table are
+-- the rows.
 -- Assumes nothing.
 use mathlib.Core.Path.{_≡_, refl, sym, ap, _∙_, subst}
 use mathlib.Core.List.{List, [], _∷_, _++_, append-assoc, append-nil}

@@ -1,11 +1,13 @@
 -- The file of a chart, in RFC 4180's terms.
 use mathlib.Core.Path.{_≡_}
 use mathlib.Core.List.{List, [], _∷_, map}
-use mathlib.Core.Option.{none}
-use Prim.Native.Nat.{ℕ, zero, suc, _≤_}
+use mathlib.Core.Option.{Option, none, some}
+use Prim.Native.Nat.{ℕ, zero, suc, _*_, _≤_}
 use lib.ListN.{getD, take, drop}
-use Rattle.chart.specs.Charts.{Chart, size}
+use Rattle.chart.specs.Charts.{Chart, size, charted}
 use Rattle.chart.specs.Faults.{refusal}
+use Rattle.text.specs.declared.answers.Read.{Read}
+use Rattle.text.specs.declared.answers.Read.the-variants as answer
 use Rattle.text.specs.Written.{decimal, numbers}
 use Rattle.text.specs.Rfc4180.{File}
 
@@ -28,3 +30,8 @@ pub record FileOf (C : Chart) (text : List ℕ) : Type 0 where
   pub file : File text (contents (suc (size (C .table))) (numbers C))
   pub u32s : U32s (numbers C)
   pub faultless : refusal C ≡ none
+
+-- the chart that the reader answers, its rows at the front of the table; none where it refuses
+unfoldable pub chartRead : Read → List ℕ → Option Chart
+chartRead (answer.Chart head rows) table = some (charted head (take (6 * rows) table))
+chartRead (answer.Refused r) table = none

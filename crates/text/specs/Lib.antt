@@ -1,4 +1,5 @@
--- The definitions that the contracts cite: read Fields first, then Spans, Texts, Written; Walk only serves inner functions; Rfc4180 and Files are what theorems compare them with.
+-- The definitions that the contracts cite: read Fields first, then Spans, Texts, Written. Rfc4180 and Files say the
+-- same in the terms of RFC 4180. Walk only serves inner functions.
 pub mod Fields
 pub mod Spans
 pub mod Texts

@@ -1,4 +1,5 @@
--- What the inner functions of the reader answer and leave: no rule speaks of it, and the contracts of the entry points cite none of it.
+-- What the inner functions of the reader answer and leave: no rule speaks of it, and no contract of an entry point
+-- cites it.
 use mathlib.Core.List.{List, [], _∷_, _++_}
 use mathlib.Core.Bool.{true, false}
 use Prim.Native.Nat.{ℕ, zero, suc, _*_}
@@ -68,7 +69,8 @@ entriesOf (Unread n p) = 0
 unfoldable pub rowNumbers : List ℕ → List ℕ
 rowNumbers text = numbersAt (entriesOf (firstAt text 0)) 6 text (pastFirst (firstAt text 0) 0)
 
--- by what the first record and the rows gave, and the offset where they ended: the refusal that comes first, or head and row count
+-- by what the first record and the rows gave, and the offset where they ended: the refusal that comes first, or head and
+-- row count
 unfoldable pub answered : List ℕ → First → Reach → ℕ → Read
 answered [] first rows end = read.Refused (sole 11 0)
 answered (b ∷ s) (Unread n p) rows end = read.Refused (sole n p)

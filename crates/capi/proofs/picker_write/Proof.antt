@@ -15,21 +15,21 @@ enum-known-r : tie.Need-enum-known-r
 enum-known-r c = search needs
 
 packed-requires : tie.Need-packed-requires
-packed-requires c κs = refusal-written _ _ _ (c .before .before .before .before .before .write .ensures .0) _ (c .before .r .given .1) .fits
+packed-requires c κs = refusal-written _ _ _ (c .before .before .before .before .before .write .ensures .0 .0) _ (c .before .r .given .1) .fits
 
 same-length : tie.Need-same-length
 same-length c = search needs
 
 returns : tie.Need-returns
-returns c = (text-written _ _ _ (c .before .before .before .before .before .write .ensures .0) _ (c .before .n .given .1), c .before .before .before .before .before .write .ensures .1)
+returns c = (text-written _ _ _ (c .before .before .before .before .before .write .ensures .0 .0) _ (c .before .n .given .1), c .before .before .before .before .before .write .ensures .0 .1)
 
 same-length-2 : tie.Need-same-length-2
 same-length-2 c = search needs
 
 returns-2 : tie.Need-returns-2
 returns-2 c =
-    let b = refusal-written _ _ _ (c .before .before .before .before .before .before .write .ensures .0) _ (c .before .before .r .given .1) in
-    (c .packed .ensures ∙ b .is, c .before .before .before .before .before .before .write .ensures .1)
+    let b = refusal-written _ _ _ (c .before .before .before .before .before .before .write .ensures .0 .0) _ (c .before .before .r .given .1) in
+    (c .packed .ensures ∙ b .is, c .before .before .before .before .before .before .write .ensures .0 .1)
 
 pub picker-write-spec : {M : Type 1} → statement M
 picker-write-spec =

@@ -16,7 +16,8 @@ use base::sole;
 use chart::charts::Head;
 use chart::charts::Judged;
 
-// The refusal of a text that comes first, or head and row count: by what its first record and its rows gave, and the offset where they ended.
+// The refusal of a text that comes first, or head and row count: by what its first record and its rows gave, and the
+// offset where they ended.
 pub fn judge(text: &[u8], first: First, rows: Reach, end: usize) -> Read
     ensures { λ r. ⌜ r ≡ answered (now (text .entry)) first rows end ⌝ }
 {

@@ -21,7 +21,8 @@ fn put(table: &mut [u32], i: usize, x: u32)
     table[i] = x;
 }
 
-// So many fields of a text, from this field at an offset on, into the front of a table: up to the first refusal, and the rest stays.
+// So many fields of a text, from this field at an offset on, into the front of a table: up to the first refusal, and the
+// rest of the table stays.
 pub fn fields_into(text: &[u8], at: usize, field: usize, n: usize, table: &mut [u32]) -> Reach
     requires { ⌜ (n ≤ length (now table)) × (field + n ≤ 774) ⌝ }
     ensures { λ r. ⌜ (r ≡ reachAt n field (now (text .entry)) at)

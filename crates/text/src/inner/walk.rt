@@ -1,5 +1,6 @@
-// The walk over a text: one `Reader` keeps the text and the offset reached, from the first field to the last. No function that holds it has a
-// branch or a loop: each calls covered functions on the text and the offset, and stores the offset that they reached.
+// The walk over a text: one `Reader` keeps the text and the offset reached, from the first field to the last. No function
+// that holds it has a branch or a loop: each calls covered functions on the text and the offset, and stores the offset
+// that they reached.
 ghost use mathlib.Core.Path.{_≡_};
 ghost use Prim.Native.Nat.{_≤_};
 ghost use lib.ListN.{length};
@@ -52,7 +53,8 @@ pub fn rows<'s, 'a, 't>(r: &'s mut Reader<'a>, n: usize, table: &'t mut [u32]) -
     f
 }
 
-// The chart that a text spells, before its faults are judged: head and row count, or the text's refusal. The rows go to the front of a table.
+// The chart that a text spells, before its faults are judged: head and row count, or the text's refusal. The rows go to
+// the front of a table.
 pub fn parse(text: &[u8], table: &mut [u32]) -> Read
     requires { ⌜ length (now table) ≡ 768 ⌝ }
     ensures { λ r. ⌜ (toldRead r ≡ mapped heading (parsed (now (text .entry))))
