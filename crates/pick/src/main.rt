@@ -1,9 +1,11 @@
 // The program: reads old.csv and new.csv, and prints the condition of the two charts, or a refusal. It opens, reads and writes; what it
 // prints is made by the crate report, in portions that together are `printed` of that crate's specs.
+ghost use Prim.Native.Nat.{_^_, _<_};
 ghost use Rattle.io.specs.Counts.{Counts};
 ghost use Rattle.text.specs.Texts.{readInto};
 ghost use Rattle.report.specs.Both.{Few, BothAs};
 ghost use Rattle.report.specs.Printed.{Small};
+use base::Refusal;
 use builder::answers::Built;
 use builder::build;
 use chart::charts::Head;
@@ -50,9 +52,13 @@ fn read_both(old_text: &[u8], new_text: &[u8], old: &mut [u32], new: &mut [u32])
     ensures { λ r. ⌜ BothAs (readInto (now («old_text» .entry)) (now (old .entry))) (readInto (now («new_text» .entry)) (now (new .entry))) r (now (old .entry)) (now (old .exit)) (now (new .entry)) (now (new .exit)) ⌝ }
 {
     match text::read(old_text, old) {
-        Read::Refused(number, position) => Both::Refused(number, 0, position as u32),
+        Read::Refused(r) => Both::Refused(r),
         Read::Chart(head, rows) => match text::read(new_text, new) {
-            Read::Refused(number, position) => Both::Refused(number, 1, position as u32),
+            Read::Refused(r) => Both::Refused(Refusal {
+                number: r.number,
+                chart: 1,
+                position: r.position,
+            }),
             Read::Chart(other, more) => Both::Charts(head, rows, other, more),
         },
     }
@@ -81,9 +87,11 @@ fn put(bytes: &[u8]) {
     }
 }
 
-fn refuse(number: u32, chart: u32, position: u32) {
+fn refuse(r: Refusal)
+    requires { ⌜ r .position < 2 ^ 32 ⌝ }
+{
     let mut bytes = [0u8; 1024];
-    let n = report::refusal(number, chart, position, &mut bytes);
+    let n = report::refusal(r.number, r.chart, r.position as u32, &mut bytes);
     put(&bytes[..n]);
 }
 
@@ -130,11 +138,7 @@ fn show<'a>(old: Head, old_rows: &'a [u32], new: Head, new_rows: &'a [u32]) {
         &mut sets,
         &mut waiting,
     ) {
-        Built::Refused {
-            number,
-            chart,
-            position,
-        } => refuse(number, chart, position as u32),
+        Built::Refused(r) => refuse(r),
         Built::Done(s) => {
             head(s);
             transitions(new_rows, &marks, &targets);
@@ -146,7 +150,7 @@ fn main() {
     let mut old = [0u32; 768];
     let mut new = [0u32; 768];
     match charts(&mut old, &mut new) {
-        Both::Refused(number, chart, position) => refuse(number, chart, position),
+        Both::Refused(r) => refuse(r),
         Both::Charts(head, rows, other, more) => {
             let m = 6 * rows;
             let n = 6 * more;

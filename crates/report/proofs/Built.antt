@@ -4,12 +4,13 @@ use mathlib.Core.Path.{_≡_, sym, ap, subst, _∙_}
 use mathlib.Core.Bool.{Bool, true, false, not}
 use mathlib.Core.List.{List, [], _∷_}
 use mathlib.Core.Option.{Option, none, some}
-use Prim.Native.Nat.{ℕ, _+_, _≤_}
+use Prim.Native.Nat.{ℕ, _+_, _^_, _≤_, _<_}
 use native.Mathlib.Omega.{arith}
 use lib.Dec.{eqb}
 use lib.ListN.{length}
 use Rattle.base.specs.Answers.{Answer, given, refused}
-use Rattle.base.specs.Refusals.{Refusal, refusedIf, Fault}
+use Rattle.base.specs.declared.Refusal.{Refusal}
+use Rattle.base.specs.Refusals.{sole, due, unless}
 use Rattle.base.specs.Walks.{count}
 use Rattle.base.specs.Options.{orElse}
 use Rattle.base.specs.Says.{bool}
@@ -48,7 +49,7 @@ start-small old new m = go (alone (headOf old) (headOf new) m)
 
 orNone : Summary → Answer Summary → Summary
 orNone s (given x) = x
-orNone s (refused n c p) = s
+orNone s (refused r) = s
 
 module _ (old new : Chart) (m t s w : List ℕ) (l : length m ≡ 4160) where
   made : (x : Summary) → x ≡ summary (recorded old new .start) (recorded old new .graph .marks) → graph m t s w ≡ built old new → Small x
@@ -63,11 +64,7 @@ module _ (old new : Chart) (m t s w : List ℕ) (l : length m ≡ 4160) where
   summary-small g r x e f d = go (refusal old new g) (ap told (sym d) ∙ e) f
     where
       go : (o : Option Refusal)
-          → given x
-          ≡ elim o as (λ _. Answer Summary) [
-            | none ↦ given (summary (recorded old new .start) (recorded old new .graph .marks))
-            | some q ↦ refused (q .number) (q .chart) (q .position)
-          ]
+          → given x ≡ unless o (summary (recorded old new .start) (recorded old new .graph .marks))
           → graph m t s w ≡ elim o as (λ _. Graph) [ none ↦ built old new | some q ↦ g ] → Small x
       go none a b = made x (ap (orNone x) a) b
       go (some q) a b = absurd (different a)
@@ -77,32 +74,22 @@ module _ (old new : Chart) (m t s w : List ℕ) (l : length m ≡ 4160) where
 pub record Low (q : Refusal) : Type 0 where
   pub position : q .position ≤ 128
 
-in-chart-low : (k : ℕ) (o : Option Fault) → OnSome Slight o → OnSome Low (inChart k o)
+in-chart-low : (k : ℕ) (o : Option Refusal) → OnSome Slight o → OnSome Low (inChart k o)
 in-chart-low k none h = tt
-in-chart-low k (some f) h = record { position = omega (arith, h .row) }
+in-chart-low k (some r) h = record { position = omega (arith, h .row) }
 
 refusal-low : (old new : Chart) (g : Graph) → OnSome Low (refusal old new g)
 unfolding refusal
 refusal-low old new g =
     let unlent = not (bool (lent (old .table) (new .table) g)) in
-    or-on Low (refusedIf unlent 21 0 0) (orElse (inChart 0 (fault old)) (inChart 1 (fault new)))
-    (when-on Low unlent (record { number = 21; chart = 0; position = 0 }) (record { position = omega arith }))
+    or-on Low (due unlent 21 0) (orElse (inChart 0 (fault old)) (inChart 1 (fault new)))
+    (when-on Low unlent (sole 21 0) (record { position = omega arith }))
     (λ _. or-on Low (inChart 0 (fault old)) (inChart 1 (fault new)) (in-chart-low 0 (fault old) (fault-slight old)) (λ _. in-chart-low 1 (fault new) (fault-slight new)))
 
-third : Answer Summary → ℕ
-third (given x) = 0
-third (refused n c p) = p
-
-pub position-low : (old new : Chart) (g : Graph) (r : Built) → told r ≡ answered old new g → (n c p : ℕ) → r ≡ builts.Refused n c p → p ≤ 128
-unfolding answered third
-position-low old new g r e n c p d = go (refusal old new g) (refusal-low old new g) (ap told (sym d) ∙ e)
+pub position-low : (old new : Chart) (g : Graph) (r : Built) → told r ≡ answered old new g → (q : Refusal) → r ≡ builts.Refused q → q .position < 2 ^ 32
+unfolding answered
+position-low old new g r e q d = go (refusal old new g) (refusal-low old new g) (ap told (sym d) ∙ e)
   where
-    go : (o : Option Refusal) → OnSome Low o
-        → _≡_ {A = Answer Summary} (refused n c p)
-        (elim o as (λ _. Answer Summary) [
-          | none ↦ given (summary (recorded old new .start) (recorded old new .graph .marks))
-          | some q ↦ refused (q .number) (q .chart) (q .position)
-        ])
-        → p ≤ 128
+    go : (o : Option Refusal) → OnSome Low o → refused q ≡ unless o (summary (recorded old new .start) (recorded old new .graph .marks)) → q .position < 2 ^ 32
     go none h a = absurd (different (sym a))
-    go (some q) h a = let i : p ≡ q .position = ap third a in omega (arith, h .position)
+    go (some p) h a = let i : q ≡ p = cc in rw i (omega (arith, h .position))

@@ -7,6 +7,7 @@ use native.Mathlib.Omega.{arith}
 use borrow.Author.Tests.{eq-eqb, ne-eqb}
 use lib.ListN.{length, getD, take, drop}
 use lib.Seq.{sets-eq, take-at}
+use Rattle.base.specs.declared.Refusal.{Refusal}
 use Rattle.text.specs.Written.{fieldsText, Put}
 use Rattle.text.proofs.Puts.{put-then, put-length}
 use Rattle.checker.specs.Records.{Graph, target}
@@ -42,10 +43,10 @@ pub front-summary : (before : List ℕ) (s : Summary) (after : List ℕ) (r : �
 unfolding summaryLine
 front-summary before s after r l p = front-line before (s .start) (s .opened) (s .kept) (s .covered) after r l p
 
-pub front-refusal : (before : List ℕ) (number chart position : ℕ) (after : List ℕ) (r : ℕ) → length before ≡ 1024
-    → (Put before 0 (line 9999 number chart position) after r) × (r ≤ 0 + 45) → Front before (refusalLine number chart position) after r
+pub front-refusal : (before : List ℕ) (q : Refusal) (after : List ℕ) (r : ℕ) → length before ≡ 1024
+    → (Put before 0 (line 9999 (q .number) (q .chart) (q .position)) after r) × (r ≤ 0 + 45) → Front before (refusalLine q) after r
 unfolding refusalLine
-front-refusal before number chart position after r l p = front-line before 9999 number chart position after r l p
+front-refusal before q after r l p = front-line before 9999 (q .number) (q .chart) (q .position) after r l p
 
 -- ---- one transition
 

@@ -16,13 +16,13 @@ use Rattle.report.specs.Printed.{Pair, bothOf, bothRead}
 -- both charts were read
 newIn : Pair → Answer Pair → Chart
 newIn P (given Q) = Q .new
-newIn P (refused n c p) = P .new
+newIn P (refused r) = P .new
 
 new-given : (a b : Answer Chart) (P : Pair) → bothOf a b ≡ given P → b ≡ given (P .new)
 unfolding bothOf newIn
 new-given (given O) (given N) P e = ap (λ (C : Chart). given C) (ap (newIn P) e)
-new-given (given O) (refused n c p) P e = absurd (different (sym e))
-new-given (refused n c p) b P e = absurd (different (sym e))
+new-given (given O) (refused r) P e = absurd (different (sym e))
+new-given (refused r) b P e = absurd (different (sym e))
 
 -- the portions are those of the whole table
 pub whole-table : (old new : List ℕ) (P : Pair) → bothRead old new ≡ given P → take 768 (P .new .table) ≡ P .new .table

@@ -10,6 +10,7 @@ use native.Mathlib.Omega.{arith}
 use lib.ListN.{length, take, length-take, drop-of-length-le}
 use lib.Seq.{take-all, slice}
 use Rattle.base.specs.Answers.{given, refused}
+use Rattle.base.specs.declared.Refusal.{Refusal}
 use Rattle.text.specs.Texts.{readText}
 use Rattle.text.proofs.Theorems.{cut-text}
 use Rattle.condition.specs.Builds.{recorded, summary}
@@ -39,9 +40,9 @@ without-sets t G n (m ∷ ms) = ap (λ (l : List ℕ). ofPair t G n m ++ l) (wit
 
 module _ (old new : List ℕ) where
   -- a refusal is printed by its record alone
-  pub refusal-printed : (n c p : ℕ) → bothRead old new ≡ refused n c p → refusalLine n c p ≡ printed old new
+  pub refusal-printed : (r : Refusal) → bothRead old new ≡ refused r → refusalLine r ≡ printed old new
   unfolding printed
-  refusal-printed n c p e = rw e
+  refusal-printed r e = rw e
 
   -- a condition is printed by its first record and then the portions from pair 0 on
   pub condition-printed : (P : Pair) → bothRead old new ≡ given P

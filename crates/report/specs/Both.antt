@@ -1,7 +1,7 @@
 -- What reading both texts answers, and what it leaves in the two tables.
 use mathlib.Core.Path.{_≡_}
 use mathlib.Core.List.{List}
-use Prim.Native.Nat.{ℕ, _≤_}
+use Prim.Native.Nat.{ℕ, _^_, _≤_, _<_}
 use Rattle.base.specs.Answers.{Answer, given, refused}
 use Rattle.base.specs.Chains.{andThen, mapped}
 use Rattle.chart.specs.Charts.{Chart}
@@ -25,12 +25,12 @@ toldBoth (answer.Charts old rows new more) =
       old = record { places = old .places; alarm = old .alarm; rows = rows };
       new = record { places = new .places; alarm = new .alarm; rows = more };
     })
-toldBoth (answer.Refused number chart position) = refused number chart position
+toldBoth (answer.Refused r) = refused r
 
--- the row counts are those of faultless charts: what main has to know of an answer
+-- the row counts are those of faultless charts, and a position is a u32: what main has to know of an answer
 abbrev pub Few : Both → Type 0
 Few (answer.Charts old rows new more) = (rows ≤ 128) × (more ≤ 128)
-Few (answer.Refused number chart position) = Unit
+Few (answer.Refused r) = r .position < 2 ^ 32
 
 -- The answer r, where a and b are read of the two texts, and the two tables before and after: the old chart's rows at the front of the
 -- first, the new chart's at the front of the second, which is not touched where the old chart is refused.

@@ -2,6 +2,7 @@
 use mathlib.Core.List.{List, _++_}
 use Prim.Native.Nat.{ℕ, _≤_}
 use Rattle.base.specs.Answers.{Answer, given, refused}
+use Rattle.base.specs.declared.Refusal.{Refusal}
 use Rattle.base.specs.Chains.{andThen, mapped}
 use Rattle.chart.specs.Charts.{Chart}
 use Rattle.text.specs.Texts.{readText}
@@ -17,9 +18,12 @@ pub record Pair : Type 0 where
   pub new : Chart
 
 -- a refusal of the new chart: "chart (0 old or sole, 1 new)"
+abbrev pub inNew : Refusal → Refusal
+inNew r = record { number = r .number; chart = 1; position = r .position }
+
 abbrev pub ofNew : {A : Type 0} → Answer A → Answer A
 ofNew (given x) = given x
-ofNew (refused number chart position) = refused number 1 position
+ofNew (refused r) = refused (inNew r)
 
 -- "the program finishes old.csv before new.csv": what is read of the two texts
 unfoldable pub bothOf : Answer Chart → Answer Chart → Answer Pair
@@ -48,7 +52,7 @@ conditionOf P = condition (P .new .table) (recorded (P .old) (P .new))
 -- ---- all of it
 abbrev pub orRefusal : Answer (List ℕ) → List ℕ
 orRefusal (given bytes) = bytes
-orRefusal (refused number chart position) = refusalLine number chart position
+orRefusal (refused r) = refusalLine r
 
 unfoldable pub printed : List ℕ → List ℕ → List ℕ
 printed old new = orRefusal (mapped conditionOf (bothRead old new))

@@ -14,7 +14,7 @@ pub mod inner; // inner.rt: what the portions are made of
 
 // The record of a refusal, at the front of the bytes, and their count.
 pub fn refusal(number: u32, chart: u32, position: u32, bytes: &mut [u8; 1024]) -> usize
-    ensures { λ r. ⌜ Front (now (bytes .entry)) (refusalLine number chart position) (now (bytes .exit)) r ⌝ }
+    ensures { λ r. ⌜ Front (now (bytes .entry)) (refusalLine (record { number = number; chart = chart; position = position })) (now (bytes .exit)) r ⌝ }
 {
     put_line(bytes, 0, 9999, number, chart, position)
 }

@@ -1,7 +1,7 @@
 -- The counts of rows are within the tables. Assumes nothing.
 use mathlib.Core.Path.{sym}
 use lib.Seq.{length-take-le}
-use Rattle.report.proofs.Reading.{few-rows}
+use Rattle.report.proofs.Reading.{few-rows, refused-near}
 use native.Mathlib.Omega.{arith}
 use borrow.Author.Needs.{needs}
 use Rattle.pick.proofs.main.Statement.{statement}
@@ -16,11 +16,11 @@ slice-aggregate-charts-2 c = search needs
 charts-requires : tie.Need-charts-requires
 charts-requires c κs = search needs
 
-enum-known-number : tie.Need-enum-known-number
-enum-known-number c = search needs
+enum-known-r : tie.Need-enum-known-r
+enum-known-r c = search needs
 
 refuse-requires : tie.Need-refuse-requires
-refuse-requires c κs = search needs
+refuse-requires c κs = refused-near _ (c .before .before .before .before .before .charts .ensures) _ (c .before .r .given .1)
 
 enum-known-head : tie.Need-enum-known-head
 enum-known-head c = search needs
@@ -59,7 +59,7 @@ main-spec =
     slice-aggregate-charts
     slice-aggregate-charts-2
     charts-requires
-    enum-known-number
+    enum-known-r
     refuse-requires
     enum-known-head
     mul-m

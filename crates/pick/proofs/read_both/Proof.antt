@@ -1,6 +1,5 @@
 -- What the reader answers of each text. Assumes nothing.
-use Rattle.report.proofs.Reading.{position-small, old-refused, new-refused, both-charts}
-use native.Mathlib.Omega.{arith}
+use Rattle.report.proofs.Reading.{old-refused, new-refused, both-charts}
 use borrow.Author.Needs.{needs}
 use Rattle.pick.proofs.read_both.Statement.{statement}
 use Rattle.pick.proofs.read_both.Tie as tie
@@ -8,11 +7,8 @@ use Rattle.pick.proofs.read_both.Tie as tie
 read-requires : tie.Need-read-requires
 read-requires c κs = search needs
 
-enum-known-number : tie.Need-enum-known-number
-enum-known-number c = search needs
-
-cast-t17 : tie.Need-cast-t17
-cast-t17 c = let b = position-small (c .before .before .before .before .before .before .before .before .before .before .before .args .old-text .now) (c .before .before .before .before .before .before .before .before .before .before .before .args .old .now) _ (c .before .before .before .before .before .read .ensures .0) _ _ (c .before .number .given .1) in omega arith
+enum-known-r : tie.Need-enum-known-r
+enum-known-r c = search needs
 
 enum-known-head : tie.Need-enum-known-head
 enum-known-head c = search needs
@@ -20,11 +16,8 @@ enum-known-head c = search needs
 read-requires-2 : tie.Need-read-requires-2
 read-requires-2 c κs = search needs
 
-enum-known-number-2 : tie.Need-enum-known-number-2
-enum-known-number-2 c = search needs
-
-cast-t22 : tie.Need-cast-t22
-cast-t22 c = let b = position-small (c .before .before .before .before .before .before .before .before .before .before .before .before .before .before .before .before .before .before .args .new-text .now) (c .before .before .before .before .before .before .before .before .before .before .before .before .before .before .before .before .before .before .args .new .now) _ (c .before .before .before .before .before .read2 .ensures .0) _ _ (c .before .number2 .given .1) in omega arith
+enum-known-r-2 : tie.Need-enum-known-r-2
+enum-known-r-2 c = search needs
 
 enum-known-other : tie.Need-enum-known-other
 enum-known-other c = search needs
@@ -33,7 +26,7 @@ same-length : tie.Need-same-length
 same-length c = search needs
 
 returns : tie.Need-returns
-returns c = old-refused (c .before .before .before .before .before .before .before .before .before .before .before .args .old-text .now) (c .before .before .before .before .before .before .before .before .before .before .before .args .new-text .now) (c .before .before .before .before .before .before .before .before .before .before .before .args .old .now) _ (c .before .before .before .before .before .before .before .before .before .before .before .args .new .now) _ (c .before .before .before .before .before .read .ensures) _ _ (c .before .number .given .1)
+returns c = old-refused (c .before .before .before .before .before .before .before .before .before .before .before .args .old-text .now) (c .before .before .before .before .before .before .before .before .before .before .before .args .new-text .now) (c .before .before .before .before .before .before .before .before .before .before .before .args .old .now) _ (c .before .before .before .before .before .before .before .before .before .before .before .args .new .now) _ (c .before .before .before .before .before .read .ensures) _ (c .before .r .given .1)
 
 same-length-2 : tie.Need-same-length-2
 same-length-2 c = search needs
@@ -42,7 +35,7 @@ same-length-3 : tie.Need-same-length-3
 same-length-3 c = search needs
 
 returns-2 : tie.Need-returns-2
-returns-2 c = new-refused (c .before .before .before .before .before .before .before .before .before .before .before .before .before .before .before .before .before .before .args .old-text .now) (c .before .before .before .before .before .before .before .before .before .before .before .before .before .before .before .before .before .before .args .new-text .now) (c .before .before .before .before .before .before .before .before .before .before .before .before .before .before .before .before .before .before .args .old .now) _ (c .before .before .before .before .before .before .before .before .before .before .before .before .before .before .before .before .before .before .args .new .now) _ (c .before .before .before .before .before .before .before .before .before .before .before .before .read .ensures) _ _ _ _ (c .before .before .before .before .before .before .before .before .head .given .1) (c .before .before .before .before .before .read2 .ensures) _ _ (c .before .number2 .given .1)
+returns-2 c = new-refused (c .before .before .before .before .before .before .before .before .before .before .before .before .before .before .before .before .before .before .args .old-text .now) (c .before .before .before .before .before .before .before .before .before .before .before .before .before .before .before .before .before .before .args .new-text .now) (c .before .before .before .before .before .before .before .before .before .before .before .before .before .before .before .before .before .before .args .old .now) _ (c .before .before .before .before .before .before .before .before .before .before .before .before .before .before .before .before .before .before .args .new .now) _ (c .before .before .before .before .before .before .before .before .before .before .before .before .read .ensures) _ _ _ _ (c .before .before .before .before .before .before .before .before .head .given .1) (c .before .before .before .before .before .read2 .ensures) _ (c .before .r2 .given .1)
 
 same-length-4 : tie.Need-same-length-4
 same-length-4 c = search needs
@@ -58,12 +51,10 @@ read-both-spec =
     tie.close
     (tie.spec
     read-requires
-    enum-known-number
-    cast-t17
+    enum-known-r
     enum-known-head
     read-requires-2
-    enum-known-number-2
-    cast-t22
+    enum-known-r-2
     enum-known-other
     same-length
     returns

@@ -20,14 +20,11 @@ slice-aggregate-build-4 c = search needs
 build-requires : tie.Need-build-requires
 build-requires c κs = search needs
 
-enum-known-number : tie.Need-enum-known-number
-enum-known-number c = search needs
-
-cast-refuse : tie.Need-cast-refuse
-cast-refuse c = let l = position-low _ _ _ _ (c .before .before .before .before .before .before .before .build .ensures .0) _ _ _ (c .before .number .given .1) in omega arith
+enum-known-r : tie.Need-enum-known-r
+enum-known-r c = search needs
 
 refuse-requires : tie.Need-refuse-requires
-refuse-requires c κs = search needs
+refuse-requires c κs = position-low _ _ _ _ (c .before .before .before .before .before .before .before .build .ensures .0) _ (c .before .r .given .1)
 
 enum-known-s : tie.Need-enum-known-s
 enum-known-s c = search needs
@@ -53,8 +50,7 @@ show-spec =
     slice-aggregate-build-3
     slice-aggregate-build-4
     build-requires
-    enum-known-number
-    cast-refuse
+    enum-known-r
     refuse-requires
     enum-known-s
     head-requires

@@ -9,7 +9,7 @@ put-line-requires : tie.Need-put-line-requires
 put-line-requires c κs = search needs
 
 returns : tie.Need-returns
-returns c = front-refusal _ _ _ _ _ _ (omega arith) (c .put-line .ensures)
+returns c = front-refusal _ _ _ _ (omega arith) (c .put-line .ensures)
 
 pub refusal-spec : {M : Type 1} → statement M
 refusal-spec = tie.close (tie.spec put-line-requires returns)
