@@ -1,140 +1,33 @@
--- Lines 5 to 18 of Algorithm 2 have one outcome for a faultless chart of u32 entries, the aligned step's: of two rows
--- of a place exactly one can be taken, so that no choice of an edge is left. Assumes nothing.
+-- Lines 5 to 18 of Algorithm 2 have one outcome for a faultless chart of u32 entries, the aligned step's. Assumes nothing.
 use mathlib.Core.Path.{_≡_, refl, sym, ap, ap₂, subst, _∙_}
 use mathlib.Core.Bool.{Bool, true, false, _||_, not}
-use mathlib.Core.Logic.{_⊎_, inl, inr, ⊎-elim, dite, _↔_}
+use mathlib.Core.Logic.{_⊎_, inl, inr, ⊎-elim}
 use mathlib.Core.Option.{Option, none, some}
-use Prim.Native.Nat.{ℕ, zero, suc, _+_, _-_, _^_, _≤_, _<_}
+use Prim.Native.Nat.{ℕ, suc, _-_, _^_, _<_}
 use native.Mathlib.Omega.{arith}
-use native.Mathlib.Decide.{ℕ-discrete}
-use native.Mathlib.Nat.{lt-of-le-of-lt, pow-suc}
 use borrow.Author.Tests.{eqb-true, eqb-false}
-use lib.ListN.{replicate}
 use Rattle.base.specs.Options.{when}
-use Rattle.base.proofs.Tests.{T-true, differ}
-use Rattle.base.proofs.Walks.{zeros-at}
+use Rattle.base.proofs.Tests.{T-true}
 use Rattle.operations.specs.declared.Operation.{Operation}
-use Rattle.operations.specs.Assumptions.{NeverHolds, Implies, Meets, Operands}
+use Rattle.operations.specs.Assumptions.{Operands}
 use Rattle.operations.specs.Operations.{isAssignment, same}
 use Rattle.chart.specs.declared.places.OldPlace.{OldPlace}
 use Rattle.chart.specs.Charts.{Chart, operation}
-use Rattle.chart.specs.Charts as charts
-use Rattle.chart.specs.Conflicts.{Opposite}
 use Rattle.chart.specs.Faultless.{FaultlessChart}
-use Rattle.chart.proofs.Conflicts.{two-rows}
 use Rattle.align.specs.declared.spots.Spot.{Spot}
-use Rattle.align.specs.Sets.{bit, alone, with, without, meets, readSet}
-use Rattle.align.specs.Steps.{find, oldTo, along, matching, matched, rewritten, rowsAt, atAlarm, assigned, onward, follow, followed, counterpart, assumed, moved}
-use Rattle.align.proofs.Sets.{In, alone-here, alone-only, with-here, with-old, with-only, meet-some, meet-none, same-set}
-use Rattle.align.proofs.Agree.{not-assignment}
+use Rattle.align.specs.Sets.{alone, with, without, meets, readSet}
+use Rattle.align.specs.Steps.{find, oldTo, matching, matched, rewritten, rowsAt, atAlarm, assigned, onward, follow, followed, counterpart, assumed, moved}
+use Rattle.align.proofs.Sets.{In, alone-here, alone-only, with-here, with-old, with-only, meet-some, meet-none}
 use Rattle.align.proofs.Onto.{same→eq}
 use Rattle.align.proofs.Moves.{follow-ends, follow-twice, follow-on, moved-assigned, moved-twice, moved-assumed}
 use Rattle.checker.specs.Promise.{Words}
 use Rattle.paper.specs.Nodes.{SetOf, _isIn_, _isNotIn_, _plus_}
-use Rattle.paper.specs.Lines5to18.{Has, Meet, IsWith, IsWithout, onlyOld, InG, Line13, Loop, line12, line14, Lines5and6, Lines11to14, Line15, Line16, Lines5to18, line7, line8, line10, line16, line17, line18, line13-cut}
+use Rattle.paper.specs.Lines5to18.{IsWith, onlyOld, InG, Line13, Loop, line12, line14, Lines5and6, Lines11to14, Line15, Line16, Lines5to18, line7, line8, line10, line16, line17, line18, line13-cut}
 use Rattle.paper.proofs.Members.{in-either, in-first, in-second, not-in, in-or-not}
-use Rattle.paper.proofs.Stepping.{is-with, is-without, meeting, not-meeting, same-self, alone-small, with-small, onlyOld-is, unmet, unmet-less, unmet-few, row-edge, no-edge, an-edge, edge-operands, no-match, a-match}
-
-abbrev at : OldPlace → ℕ → Spot
-at p s = record { place = p; set = s }
-
--- ---- a set is told by its members
-below-power : (n : ℕ) → n < 2 ^ n
-below-power zero = omega arith
-below-power (suc n) = rw pow-suc (omega (arith, below-power n))
-
-same-members : (s t : ℕ) → ((i : ℕ) → Has s i ↔ Has t i) → s ≡ t
-same-members s t f =
-    same-set (s + t) s t (wide s (omega arith)) (wide t (omega arith))
-    (λ i l. dite (ℕ-discrete (bit s i) 1) (λ e. e ∙ sym (f i .0 e)) (λ n. dite (ℕ-discrete (bit t i) 1) (λ e. absurd (n (f i .1 e))) (λ m. omega arith)))
-  where
-    wide : (n : ℕ) → n ≤ s + t → n < 2 ^ (s + t)
-    wide n l = lt-of-le-of-lt l (below-power (s + t))
-
-with-is : (s v t : ℕ) → IsWith s v t → t ≡ with s v
-with-is s v t w = same-members t (with s v) (λ i. let z = is-with s v i in (λ h. z .1 (w i .0 h), λ h. w i .1 (z .0 h)))
-
-without-is : (s v t : ℕ) → s < 2 ^ 64 → v < 64 → IsWithout s v t → t ≡ without s v
-without-is s v t b k w = same-members t (without s v) (λ i. let z = is-without s v b k i in (λ h. z .1 (w i .0 h), λ h. w i .1 (z .0 h)))
-
-does-meet : (s t : ℕ) → Meet s t → meets s t ≡ true
-does-meet s t m = ⊎-elim (λ e. e) (λ e. absurd (not-meeting s t e m)) (in-or-not (meets s t))
-
-does-not : (s t : ℕ) → s < 2 ^ 64 → (Meet s t → ⊥) → meets s t ≡ false
-does-not s t b n = ⊎-elim (λ e. absurd (n (meeting s t b e))) (λ e. e) (in-or-not (meets s t))
+use Rattle.paper.proofs.Stepping.{same-self, alone-small, with-small, onlyOld-is, unmet, unmet-less, unmet-few, row-edge, no-edge, an-edge, edge-operands, no-match, a-match}
+use Rattle.paper.proofs.Single.{at, with-is, without-is, does-meet, does-not, one-assignment, one-match, onward-is, onward-none}
 
 module _ (old : Chart) (F : FaultlessChart old) (words : Words (old .table)) where
-  -- ---- two edges of a place: they are one, or exactly one of them can be taken
-  two-edges : {ℓ : OldPlace} {op op₂ : Operation} {q q₂ : OldPlace} → InG old ℓ op q → InG old ℓ op₂ q₂
-      → ((op ≡ op₂) × (q ≡ q₂)) ⊎ Opposite op op₂
-  two-edges {ℓ} {op} {op₂} {q} {q₂} D E =
-      dite (ℕ-discrete (D .row) (E .row))
-      (λ z. inl (
-        sym (D .operation) ∙ ap (operation (old .table)) z ∙ E .operation,
-        ap (λ (x : ℕ). record { 0 = x }) (sym (D .to) ∙ ap (charts.to (old .table)) z ∙ E .to),
-      ))
-      (λ n. inr
-      (subst (λ (o : Operation). Opposite o op₂) (D .operation)
-      (subst (λ (o : Operation). Opposite (operation (old .table) (D .row)) o) (E .operation)
-      (two-rows old F (words .small) (D .row) (E .row) (D .there) (E .there) n (D .from ∙ sym (E .from))))))
-
-  -- an assignment stands alone at its place
-  one-assignment : {ℓ : OldPlace} {op op₂ : Operation} {q q₂ : OldPlace} → InG old ℓ op q → InG old ℓ op₂ q₂ → isAssignment op ≡ true
-      → (op ≡ op₂) × (q ≡ q₂)
-  one-assignment {op = op} D E a = ⊎-elim (λ e. e) (λ d. absurd (T-true (sym (not-assignment op (d .first)) ∙ a))) (two-edges D E)
-
-  not-opposite : (op op₂ : Operation) → op ≡ op₂ → Opposite op op₂ → ⊥
-  not-opposite op op₂ e d = differ _ (subst (λ (o : Operation). Opposite op o) (sym e) d .one (replicate 64 0) (record { count = refl; small = λ k. rw (zeros-at 64 k) (omega arith) }))
-
-  -- ---- line 15: one edge matches
-  module _ (o : Operation) where
-    abbrev Match : Operation → Type 0
-    Match op = (op ≡ o) ⊎ (Implies o op × (NeverHolds o → ⊥))
-
-    implied : (op : Operation) → Match op → Implies o op
-    implied op (inl e) v W m = subst (Meets v) (sym e) m
-    implied op (inr i) v W m = i .0 v W m
-
-    never : (op op₂ : Operation) → Opposite op op₂ → Implies o op → Implies o op₂ → NeverHolds o
-    never op op₂ d i j v W m = T-true (sym (ap not (j v W m)) ∙ sym (d .one v W) ∙ i v W m)
-
-    both-match : (op op₂ : Operation) → Opposite op op₂ → Match op → Match op₂ → ⊥
-    both-match op op₂ d (inr i) m = i .1 (never op op₂ d (i .0) (implied op₂ m))
-    both-match op op₂ d (inl e) (inr j) = j .1 (never op op₂ d (implied op (inl e)) (j .0))
-    both-match op op₂ d (inl e) (inl f) = not-opposite op op₂ (e ∙ sym f) d
-
-  one-match : {ℓ₁ ℓₚ : OldPlace} {Vδ : ℕ} {o op op₂ : Operation} {q q₂ : OldPlace} → Line15 old ℓ₁ Vδ o ℓₚ op q → Line15 old ℓ₁ Vδ o ℓₚ op₂ q₂
-      → (op ≡ op₂) × (q ≡ q₂)
-  one-match {o = o} {op = op} {op₂ = op₂} D E = ⊎-elim (λ e. e) (λ d. absurd (both-match o op op₂ d (D .matches) (E .matches))) (two-edges (D .edge) (E .edge))
-
-  -- ---- line 13: the loop goes one way
-  onward-is : (ℓₚ : OldPlace) (Vδ : ℕ) (op : Operation) (q : OldPlace) → Line13 old ℓₚ op q → onward old (at ℓₚ Vδ) ≡ some (at q (with Vδ (op .a)))
-  unfolding onward along
-  onward-is ℓₚ Vδ op q M = go (atAlarm old ℓₚ) refl (find (rowsAt old ℓₚ) isAssignment) refl
-    where
-      go : (b : Bool) → atAlarm old ℓₚ ≡ b → (x : Option ℕ) → find (rowsAt old ℓₚ) isAssignment ≡ x
-          → (elim b as (λ _. Option Spot) [ true ↦ none | false ↦ along Vδ (rowsAt old ℓₚ) x ]) ≡ some (at q (with Vδ (op .a)))
-      go true d x f = absurd (M .not-err (eqb-true (ℓₚ .0) (old .alarm) d))
-      go false d none f = absurd (T-true (sym (no-edge old ℓₚ isAssignment f op q (M .edge)) ∙ M .assignment))
-      go false d (some k) f =
-          let r = an-edge old ℓₚ isAssignment k f in
-          let z = one-assignment (row-edge old ℓₚ k (r .0)) (M .edge) (r .1) in
-          ap₂ (λ (x : OldPlace) (o : Operation). some (at x (with Vδ (o .a)))) (z .1) (z .0)
-
-  onward-none : (ℓₚ : OldPlace) (Vδ : ℕ) → ((op : Operation) (q : OldPlace) → Line13 old ℓₚ op q → ⊥) → onward old (at ℓₚ Vδ) ≡ none
-  unfolding onward along
-  onward-none ℓₚ Vδ n = go (atAlarm old ℓₚ) refl (find (rowsAt old ℓₚ) isAssignment) refl
-    where
-      go : (b : Bool) → atAlarm old ℓₚ ≡ b → (x : Option ℕ) → find (rowsAt old ℓₚ) isAssignment ≡ x
-          → _≡_ {A = Option Spot} (elim b as (λ _. Option Spot) [ true ↦ none | false ↦ along Vδ (rowsAt old ℓₚ) x ]) none
-      go true d x f = refl
-      go false d none f = refl
-      go false d (some k) f =
-          let r = an-edge old ℓₚ isAssignment k f in
-          absurd
-          (n (operation (rowsAt old ℓₚ) k) (oldTo (rowsAt old ℓₚ) k)
-          (record { not-err = eqb-false (ℓₚ .0) (old .alarm) d; edge = row-edge old ℓₚ k (r .0); assignment = r .1 }))
-
   -- ---- lines 12 to 14: any walk is the one that the step follows
   module _ (ℓ₁ : OldPlace) (Vδ : ℕ) (l : ℓ₁ .0 < 64) (b : Vδ < 2 ^ 64) where
     -- a place where the loop has been goes on, to another one or to where it is
@@ -204,7 +97,7 @@ module _ (old : Chart) (F : FaultlessChart old) (words : Words (old .table)) whe
       next-below = omega (arith, F .rows (M .edge .row) (M .edge .there) .to-below, F .few-places, M .edge .to)
 
       goes : onward old (at ℓₚ Vdiff) ≡ some (at ℓₛ Vdiff′)
-      goes = onward-is ℓₚ Vdiff opₐ ℓₛ M ∙ ap (λ (s : ℕ). some (at ℓₛ s)) (sym gains)
+      goes = onward-is old F words ℓₚ Vdiff opₐ ℓₛ M ∙ ap (λ (s : ℕ). some (at ℓₛ s)) (sym gains)
 
       -- where the loop has been, one goes on
       goes-on : (q : OldPlace) → q isIn more → GoesOn more ℓₛ q
@@ -236,7 +129,7 @@ module _ (old : Chart) (F : FaultlessChart old) (words : Words (old .table)) whe
           back : Twice been ℓₚ → ⊥
           back T =
               let G = A .on ℓₚ (T .again) in
-              not-in (subst (λ (p : OldPlace). p isIn more) (one-assignment (G .line .edge) (M .edge) (G .line .assignment) .1) (G .within)) e
+              not-in (subst (λ (p : OldPlace). p isIn more) (one-assignment old F words (G .line .edge) (M .edge) (G .line .assignment) .1) (G .within)) e
 
           once : Once been ℓₚ Vdiff → Once more ℓₛ Vdiff′
           once O =
@@ -276,7 +169,7 @@ module _ (old : Chart) (F : FaultlessChart old) (words : Words (old .table)) whe
         once : Once been ℓₚ Vdiff → followed old (at ℓ₁ Vδ) ≡ some (at ℓₚ Vdiff)
         once O =
             let z : O .left ≡ suc (O .left - 1) = omega (arith, O .enough) in
-            O .rest ∙ ap (λ (k : ℕ). follow old k (O .met) (at ℓₚ Vdiff)) z ∙ sym (follow-ends old (O .left - 1) (O .met) (at ℓₚ Vdiff) refl (onward-none ℓₚ Vdiff n))
+            O .rest ∙ ap (λ (k : ℕ). follow old k (O .met) (at ℓₚ Vdiff)) z ∙ sym (follow-ends old (O .left - 1) (O .met) (at ℓₚ Vdiff) refl (onward-none old F words ℓₚ Vdiff n))
 
     cut : {been : SetOf OldPlace} {ℓₚ : OldPlace} {Vdiff : ℕ} → Looped been ℓₚ Vdiff → ℓₚ isIn been → followed old (at ℓ₁ Vδ) ≡ none
     cut A i = ⊎-elim (λ T. T .fails) (λ O. absurd (not-in i (O .first))) (A .walked)
@@ -296,7 +189,7 @@ module _ (old : Chart) (F : FaultlessChart old) (words : Words (old .table)) whe
           go none f = absurd (T-true (sym (no-edge old ℓ₁ (λ o′. same o′ o) f o q (L .edge)) ∙ same-self o))
           go (some k) f =
               let r = an-edge old ℓ₁ (λ o′. same o′ o) k f in
-              ap₂ at (one-assignment (L .edge) (row-edge old ℓ₁ k (r .0)) (L .assignment) .1) e
+              ap₂ at (one-assignment old F words (L .edge) (row-edge old ℓ₁ k (r .0)) (L .assignment) .1) e
 
       -- line 10: none
       by-none : (W : ℕ) → isAssignment o ≡ true → ((q : OldPlace) → Lines5and6 old ℓ₁ Vδ o q → ⊥) → W ≡ with Vδ (o .a) → some (at ℓ₁ W) ≡ moved old (at ℓ₁ Vδ) o
@@ -337,7 +230,7 @@ module _ (old : Chart) (F : FaultlessChart old) (words : Words (old .table)) whe
             go true a x e = absurd (M .not-err (eqb-true (ℓₚ .0) (old .alarm) a))
             go false a none e = absurd (no-match old F words ℓ₁ Vδ o fits (at ℓₚ Vdiff) E small e (eqb-false (ℓₚ .0) (old .alarm) a) op q M)
             go false a (some k) e =
-                let z = one-match (matches-at k e a) M in
+                let z = one-match old F words (matches-at k e a) M in
                 record { row = k; is = rw (a, e, counterpart); operation = z .0; to = z .1 }
 
         finds-none : ((op : Operation) (q : OldPlace) → Line15 old ℓ₁ Vδ o ℓₚ op q → ⊥) → counterpart old ℓₚ o ≡ none
