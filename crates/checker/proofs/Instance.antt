@@ -1,5 +1,5 @@
--- The promise is not empty: a small record, made by hand, that the check passes; a run that reaches the new alarm and is covered, so that
--- there is an old run; one that is not covered; and a list of rows that is no run. Assumes nothing.
+-- The promise is not empty: a small record, made by hand, that the check passes; a run that reaches the new alarm and is
+-- covered, so that there is an old run; one that is not covered; and a list of rows that is no run. Assumes nothing.
 use mathlib.Core.Path.{_≡_, refl, sym, subst, _∙_}
 use mathlib.Core.Bool.{Bool, true, false, _&&_}
 use mathlib.Core.List.{List, [], _∷_}
@@ -37,7 +37,8 @@ use Rattle.checker.proofs.Demand3.{demand-3-first}
 use Rattle.checker.proofs.Passes.{Rules, passes}
 
 -- ---- the record
--- both charts, `2,1,2,0,0,0 0,1,16,0,0,0 0,1,17,0,0,0`: from the start to the alarm, by one row where v0 is 0, by the other where it isn't
+-- both charts, `2,1,2,0,0,0 0,1,16,0,0,0 0,1,17,0,0,0`: from the start to the alarm, by one row where v0 is 0, by the
+-- other where it isn't
 abbrev pub C : Chart
 C = record { places = 2; alarm = 1; table = 0 ∷ 1 ∷ 16 ∷ 0 ∷ 0 ∷ 0 ∷ 0 ∷ 1 ∷ 17 ∷ 0 ∷ 0 ∷ 0 ∷ [] }
 
@@ -119,7 +120,9 @@ rules-so m k l h two there =
 
 pub instance-passes : refusal C C R ≡ none
 unfolding shaped marksFit targetsFit startFits marks
-instance-passes = passes C C R sized-so no-fault no-fault (inl refl, (marks-so, targets-so)) (inl (refl, (refl, inl (λ e. omega arith)))) rules-so
+instance-passes =
+    passes C C R sized-so no-fault no-fault (inl refl, (marks-so, targets-so)) (inl (refl, (refl, inl (λ e. omega arith))))
+    rules-so
 
 -- ---- what it promises
 unfoldable pub zeros : List ℕ
@@ -156,7 +159,9 @@ is-covered = refl
 
 -- so there is an old run that reaches the old alarm
 pub old-run : (js : List ℕ) × (reaches C zeros js ≡ true)
-old-run = demand-3-first C C (words-of (C .table) tt) (words-of (C .table) tt) R instance-passes zeros (0 ∷ []) zeros-values reached-alarm is-covered
+old-run =
+    let w = words-of (C .table) tt in
+    demand-3-first C C w w R instance-passes zeros (0 ∷ []) zeros-values reached-alarm is-covered
 
 -- the run by row 1, from ones: it reaches the new alarm and is not covered
 pub reached-uncovered : reaches C ones (1 ∷ []) ≡ true

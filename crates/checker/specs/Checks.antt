@@ -39,7 +39,8 @@ ruleAt none = none
 ruleAt (some i) = some (sole 32 i)
 
 module _ (old new : Chart) (G : Graph) where
-  -- the index of the target of row k of the pair's new place, if it is at fault. "Targets without a row aren't looked at."
+  -- the index of the target of row k of the pair's new place, if it is at fault. "Targets without a row aren't looked
+  -- at."
   unfoldable pub targetFault : ℕ → List ℕ → ℕ → Option ℕ
   targetFault m rows k = when (ltb k (size rows) && not (bool (rowFits old new G m rows k))) (index m k)
 

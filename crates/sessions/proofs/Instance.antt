@@ -1,5 +1,5 @@
--- The promise is not empty of what is built: a record that a build leaves, with a run that it covers and that has an old run therefore, a
--- run that it does not cover, and a list of rows that is no run. Assumes nothing.
+-- The promise is not empty of what is built: a record that a build leaves, with a run that reaches the new alarm and is
+-- covered, so that there is an old run; one that is not covered; and a list of rows that is no run. Assumes nothing.
 use mathlib.Core.Path.{_≡_, refl, ap}
 use mathlib.Core.Bool.{true, false}
 use mathlib.Core.List.{List, [], _∷_}
@@ -36,7 +36,7 @@ use Rattle.condition.specs.Builds as builder-builds
 abbrev pub C : Chart
 C = record { places = 3; alarm = 2; table = 0 ∷ 1 ∷ 0 ∷ 0 ∷ 0 ∷ 1 ∷ 1 ∷ 2 ∷ 0 ∷ 1 ∷ 0 ∷ 2 ∷ [] }
 
--- what is built of it: the start open, the pair after row 0 covered, that of both alarms beyond; a set is nowhere needed
+-- what is built of it: the start open, the pair after row 0 covered, that of both alarms beyond, and all sets empty
 pub R : Record
 R = recordOf 0 (set (set (set (replicate 4160 0) 0 1) 65 3) 130 4) (set (set (replicate 8192 65535) 0 65) 130 130) (replicate 4096 0)
 
@@ -69,8 +69,8 @@ is-covered = ap (λ (R : Record). covered C R (0 ∷ 1 ∷ [])) is-built
 -- so there is an old run that reaches the old alarm
 pub old-run : (js : List ℕ) × (reaches C zeros js ≡ true)
 old-run =
-    demand-3-first C C (words-of (C .table) tt) (words-of (C .table) tt) (recorded C C) built-passes zeros (0 ∷ 1 ∷ []) zeros-values
-    reached-alarm is-covered
+    let w = words-of (C .table) tt in
+    demand-3-first C C w w (recorded C C) built-passes zeros (0 ∷ 1 ∷ []) zeros-values reached-alarm is-covered
 
 -- the run of no rows stays at the start, which is open: it is not covered
 pub not-covered : covered C (recorded C C) [] ≡ false

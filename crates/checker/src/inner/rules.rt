@@ -1,4 +1,4 @@
-// All rules of refusal 32, in order: the start, then the targets by index. What is found is the position of the refusal.
+// All rules of refusal 32, in order: the start, then the targets by index. What is found is the refusal's position.
 ghost use mathlib.Core.Path.{_≡_};
 ghost use Prim.Native.Nat.{ℕ, _+_, _<_, _≤_};
 ghost use lib.ListN.{length, getD};
