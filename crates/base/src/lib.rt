@@ -1,5 +1,5 @@
-// What no layer owns: the refusal that every answer can be; and as definitions and laws alone tests, values that may be missing,
-// answers and lists.
+// What no layer owns: the refusal that every answer can be; and as definitions and laws alone tests, values that may be
+// missing, answers and lists.
 ghost use mathlib.Core.Path.{_≡_};
 ghost use Rattle.base.specs.Refusals.{sole};
 

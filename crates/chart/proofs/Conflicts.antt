@@ -1,5 +1,5 @@
--- Fault 8 by the values: rows clash exactly where they are in conflict, and of two rows of a place of a faultless chart exactly one may be
--- taken. Assumes nothing.
+-- Fault 8 by the values: rows clash exactly where they are in conflict, and of two rows of a place of a faultless chart
+-- exactly one may be taken. Assumes nothing.
 use mathlib.Core.Path.{_≡_, refl, sym}
 use mathlib.Core.Bool.{Bool, true, false, _&&_, not}
 use mathlib.Core.List.{List}

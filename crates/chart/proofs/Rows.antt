@@ -9,7 +9,7 @@ use native.Mathlib.Decide.{decLe, ℕ-discrete}
 use native.Mathlib.Omega.{arith}
 use borrow.Author.Tests.{eq-eqb, ne-eqb}
 use lib.Dec.{eqb}
-use lib.ListN.{length, getD, set, take, drop, length-set}
+use lib.ListN.{length, getD, set, take, drop, length-set, length-take, length-drop}
 use lib.Seq.{take-add, drop-drop, getD-set-same, getD-set-other}
 use Rattle.chart.specs.Charts.{size, from, leavingOf, leaving}
 use Rattle.chart.specs.Lookup.{Ascending, Lower, Indexable, End, Ends, lastOf, Carried, Indexed}
@@ -58,6 +58,13 @@ module _ (t : List ℕ) (p a e : ℕ) (la : Lower t p a) (le : Lower t (p + 1) e
       skip t p e (n - e) (λ j l u q. let g = s .order e j l (omega arith) in let f = le .reached (omega arith) in omega arith) in
       let m : (e - a) * 6 ≡ e * 6 - a * 6 = omega arith in
       ap (leavingOf t p) (sym en) ∙ last ∙ ap (leavingOf t p) (sym ea) ∙ middle ∙ rw (first, m)
+
+-- a part from row `first` up to row `end` ends within the table
+pub part-inside : (t l : List ℕ) (first end : ℕ) → first ≤ end → end ≤ size t → l ≡ take (end * 6 - first * 6) (drop (first * 6) t)
+    → first * 6 + length l ≤ length t
+part-inside t l first end o b e =
+    let z : length (take (end * 6 - first * 6) (drop (first * 6) t)) ≤ length t - first * 6 = simp (length-take, length-drop) (omega arith) in
+    omega (arith, ap length e)
 
 -- ---- the loops that look for the two bounds
 -- halving: every row before low leaves a lower place, every row from high on does not

@@ -1,4 +1,5 @@
--- The definitions that the contracts of the crate cite: read those of `operations` first, then Charts, Runs, Faults, Lookup.
+-- The definitions that the contracts of the crate cite: read those of `operations` first, then Charts, Runs, Faults,
+-- Lookup. Conflicts and Faultless are what theorems compare the faults with.
 pub mod Places
 pub mod Charts
 pub mod Runs

@@ -22,11 +22,13 @@ lookup old new chart p =
     cond (eqb chart 0) (cond (openTo old p) (leaving (old .table) p) [])
     (cond (eqb chart 1) (cond (openTo new p) (leaving (new .table) p) []) [])
 
--- "as a part of that chart's table": it points at the first entry of one of the table's rows, each of six entries of four bytes
-pub record Stands (part table : ℕ × ℕ) : Type 0 where
+-- "as a part of that chart's table": where a part and a table point to, and their entries. The part begins with one of the
+-- table's rows, each of six entries of four bytes, and ends within the table
+pub record Stands (part table : ℕ × ℕ) (entries all : List ℕ) : Type 0 where
   pub row : ℕ
   pub block : part .0 ≡ table .0
   pub offset : part .1 ≡ table .1 + row * 6 * 4
+  pub inside : row * 6 + length entries ≤ length all
 
 -- ---- the inner form
 -- the table of the chart that a place is in, and the place's number

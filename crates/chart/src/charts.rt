@@ -7,7 +7,8 @@ pub struct Head {
     pub alarm: u32,
 }
 
-// What judging a chart finds: no refusal is due, or the first that is. A table that is not whole rows is the caller's mistake, 21.
+// What judging a chart finds: no refusal is due, or the first that is. A table that is not whole rows is the caller's
+// mistake, 21.
 pub enum Judged {
     Faultless,
     Refused(Refusal),

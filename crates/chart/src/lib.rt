@@ -14,7 +14,8 @@ pub mod places; // places.rt: places of the old and of the new chart
 pub mod charts; // charts.rt: a chart's head, and what judging a chart answers
 pub mod inner; // inner.rt: for the crates above
 
-// The refusal that is due for a chart: 21, the caller's, for a table that is not whole rows, else the first fault, 1 to 8, with its row.
+// The refusal that is due for a chart: 21, the caller's, for a table that is not whole rows, else the first fault, 1 to 8,
+// with its row.
 pub fn judge(head: Head, rows: &[u32]) -> Judged
     ensures { λ r. ⌜ told r ≡ refusal (charted head (now (rows .entry))) ⌝ }
 {
@@ -36,7 +37,7 @@ fn open_to(head: Head, rows: &[u32], place: u32) -> bool
 
 // The rows that leave a place of a chart, as a part of its table; an empty part where the chart is faulty or has no such place.
 fn rows_open(head: Head, rows: &[u32], place: u32) -> &[u32]
-    ensures stands { λ r. ⌜ Stands (r .ptr) (rows .entry .ptr) ⌝ }
+    ensures stands { λ r. ⌜ Stands (r .ptr) (rows .entry .ptr) (now r) (now (rows .entry)) ⌝ }
     ensures is { λ r. ⌜ now r ≡ cond (openTo (charted head (now (rows .entry))) place) (leaving (now (rows .entry)) place) [] ⌝ }
 {
     if open_to(head, rows, place) {
@@ -55,7 +56,8 @@ pub fn lookup<'a>(
     chart: u32,
     place: u32,
 ) -> &'a [u32]
-    ensures stands { λ r. ⌜ Stands (r .ptr) (cond (eqb chart 1) («new_rows» .entry .ptr) («old_rows» .entry .ptr)) ⌝ }
+    ensures stands { λ r. ⌜ Stands (r .ptr) (cond (eqb chart 1) («new_rows» .entry .ptr) («old_rows» .entry .ptr))
+        (now r) (cond (eqb chart 1) (now («new_rows» .entry)) (now («old_rows» .entry))) ⌝ }
     ensures is { λ r. ⌜ now r ≡ lookup (charted old (now («old_rows» .entry))) (charted new (now («new_rows» .entry))) chart place ⌝ }
 {
     if chart == 0 {

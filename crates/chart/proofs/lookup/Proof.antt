@@ -37,7 +37,7 @@ part-result-end c = search needs
 
 returns-3 : tie.Need-returns-3
 unfolding lookup
-returns-3 c = (rw (ne-eqb _ _ (c .before .if2 .left)) (record { row = 0; block = refl; offset = omega arith }), rw (ne-eqb _ _ (c .before .before .if1 .left), ne-eqb _ _ (c .before .if2 .left)))
+returns-3 c = (rw (ne-eqb _ _ (c .before .if2 .left)) (record { row = 0; block = refl; offset = omega arith; inside = omega arith }), rw (ne-eqb _ _ (c .before .before .if1 .left), ne-eqb _ _ (c .before .if2 .left)))
 
 pub lookup-spec : {M : Type 1} → statement M
 lookup-spec =

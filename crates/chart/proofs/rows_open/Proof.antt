@@ -25,7 +25,7 @@ part-result-end : tie.Need-part-result-end
 part-result-end c = search needs
 
 returns-2 : tie.Need-returns-2
-returns-2 c = (record { row = 0; block = refl; offset = omega arith }, rw (sym (c .before .before .open-to .ensures) ∙ c .before .if1 .left))
+returns-2 c = (record { row = 0; block = refl; offset = omega arith; inside = omega arith }, rw (sym (c .before .before .open-to .ensures) ∙ c .before .if1 .left))
 
 pub rows-open-spec : {M : Type 1} → statement M
 rows-open-spec =

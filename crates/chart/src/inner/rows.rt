@@ -125,7 +125,7 @@ fn part(rows: &[u32], first: usize, end: usize) -> &[u32]
 pub fn rows_in(rows: &[u32], place: u32) -> &[u32]
     requires { ⌜ Ascending (now rows) ⌝ }
     ensures is { λ r. ⌜ now r ≡ leaving (now (rows .entry)) place ⌝ }
-    ensures stands { λ r. ⌜ Stands (r .ptr) (rows .entry .ptr) ⌝ }
+    ensures stands { λ r. ⌜ Stands (r .ptr) (rows .entry .ptr) (now r) (now (rows .entry)) ⌝ }
 {
     let first = lower(rows, place);
     part(rows, first, past(rows, place, first))
