@@ -26,7 +26,7 @@ same-length : tie.Need-same-length
 same-length c = search needs
 
 returns : tie.Need-returns
-returns c = old-refused (c .before .before .before .before .before .before .before .before .before .before .before .args .old-text .now) (c .before .before .before .before .before .before .before .before .before .before .before .args .new-text .now) (c .before .before .before .before .before .before .before .before .before .before .before .args .old .now) _ (c .before .before .before .before .before .before .before .before .before .before .before .args .new .now) _ (c .before .before .before .before .before .read .ensures) _ (c .before .r .given .1)
+returns c = old-refused (c .before .before .before .before .before .before .before .before .before .before .before .args .old-text .now) (c .before .before .before .before .before .before .before .before .before .before .before .args .new-text .now) (c .before .before .before .before .before .before .before .before .before .before .before .args .old .now) _ (c .before .before .before .before .before .before .before .before .before .before .before .args .new .now) _ (c .before .before .before .before .before .read .ensures .0) _ (c .before .r .given .1)
 
 same-length-2 : tie.Need-same-length-2
 same-length-2 c = search needs
@@ -35,7 +35,7 @@ same-length-3 : tie.Need-same-length-3
 same-length-3 c = search needs
 
 returns-2 : tie.Need-returns-2
-returns-2 c = new-refused (c .before .before .before .before .before .before .before .before .before .before .before .before .before .before .before .before .before .before .args .old-text .now) (c .before .before .before .before .before .before .before .before .before .before .before .before .before .before .before .before .before .before .args .new-text .now) (c .before .before .before .before .before .before .before .before .before .before .before .before .before .before .before .before .before .before .args .old .now) _ (c .before .before .before .before .before .before .before .before .before .before .before .before .before .before .before .before .before .before .args .new .now) _ (c .before .before .before .before .before .before .before .before .before .before .before .before .read .ensures) _ _ _ _ (c .before .before .before .before .before .before .before .before .head .given .1) (c .before .before .before .before .before .read2 .ensures) _ (c .before .r2 .given .1)
+returns-2 c = new-refused (c .before .before .before .before .before .before .before .before .before .before .before .before .before .before .before .before .before .before .args .old-text .now) (c .before .before .before .before .before .before .before .before .before .before .before .before .before .before .before .before .before .before .args .new-text .now) (c .before .before .before .before .before .before .before .before .before .before .before .before .before .before .before .before .before .before .args .old .now) _ (c .before .before .before .before .before .before .before .before .before .before .before .before .before .before .before .before .before .before .args .new .now) _ (c .before .before .before .before .before .before .before .before .before .before .before .before .read .ensures .0) _ _ _ _ (c .before .before .before .before .before .before .before .before .head .given .1) (c .before .before .before .before .before .read2 .ensures .0) _ (c .before .r2 .given .1)
 
 same-length-4 : tie.Need-same-length-4
 same-length-4 c = search needs
@@ -44,7 +44,7 @@ same-length-5 : tie.Need-same-length-5
 same-length-5 c = search needs
 
 returns-3 : tie.Need-returns-3
-returns-3 c = both-charts (c .before .before .before .before .before .before .before .before .before .before .before .before .before .before .before .before .before .before .args .old-text .now) (c .before .before .before .before .before .before .before .before .before .before .before .before .before .before .before .before .before .before .args .new-text .now) (c .before .before .before .before .before .before .before .before .before .before .before .before .before .before .before .before .before .before .args .old .now) _ (c .before .before .before .before .before .before .before .before .before .before .before .before .before .before .before .before .before .before .args .new .now) _ (c .before .before .before .before .before .before .before .before .before .before .before .before .read .ensures) _ _ _ _ (c .before .before .before .before .before .before .before .before .head .given .1) (c .before .before .before .before .before .read2 .ensures) _ _ (c .before .other .given .1)
+returns-3 c = both-charts (c .before .before .before .before .before .before .before .before .before .before .before .before .before .before .before .before .before .before .args .old-text .now) (c .before .before .before .before .before .before .before .before .before .before .before .before .before .before .before .before .before .before .args .new-text .now) (c .before .before .before .before .before .before .before .before .before .before .before .before .before .before .before .before .before .before .args .old .now) _ (c .before .before .before .before .before .before .before .before .before .before .before .before .before .before .before .before .before .before .args .new .now) _ (c .before .before .before .before .before .before .before .before .before .before .before .before .read .ensures .0) _ _ _ _ (c .before .before .before .before .before .before .before .before .head .given .1) (c .before .before .before .before .before .read2 .ensures .0) _ _ (c .before .other .given .1)
 
 pub read-both-spec : {M : Type 1} → statement M
 read-both-spec =
