@@ -71,7 +71,7 @@ pub fn meets(o: Operation, values: &[u32]) -> u64 {
     unsafe { linked::testing_meets(o.code, o.a, o.b, o.c, values.as_ptr(), values.len()) }
 }
 
-/// Numbers from a seed (xorshift64*): the same in every run. `PICKER_CASES` multiplies the number of cases of every test.
+/// Numbers from a seed (xorshift64*): the same in every run.
 pub struct Random(u64);
 
 impl Random {
@@ -100,6 +100,26 @@ impl Random {
     }
 }
 
+/// How many cases a test draws: as many as usual, times the whole number in the environment variable `PICKER_CASES`.
+/// Unset, 0 or anything else counts as 1, so that no test is emptied.
 pub fn cases(usual: usize) -> usize {
-    usual * std::env::var("PICKER_CASES").ok().and_then(|n| n.parse().ok()).unwrap_or(1)
+    times(usual, std::env::var("PICKER_CASES").ok().as_deref())
+}
+
+fn times(usual: usize, said: Option<&str>) -> usize {
+    usual.saturating_mul(said.and_then(|n| n.parse().ok()).unwrap_or(1).max(1))
+}
+
+#[cfg(test)]
+mod tests {
+    #[test]
+    fn nothing_said_empties_a_test() {
+        for (said, expected) in
+            [(None, 40), (Some("10"), 400), (Some("1"), 40), (Some("0"), 40), (Some(""), 40), (Some("-3"), 40), (Some("many"), 40)]
+        {
+            assert_eq!(super::times(40, said), expected, "{said:?}");
+        }
+        // Too many to count are not wrapped round to none.
+        assert_eq!(super::times(64, Some("9223372036854775808")), usize::MAX);
+    }
 }
