@@ -1,5 +1,7 @@
 //! The program `pick`, run in a folder of its own on two files: worked sessions, edges and files that can't be read.
 
+use picker_tests::drawn::{self, Sort, SORTS};
+use picker_tests::{algorithms, cases, texts, Random};
 use std::fs;
 use std::path::{Path, PathBuf};
 use std::process::Command;
@@ -148,6 +150,29 @@ fn examples_of_the_reference() {
         let shown: String = printed(Some(OLD), Some(&OLD.replace(from, to))).lines().map(|l| format!("    {l}\n")).collect();
         assert!(reference.contains(&format!("\n\n{shown}\n")), "not in the reference:\n{shown}");
     }
+}
+
+/// Conditions of drawn charts, many of them longer than the 1,024 bytes of a portion, against what Algorithms 1 and 2
+/// in plain Rust make of them.
+#[test]
+fn many_portions() {
+    let mut random = Random::new(20280);
+    let (mut long, mut longest) = (0, 0);
+    for sort in SORTS {
+        for _ in 0..cases(if sort == Sort::Wide { 10 } else { 20 }) {
+            let (old, new) = drawn::pair(&mut random, sort);
+            let built = algorithms::build(&old, &new);
+            let counts = [built.open, built.kept, built.covered];
+            let expected = algorithms::printed(&new, built.start, counts, &built.marks, &built.targets).join("\r\n") + "\r\n";
+            let [old, new] = [&old, &new].map(|chart| String::from_utf8(texts::plain_write(chart)).unwrap());
+            let out = printed(Some(&old), Some(&new));
+            assert!(out == expected, "{sort:?}: {} bytes in place of {}: {old} {new}", out.len(), expected.len());
+            long += (out.len() > 1024) as usize;
+            longest = longest.max(out.len());
+        }
+    }
+    println!("{long} outputs of more than one portion, the longest of {longest} bytes");
+    assert!(long >= 30 && longest > 50 * 1024);
 }
 
 #[test]
