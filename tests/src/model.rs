@@ -162,6 +162,39 @@ pub fn fault(chart: &Chart) -> (u32, usize) {
     (0, 0)
 }
 
+/// Faulty charts of every number, with their positions.
+pub fn faulty() -> Vec<(Chart, (u32, usize))> {
+    let chart = |places, alarm, rows: &[[u32; 6]]| Chart { places, alarm, rows: rows.concat() };
+    let one = [0, 0, 0, 0, 0, 0];
+    let choice = [[0, 0, 16, 0, 0, 1], [0, 0, 17, 0, 0, 1]];
+    let all = vec![
+        (chart(0, 0, &[one]), (1, 0)),
+        (chart(1, 0, &[]), (1, 0)),
+        (chart(65, 0, &[]), (1, 0)),
+        (chart(65, 0, &[one]), (2, 0)),
+        (chart(u32::MAX, 0, &[one]), (2, 0)),
+        (chart(64, 0, &[one; 129]), (2, 0)),
+        (chart(1, 1, &[one]), (3, 0)),
+        (chart(64, u32::MAX, &[one]), (3, 0)),
+        (chart(2, 0, &[one, [1, 2, 0, 0, 0, 0]]), (4, 1)),
+        (chart(2, 0, &[one, [2, 0, 0, 0, 0, 0]]), (4, 1)),
+        (chart(2, 0, &[[1, 0, 0, 0, 0, 0], one]), (5, 1)),
+        (chart(1, 0, &[[0, 0, 6, 0, 0, 0]]), (6, 0)),
+        (chart(2, 0, &[one, [1, 0, 22, 0, 0, 0]]), (6, 1)),
+        (chart(1, 0, &[[0, 0, 38, 0, 0, 0]]), (6, 0)),
+        (chart(1, 0, &[[0, 0, 0, 64, 0, 0]]), (7, 0)),
+        (chart(1, 0, &[[0, 0, 16, 0, 1, 0]]), (7, 0)),
+        (chart(2, 0, &[one, [1, 1, 3, 0, 0, 64]]), (7, 1)),
+        (chart(1, 0, &[one, one]), (8, 1)),
+        (chart(1, 0, &[choice[0], choice[1], choice[0]]), (8, 2)),
+        (chart(1, 0, &[choice[0], choice[0]]), (8, 1)),
+    ];
+    for (chart, expected) in &all {
+        assert_eq!(fault(chart), *expected, "{chart:?}");
+    }
+    all
+}
+
 /// The rows that leave a place of the chart named.
 pub fn lookup(old: &Chart, new: &Chart, which: u32, place: u32) -> Vec<u32> {
     let chart = match which {

@@ -365,39 +365,6 @@ mod proved {
 
     // ---- refusals
 
-    /// Faulty charts of every number, with their positions.
-    fn faulty() -> Vec<(Chart, (u32, usize))> {
-        let chart = |places, alarm, rows: &[[u32; 6]]| Chart { places, alarm, rows: rows.concat() };
-        let one = [0, 0, 0, 0, 0, 0];
-        let choice = [[0, 0, 16, 0, 0, 1], [0, 0, 17, 0, 0, 1]];
-        let all = vec![
-            (chart(0, 0, &[one]), (1, 0)),
-            (chart(1, 0, &[]), (1, 0)),
-            (chart(65, 0, &[]), (1, 0)),
-            (chart(65, 0, &[one]), (2, 0)),
-            (chart(u32::MAX, 0, &[one]), (2, 0)),
-            (chart(64, 0, &[one; 129]), (2, 0)),
-            (chart(1, 1, &[one]), (3, 0)),
-            (chart(64, u32::MAX, &[one]), (3, 0)),
-            (chart(2, 0, &[one, [1, 2, 0, 0, 0, 0]]), (4, 1)),
-            (chart(2, 0, &[one, [2, 0, 0, 0, 0, 0]]), (4, 1)),
-            (chart(2, 0, &[[1, 0, 0, 0, 0, 0], one]), (5, 1)),
-            (chart(1, 0, &[[0, 0, 6, 0, 0, 0]]), (6, 0)),
-            (chart(2, 0, &[one, [1, 0, 22, 0, 0, 0]]), (6, 1)),
-            (chart(1, 0, &[[0, 0, 38, 0, 0, 0]]), (6, 0)),
-            (chart(1, 0, &[[0, 0, 0, 64, 0, 0]]), (7, 0)),
-            (chart(1, 0, &[[0, 0, 16, 0, 1, 0]]), (7, 0)),
-            (chart(2, 0, &[one, [1, 1, 3, 0, 0, 64]]), (7, 1)),
-            (chart(1, 0, &[one, one]), (8, 1)),
-            (chart(1, 0, &[choice[0], choice[1], choice[0]]), (8, 2)),
-            (chart(1, 0, &[choice[0], choice[0]]), (8, 1)),
-        ];
-        for (chart, fault) in &all {
-            assert_eq!(texts::fault(chart), *fault, "{chart:?}");
-        }
-        all
-    }
-
     fn faultless() -> Chart {
         Chart { places: 2, alarm: 1, rows: vec![0, 1, 18, 0, 0, 5, 0, 0, 21, 0, 0, 5] }
     }
@@ -416,12 +383,12 @@ mod proved {
         let mut record = Record::from(algorithms::build(&faultless(), &faultless()));
         // A record at fault: the charts are judged before it.
         record.start = 7;
-        for (bad, (number, position)) in faulty() {
+        for (bad, (number, position)) in model::faulty() {
             for (old, new, chart) in [(&bad, &faultless(), 0), (&faultless(), &bad, 1), (&bad, &bad, 0)] {
                 refused(old, new, &buffers, (number, chart, position));
                 assert_eq!(compare_check(old, new, &record), Err((number, chart, position)));
             }
-            for (other, (first, at)) in faulty() {
+            for (other, (first, at)) in model::faulty() {
                 refused(&other, &bad, &buffers, (first, 0, at));
                 assert_eq!(compare_check(&other, &bad, &record), Err((first, 0, at)));
             }

@@ -103,6 +103,26 @@ fn handed_over(old: &Chart, new: &Chart, which: u32, place: u32, part: &[u32]) {
     }
 }
 
+/// A table that is not whole rows makes its chart faulty: every part of it is empty. The other chart's parts are as ever.
+#[test]
+fn lookup_on_a_table_that_is_not_whole_rows() {
+    let whole = Chart { places: 3, alarm: 2, rows: vec![0, 1, 16, 0, 0, 1, 0, 2, 17, 0, 0, 1, 1, 0, 0, 5, 0, 9] };
+    let parts: [&[u32]; 4] = [&whole.rows[..12], &whole.rows[12..], &[], &[]];
+    for entries in (1..24).filter(|entries| entries % 6 != 0) {
+        let mut rows = whole.rows.clone();
+        rows.resize(entries, 0);
+        let cut = Chart { rows, ..whole.clone() };
+        assert_eq!(fault(&cut), (21, 0), "{cut:?}");
+        for (place, part) in (0..).zip(parts) {
+            handed_over(&cut, &whole, 0, place, &[]);
+            handed_over(&cut, &whole, 1, place, part);
+            handed_over(&whole, &cut, 0, place, part);
+            handed_over(&whole, &cut, 1, place, &[]);
+            handed_over(&cut, &cut, 0, place, &[]);
+        }
+    }
+}
+
 /// The edges that the specification names, and heads and lengths at fault.
 #[test]
 fn edges() {

@@ -203,6 +203,43 @@ fn edges_of_texts() {
     assert!(bytes.iter().all(|b| *b == 0xA5));
 }
 
+/// More bytes than a text needs: only those written are touched.
+#[test]
+fn written_into_more_bytes() {
+    let mut random = Random::new(20279);
+    let mut all = vec![largest()];
+    for _ in 0..cases(200) {
+        let chart = model::chart(&mut random);
+        all.extend((fault(&chart).0 == 0).then_some(chart));
+    }
+    assert!(all.len() > 20, "only {} faultless charts", all.len());
+    for chart in all {
+        let expected = plain_write(&chart);
+        for lent in [8644, 9000, 16_384, 65_537] {
+            for paint in [0x00, 0xA5] {
+                let mut bytes = vec![paint; lent];
+                assert_eq!(write(&chart, &mut bytes), Ok([expected.len() as u64, 0, 0, 0]), "{lent} bytes: {chart:?}");
+                let (front, rest) = bytes.split_at(expected.len());
+                assert!(front == expected, "{lent} bytes: {chart:?}");
+                assert!(rest.iter().all(|b| *b == paint), "bytes past the text, of {lent}: {chart:?}");
+            }
+        }
+    }
+}
+
+/// Too few bytes come before any fault of the chart, though its text were short.
+#[test]
+fn too_few_bytes_for_a_faulty_chart() {
+    for (chart, (number, position)) in model::faulty() {
+        for lent in [0, 1, 20, 8642] {
+            let mut bytes = vec![0xA5u8; lent];
+            assert_eq!(write(&chart, &mut bytes), Err((21, 0, 0)), "{lent} bytes: {chart:?}");
+            assert!(bytes.iter().all(|b| *b == 0xA5), "a refusal wrote to the bytes: {chart:?}");
+        }
+        assert_eq!(write(&chart, &mut vec![0; 8643]), Err((number, 0, position)), "{chart:?}");
+    }
+}
+
 /// The quick test of two assumptions agrees with the slow one.
 #[test]
 fn opposite_as_modelled() {
