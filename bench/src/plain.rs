@@ -93,6 +93,20 @@ pub fn read(text: &[u8], table: &mut [u32]) -> Result<(u32, u32, usize), Refusal
     Ok((head[0], head[1], count))
 }
 
+/// The digits of a number, at the end of the room.
+#[inline]
+pub fn digits(mut x: u32, room: &mut [u8; 10]) -> &[u8] {
+    let mut n = 10;
+    loop {
+        n -= 1;
+        room[n] = b'0' + (x % 10) as u8;
+        x /= 10;
+        if x == 0 {
+            return &room[n..];
+        }
+    }
+}
+
 /// The bytes of a chart's text; the chart is judged first.
 pub fn write(chart: &Chart, bytes: &mut [u8]) -> Result<usize, Refusal> {
     let fault = judge(chart.places, chart.alarm, &chart.rows);
@@ -101,18 +115,10 @@ pub fn write(chart: &Chart, bytes: &mut [u8]) -> Result<usize, Refusal> {
     }
     let mut at = 0;
     let mut put = |x: u32, last: bool, bytes: &mut [u8]| {
-        let mut digits = [0u8; 10];
-        let (mut n, mut x) = (10, x);
-        loop {
-            n -= 1;
-            digits[n] = b'0' + (x % 10) as u8;
-            x /= 10;
-            if x == 0 {
-                break;
-            }
-        }
-        bytes[at..at + 10 - n].copy_from_slice(&digits[n..]);
-        at += 10 - n;
+        let mut room = [0; 10];
+        let digits = digits(x, &mut room);
+        bytes[at..at + digits.len()].copy_from_slice(digits);
+        at += digits.len();
         if last {
             bytes[at..at + 2].copy_from_slice(b"\r\n");
             at += 2;
@@ -179,4 +185,43 @@ fn apart(e: &[u32], r: &[u32]) -> bool {
         return true;
     }
     exactly_one(e, r)
+}
+
+#[cfg(test)]
+mod tests {
+    use super::*;
+    use picker_tests::texts::{damage, fault, plain_read, plain_write, varied, Wrong};
+    use picker_tests::{cases, model, Random};
+
+    #[test]
+    fn texts_and_faults() {
+        let mut random = Random::new(20287);
+        let mut refused = 0;
+        for _ in 0..cases(20_000) {
+            let chart = model::chart(&mut random);
+            let expected = fault(&chart);
+            assert_eq!(judge(chart.places, chart.alarm, &chart.rows), expected, "{chart:?}");
+            let mut bytes = vec![0xA5; 8643];
+            if expected.0 == 0 {
+                let text = plain_write(&chart);
+                assert_eq!(write(&chart, &mut bytes), Ok(text.len()), "{chart:?}");
+                assert!(bytes[..text.len()] == text, "{chart:?}");
+            } else {
+                assert_eq!(write(&chart, &mut bytes), Err(expected), "{chart:?}");
+            }
+            let mut text = varied(&mut random, &plain_write(&chart));
+            (0..random.below(3)).for_each(|_| damage(&mut random, &mut text));
+            let mut table = vec![7; 768];
+            let answer = read(&text, &mut table);
+            refused += answer.is_err() as usize;
+            match plain_read(&text, Wrong::Not) {
+                Ok(chart) => {
+                    assert_eq!(answer, Ok((chart.places, chart.alarm, chart.rows.len() / 6)), "{}", text.escape_ascii());
+                    assert!(table[..chart.rows.len()] == chart.rows, "{}", text.escape_ascii());
+                }
+                Err(refusal) => assert_eq!(answer, Err(refusal), "{}", text.escape_ascii()),
+            }
+        }
+        assert!(refused > 1000, "only {refused} refused");
+    }
 }

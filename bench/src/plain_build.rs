@@ -10,7 +10,7 @@ use picker_tests::conditions::Buffers;
 use picker_tests::Chart;
 
 /// Number, chart and position.
-type Refusal = (u32, u32, usize);
+pub type Refusal = (u32, u32, usize);
 
 /// A chart with the first row of each place.
 struct Index<'a> {
@@ -38,7 +38,7 @@ impl<'a> Index<'a> {
     }
 }
 
-fn judged(old: &Chart, new: &Chart) -> Result<(), Refusal> {
+pub fn judged(old: &Chart, new: &Chart) -> Result<(), Refusal> {
     if old.rows.len() % 6 != 0 || new.rows.len() % 6 != 0 {
         return Err((21, 0, 0));
     }
@@ -144,7 +144,7 @@ pub fn exactly_one(f: &[u32], g: &[u32]) -> bool {
 // ---- the step
 
 #[inline]
-fn read_by(o: &[u32]) -> u64 {
+pub fn read_by(o: &[u32]) -> u64 {
     match o[2] {
         0 => 0,
         1 | 2 | 5 => 1 << o[4],

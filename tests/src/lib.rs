@@ -76,7 +76,7 @@ pub struct Random(u64);
 
 impl Random {
     pub fn new(seed: u64) -> Random {
-        println!("seed {seed}");
+        eprintln!("seed {seed}");
         Random(seed.max(1))
     }
 

@@ -1,0 +1,330 @@
+//! The builder and the checker as one would write them in Rust for everyday use: std's collections where they come
+//! naturally, nothing cloned that need not be, and no layout or memory given. A set of variables is a word, as a record
+//! has it; charts are judged and assumptions compared as by the plain Rust beside it. The record stays in the
+//! collections: nobody lays it out in buffers, which the others have to do.
+
+use crate::plain_build::{implied, judged, read_by, Refusal};
+use picker_tests::Chart;
+use std::collections::hash_map::Entry;
+use std::collections::{BTreeSet, HashMap, HashSet};
+
+/// An old place and a new one.
+#[derive(Clone, Copy, Debug, PartialEq, Eq, PartialOrd, Ord, Hash)]
+pub struct Pair {
+    pub old: usize,
+    pub new: usize,
+}
+
+#[derive(Clone, Copy, Debug, PartialEq, Eq)]
+pub enum Node {
+    Pair(Pair),
+    Kept(usize),
+}
+
+#[derive(Clone, Copy, Debug, PartialEq, Eq)]
+pub enum Mark {
+    Open,
+    Covered,
+    Beyond,
+}
+
+/// What is known of a pair in the graph: the affected variables, where its rows lead, its mark.
+#[derive(Debug)]
+pub struct State {
+    pub set: u64,
+    pub targets: [Option<Node>; 2],
+    pub mark: Mark,
+}
+
+#[derive(Debug)]
+pub struct Condition {
+    pub start: Node,
+    pub pairs: HashMap<Pair, State>,
+    pub kept: HashSet<usize>,
+}
+
+const START: Pair = Pair { old: 0, new: 0 };
+
+/// A chart's rows by the place that they leave.
+struct Graph<'a> {
+    rows: Vec<Vec<&'a [u32]>>,
+    alarm: usize,
+}
+
+impl<'a> Graph<'a> {
+    fn new(chart: &'a Chart) -> Graph<'a> {
+        let mut rows = vec![Vec::new(); chart.places as usize];
+        for row in chart.rows.chunks_exact(6) {
+            rows[row[0] as usize].push(row);
+        }
+        Graph { rows, alarm: chart.alarm as usize }
+    }
+}
+
+/// One aligned step: the pair that it comes to and its set, none where it fails.
+fn step(old: &Graph, new_alarm: usize, from: Pair, mut set: u64, row: &[u32]) -> Option<(Pair, u64)> {
+    let mut p = from.old;
+    if row[2] < 16 {
+        let written = 1 << row[3];
+        match old.rows[p].iter().find(|e| e[2..] == row[2..]) {
+            Some(e) => {
+                set = if set & read_by(row) != 0 { set | written } else { set & !written };
+                p = e[1] as usize;
+            }
+            None => set |= written,
+        }
+    } else {
+        let mut come_to = vec![p];
+        while p != old.alarm {
+            let Some(e) = old.rows[p].first().filter(|e| e[2] < 16) else { break };
+            set |= 1 << e[3];
+            p = e[1] as usize;
+            if come_to.contains(&p) {
+                return None;
+            }
+            come_to.push(p);
+        }
+        let here: &[&[u32]] = if p == old.alarm { &[] } else { &old.rows[p] };
+        if let Some(e) = here.iter().find(|e| e[2..] == row[2..]).or_else(|| here.iter().find(|e| implied(row, e))) {
+            if set & (read_by(row) | read_by(e)) != 0 {
+                return None;
+            }
+            p = e[1] as usize;
+        }
+    }
+    let q = row[1] as usize;
+    (q != new_alarm || p == old.alarm).then_some((Pair { old: p, new: q }, set))
+}
+
+/// The condition of two charts.
+pub fn build(old: &Chart, new: &Chart) -> Result<Condition, Refusal> {
+    judged(old, new)?;
+    let (old, new) = (Graph::new(old), Graph::new(new));
+    let (mut pairs, kept) = explore(&old, &new);
+    if kept.contains(&0) || (new.alarm == 0 && old.alarm != 0) {
+        return Ok(Condition { start: Node::Kept(0), pairs: HashMap::new(), kept: HashSet::from([0]) });
+    }
+    mark(&mut pairs, &kept);
+    Ok(Condition { start: Node::Pair(START), pairs, kept })
+}
+
+/// Algorithm 2: the pairs in the graph, and the kept places.
+fn explore(old: &Graph, new: &Graph) -> (HashMap<Pair, State>, HashSet<usize>) {
+    let fresh = |set| State { set, targets: [None; 2], mark: Mark::Beyond };
+    let mut pairs = HashMap::from([(START, fresh(0))]);
+    let mut waiting = BTreeSet::from([START]);
+    let mut kept = HashSet::new();
+    while let Some(pair) = waiting.pop_first() {
+        let mut set = 0;
+        for (which, row) in new.rows[pair.new].iter().enumerate() {
+            // A pair that has left the graph is finished under the set it had.
+            if let Some(state) = pairs.get(&pair) {
+                set = state.set;
+            }
+            let q = row[1] as usize;
+            let target = match step(old, new.alarm, pair, set, row) {
+                None => {
+                    if kept.insert(q) {
+                        pairs.retain(|pair, _| pair.new != q);
+                        waiting.retain(|pair| pair.new != q);
+                    }
+                    Node::Kept(q)
+                }
+                Some(_) if kept.contains(&q) => Node::Kept(q),
+                Some((to, joined)) => {
+                    let grows = match pairs.entry(to) {
+                        Entry::Vacant(entry) => {
+                            entry.insert(fresh(joined));
+                            true
+                        }
+                        Entry::Occupied(entry) => {
+                            let known = &mut entry.into_mut().set;
+                            let grows = joined & !*known != 0;
+                            *known |= joined;
+                            grows
+                        }
+                    };
+                    if grows && to.old != old.alarm {
+                        waiting.insert(to);
+                    }
+                    Node::Pair(to)
+                }
+            };
+            if let Some(state) = pairs.get_mut(&pair) {
+                state.targets[which] = Some(target);
+            }
+        }
+    }
+    (pairs, kept)
+}
+
+/// Algorithm 1: targets that are kept by now, and every pair's mark.
+fn mark(pairs: &mut HashMap<Pair, State>, kept: &HashSet<usize>) {
+    let mut before: HashMap<Pair, Vec<Pair>> = HashMap::new();
+    let mut open = vec![START];
+    for (&pair, state) in pairs.iter_mut() {
+        for target in state.targets.iter_mut().flatten() {
+            match *target {
+                Node::Pair(to) if !kept.contains(&to.new) => before.entry(to).or_default().push(pair),
+                Node::Pair(Pair { new, .. }) | Node::Kept(new) => {
+                    *target = Node::Kept(new);
+                    open.push(pair);
+                }
+            }
+        }
+    }
+    let mut edge = Vec::new();
+    while let Some(pair) = open.pop() {
+        let state = pairs.get_mut(&pair).unwrap();
+        if state.mark != Mark::Open {
+            state.mark = Mark::Open;
+            edge.extend(state.targets.iter().flatten().copied());
+            open.extend(before.get(&pair).into_iter().flatten());
+        }
+    }
+    for target in edge {
+        if let Node::Pair(to) = target {
+            let state = pairs.get_mut(&to).unwrap();
+            if state.mark == Mark::Beyond {
+                state.mark = Mark::Covered;
+            }
+        }
+    }
+}
+
+/// Whether a condition keeps the rules; charts at fault are a refusal. What is no place or mark it can't hold.
+pub fn check(old: &Chart, new: &Chart, condition: &Condition) -> Result<bool, Refusal> {
+    judged(old, new)?;
+    let (old, new) = (Graph::new(old), Graph::new(new));
+    let Condition { start, pairs, kept } = condition;
+    let starts = match start {
+        Node::Pair(pair) => pairs.get(pair).is_some_and(|s| s.mark == Mark::Open) && (new.alarm != 0 || old.alarm == 0),
+        Node::Kept(place) => kept.contains(place),
+    };
+    let keeps = |(&pair, state): (&Pair, &State)| {
+        new.rows[pair.new].iter().zip(state.targets).all(|(row, target)| {
+            let q = row[1] as usize;
+            match target {
+                None => pair.old == old.alarm,
+                Some(Node::Kept(place)) => place == q && kept.contains(&q) && state.mark == Mark::Open,
+                Some(Node::Pair(to)) => pairs.get(&to).is_some_and(|reached| {
+                    let leads = if pair.old == old.alarm {
+                        to.new == q
+                    } else {
+                        step(&old, new.alarm, pair, state.set, row).is_some_and(|(p, set)| p == to && set & !reached.set == 0)
+                    };
+                    let allowed = match state.mark {
+                        Mark::Open => reached.mark != Mark::Beyond,
+                        Mark::Covered | Mark::Beyond => reached.mark != Mark::Open,
+                    };
+                    leads && allowed
+                }),
+            }
+        })
+    };
+    Ok(starts && pairs.iter().all(keeps))
+}
+
+#[cfg(test)]
+mod tests {
+    use super::*;
+    use picker_tests::checker::{self, Record};
+    use picker_tests::drawn::{self, Sort, SORTS};
+    use picker_tests::{algorithms, cases, model, Random};
+
+    fn number(node: Node) -> usize {
+        match node {
+            Node::Pair(Pair { old, new }) => 64 * old + new,
+            Node::Kept(place) => 4096 + place,
+        }
+    }
+
+    fn node(number: usize) -> Node {
+        if number < 4096 {
+            Node::Pair(Pair { old: number / 64, new: number % 64 })
+        } else {
+            Node::Kept(number - 4096)
+        }
+    }
+
+    /// A condition laid out as a record.
+    fn record(condition: &Condition) -> Record {
+        let mut r = Record {
+            start: number(condition.start) as u32,
+            marks: vec![0; 4160],
+            targets: vec![65535; 8192],
+            sets: vec![0; 4096],
+        };
+        for &place in &condition.kept {
+            r.marks[4096 + place] = 2;
+        }
+        for (&pair, state) in &condition.pairs {
+            let at = number(Node::Pair(pair));
+            r.marks[at] = match state.mark {
+                Mark::Open => 1,
+                Mark::Covered => 3,
+                Mark::Beyond => 4,
+            };
+            r.sets[at] = state.set;
+            for (which, target) in state.targets.iter().enumerate() {
+                r.targets[2 * at + which] = target.map_or(65535, |to| number(to) as u16);
+            }
+        }
+        r
+    }
+
+    /// A record as a condition.
+    fn condition(r: &Record) -> Condition {
+        let mut made = Condition { start: node(r.start as usize), pairs: HashMap::new(), kept: HashSet::new() };
+        for (at, &mark) in r.marks.iter().enumerate() {
+            let mark = match mark {
+                0 => continue,
+                1 => Mark::Open,
+                3 => Mark::Covered,
+                _ => Mark::Beyond,
+            };
+            match node(at) {
+                Node::Kept(place) => drop(made.kept.insert(place)),
+                Node::Pair(pair) => {
+                    let to = |which| r.targets[2 * at + which] as usize;
+                    let targets = [0, 1].map(|which| (to(which) != 65535).then(|| node(to(which))));
+                    made.pairs.insert(pair, State { set: r.sets[at], targets, mark });
+                }
+            }
+        }
+        made
+    }
+
+    #[test]
+    fn builds_and_checks() {
+        let mut random = Random::new(20285);
+        let mut answers = [0; 2];
+        for sort in SORTS {
+            for _ in 0..cases(if sort == Sort::Wide { 4 } else { 200 }) {
+                let (old, new) = drawn::pair(&mut random, sort);
+                let built = Record::from(algorithms::build(&old, &new));
+                assert!(record(&build(&old, &new).unwrap()) == built, "{old:?} {new:?}");
+                for changes in 0..4 {
+                    let mut r = built.clone();
+                    (0..changes).for_each(|_| drawn::spoil(&mut random, &mut r));
+                    let expected = checker::check(&old, &new, &r);
+                    // What is no record at all has no condition.
+                    if !matches!(expected, Err((31, ..))) {
+                        assert_eq!(check(&old, &new, &condition(&r)), Ok(expected.is_ok()), "{old:?} {new:?} {r:?}");
+                        answers[expected.is_ok() as usize] += 1;
+                    }
+                }
+            }
+        }
+        assert!(answers.iter().all(|n| *n > 100), "{answers:?}");
+    }
+
+    #[test]
+    fn faulty_charts() {
+        let good = Chart { places: 1, alarm: 0, rows: vec![0, 0, 0, 0, 0, 0] };
+        for (bad, (number, position)) in model::faulty() {
+            assert_eq!(build(&bad, &good).unwrap_err(), (number, 0, position));
+            assert_eq!(build(&good, &bad).unwrap_err(), (number, 1, position));
+        }
+    }
+}

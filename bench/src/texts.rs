@@ -1,0 +1,86 @@
+//! The lines of reading, writing and judging the largest charts, against plain Rust.
+
+use crate::plain;
+use crate::turns::{line, turns, Contender, Time, DRAWS};
+use picker_tests::{fault_number, texts, Chart, Random};
+use std::hint::black_box;
+
+/// A largest chart: 64 places of two opposite comparisons each, with constants drawn from all numbers. Codes are drawn
+/// too, or are one kind throughout.
+fn largest(random: &mut Random, drawn_codes: bool) -> Chart {
+    let mut rows = Vec::new();
+    for p in 0..64 {
+        let (code, opposite) = if drawn_codes { random.one_of(&[(16, 17), (18, 21), (19, 20), (20, 19), (21, 18)]) } else { (18, 21) };
+        let (a, c) = (random.below(64) as u32, random.word());
+        rows.extend([p, random.below(64) as u32, code, a, 0, c, p, random.below(64) as u32, opposite, a, 0, c]);
+    }
+    Chart { places: 64, alarm: 63, rows }
+}
+
+/// The text with every field in quotes.
+fn quoted(text: &[u8]) -> Vec<u8> {
+    let mut made = Vec::new();
+    for field in text.split_inclusive(|b| *b == b',' || *b == b'\n') {
+        let digits = field.iter().take_while(|b| b.is_ascii_digit()).count();
+        made.push(b'"');
+        made.extend(&field[..digits]);
+        made.push(b'"');
+        made.extend(&field[digits..]);
+    }
+    made
+}
+
+fn reading(text: &[u8]) -> Vec<Time> {
+    let (mut ours, mut theirs) = (vec![0u32; 768], vec![0u32; 768]);
+    assert!(texts::read(text, &mut ours).is_ok() && plain::read(text, &mut theirs).is_ok() && ours == theirs);
+    let all: Vec<Contender<Vec<u32>>> = vec![
+        Box::new(|table| {
+            black_box(texts::read(black_box(text), table)).ok();
+        }),
+        Box::new(|table| {
+            black_box(plain::read(black_box(text), table)).ok();
+        }),
+    ];
+    turns(&mut ours, all)
+}
+
+fn writing(chart: &Chart) -> Vec<Time> {
+    let (mut ours, mut theirs) = (vec![0u8; 8643], vec![0u8; 8643]);
+    assert_eq!(texts::write(chart, &mut ours).unwrap()[0] as usize, plain::write(chart, &mut theirs).unwrap());
+    assert!(ours == theirs);
+    let all: Vec<Contender<Vec<u8>>> = vec![
+        Box::new(|bytes| {
+            black_box(texts::write(black_box(chart), bytes)).ok();
+        }),
+        Box::new(|bytes| {
+            black_box(plain::write(black_box(chart), bytes)).ok();
+        }),
+    ];
+    turns(&mut ours, all)
+}
+
+fn judging(chart: &Chart) -> Vec<Time> {
+    assert!(fault_number(chart) == 0 && plain::judge(chart.places, chart.alarm, &chart.rows) == (0, 0));
+    let all: Vec<Contender<()>> = vec![
+        Box::new(|_| {
+            black_box(fault_number(black_box(chart)));
+        }),
+        Box::new(|_| {
+            black_box(plain::judge(chart.places, chart.alarm, black_box(&chart.rows)));
+        }),
+    ];
+    turns(&mut (), all)
+}
+
+pub fn lines() {
+    let charts = |drawn_codes| -> Vec<Chart> { DRAWS.iter().map(|seed| largest(&mut Random::new(*seed), drawn_codes)).collect() };
+    let (drawn, one_kind) = (charts(true), charts(false));
+    let of = |what: &str, charts: &[Chart], time: &dyn Fn(&Chart) -> Vec<Time>| {
+        line(what, None, &charts.iter().map(time).collect::<Vec<_>>(), [Some(1), None, None, None]);
+    };
+    of("read a largest text", &drawn, &|chart| reading(&texts::plain_write(chart)));
+    of("read a largest text, every field in quotes", &drawn, &|chart| reading(&quoted(&texts::plain_write(chart))));
+    of("write a largest chart", &drawn, &writing);
+    of("judge a largest chart", &drawn, &judging);
+    of("judge a largest chart, all rows with one kind of code", &one_kind, &judging);
+}
