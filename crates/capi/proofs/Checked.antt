@@ -9,7 +9,7 @@ use native.Mathlib.Omega.{arith}
 use lib.Dec.{eqb, ltb}
 use Rattle.base.specs.Options.{when, orElse, firstOf}
 use Rattle.base.specs.declared.Refusal.{Refusal}
-use Rattle.base.specs.Refusals.{sole, due, unless}
+use Rattle.base.specs.Refusals.{due, unless}
 use Rattle.base.specs.Says.{bool}
 use Rattle.base.proofs.OnSome.{OnSome, when-on, or-on, first-on}
 use Rattle.chart.specs.Charts.{Chart, size, leaving}
