@@ -1,8 +1,12 @@
-//! The program `pick`, run in a folder of its own on two files: worked sessions, edges and files that can't be read.
+//! The program `pick`, run in a folder of its own on two files: worked sessions, edges, files that can't be read, and a
+//! standard output that takes no more.
 
 use picker_tests::drawn::{self, Sort, SORTS};
 use picker_tests::{algorithms, cases, texts, Random};
-use std::fs;
+use std::ffi::c_int;
+use std::fs::{self, File};
+use std::io::{Read, Write};
+use std::os::fd::FromRawFd;
 use std::path::{Path, PathBuf};
 use std::process::Command;
 use std::sync::atomic::{AtomicUsize, Ordering};
@@ -41,15 +45,20 @@ impl Drop for Folder {
     }
 }
 
-/// What is printed for two files; a missing one is not made.
-fn printed(old: Option<&str>, new: Option<&str>) -> String {
+/// A folder with two files; a missing one is not made.
+fn folder(old: Option<&str>, new: Option<&str>) -> Folder {
     let folder = Folder::new();
     for (name, text) in [("old.csv", old), ("new.csv", new)] {
         if let Some(text) = text {
             fs::write(folder.0.join(name), text).unwrap();
         }
     }
-    folder.run()
+    folder
+}
+
+/// What is printed for two files.
+fn printed(old: Option<&str>, new: Option<&str>) -> String {
+    folder(old, new).run()
 }
 
 /// A chart's text.
@@ -182,4 +191,77 @@ fn long_files() {
     refused(&long, 14, OLD.len());
     // A number that never ends.
     refused(&format!("6,5,5,0,0,0\r\n{}", "9".repeat(20_000)), 13, 13);
+}
+
+/// Two charts of 64 places whose condition is printed in more than a hundred portions of at most 1,024 bytes: each place
+/// leads to two others, and the new chart compares with other constants than the old one.
+fn branching() -> Folder {
+    let [old, new] = [1, 3].map(|by| {
+        let two = |p| [(16, p + 1), (17, p * 7 + 3)].map(|(op, to)| [p, to % 64, op, 0, 0, p * by % 64]);
+        text(64, 63, &(0..64).flat_map(two).collect::<Vec<_>>())
+    });
+    folder(Some(&old), Some(&new))
+}
+
+/// What the program prints into a file.
+fn into_file(folder: &Folder) -> Vec<u8> {
+    let path = folder.0.join("printed");
+    let file = File::create(&path).unwrap();
+    assert!(Command::new(program()).current_dir(&folder.0).stdout(file).status().unwrap().success());
+    fs::read(path).unwrap()
+}
+
+extern "C" {
+    fn pipe2(ends: *mut c_int, flags: c_int) -> c_int;
+    fn fcntl(fd: c_int, command: c_int, ...) -> c_int;
+}
+
+// Linux's numbers for x86-64.
+const O_NONBLOCK: c_int = 0o4000;
+const O_CLOEXEC: c_int = 0o2000000;
+const F_SETFL: c_int = 4;
+const F_SETPIPE_SZ: c_int = 1031;
+
+/// A pipe that holds so many bytes: its reader, and its writer, which does not wait for room.
+fn pipe(holds: usize) -> (File, File) {
+    let mut ends = [0; 2];
+    unsafe {
+        assert_eq!(pipe2(ends.as_mut_ptr(), O_CLOEXEC), 0);
+        assert_eq!(fcntl(ends[1], F_SETPIPE_SZ, holds as c_int), holds as c_int);
+        assert_eq!(fcntl(ends[1], F_SETFL, O_NONBLOCK), 0);
+        (File::from_raw_fd(ends[0]), File::from_raw_fd(ends[1]))
+    }
+}
+
+/// What comes out of such a pipe, in which other bytes stand before what the program prints. It is read late, once the
+/// program has ended, or at once.
+fn through(files: &Folder, holds: usize, others: usize, late: bool) -> Vec<u8> {
+    let (mut reader, mut writer) = pipe(holds);
+    writer.write_all(&vec![b'.'; others]).unwrap();
+    let mut child = Command::new(program()).current_dir(&files.0).stdout(writer).spawn().unwrap();
+    let mut got = Vec::new();
+    if late {
+        child.wait().unwrap();
+    }
+    reader.read_to_end(&mut got).unwrap();
+    assert!(child.wait().unwrap().success());
+    assert!(got[..others].iter().all(|byte| *byte == b'.'));
+    got.split_off(others)
+}
+
+/// A reader gets a beginning of what is printed, or all of it: after a write that fails there are no others. A later
+/// portion may be shorter than the one that found no room, and fit: so the room is tried in steps.
+#[test]
+fn a_pipe_that_takes_no_more() {
+    let files = branching();
+    let whole = into_file(&files);
+    assert!(whole.len() > 100 * 1024 && files.run().as_bytes() == whole, "a pipe that is read as it fills");
+    for others in (0..=4096).step_by(64) {
+        for late in [true, false] {
+            let got = through(&files, 4096, others, late);
+            assert!(whole.starts_with(&got), "{} bytes after {others} others have a hole, late: {late}", got.len());
+            assert!(!late || got.len() + 1024 > 4096 - others, "after {others} others there was room for more");
+        }
+    }
+    assert!(through(&files, 1 << 18, 0, true) == whole, "a pipe that holds it all");
 }

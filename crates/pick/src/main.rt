@@ -75,16 +75,19 @@ fn charts(old: &mut [u32], new: &mut [u32]) -> Both
     read_both(&old_text[..m], &new_text[..n], old, new)
 }
 
-// Writes the bytes to standard output, as far as it takes them. No copy is made of them, so that what is live at once stays small.
-fn put(bytes: &[u8]) {
+// Writes the bytes to standard output, and answers whether it took them all. After a write that fails or takes nothing
+// no other is tried, here or by a caller, so that what was taken is a beginning of what is printed. No copy is made of
+// the bytes, so that what is live at once stays small.
+fn put(bytes: &[u8]) -> bool {
     let mut at = 0;
     while at < bytes.len() {
         let n = io::count(libc::write(STDOUT_FILENO, &bytes[at..]), &bytes[at..]);
         if n == 0 {
-            return;
+            return false;
         }
         at += n;
     }
+    true
 }
 
 fn refuse(r: Refusal)
@@ -95,20 +98,22 @@ fn refuse(r: Refusal)
     put(&bytes[..n]);
 }
 
-// The transitions, portion after portion.
+// The transitions, portion after portion, up to the first that standard output does not take whole.
 fn transitions(rows: &[u32], marks: &[u8; 4160], targets: &[u16; 8192]) {
     let mut bytes = [0u8; 1024];
     let mut pair = 0;
     while pair < 4096 {
         let extent = report::portion(rows, marks, targets, pair, &mut bytes);
         let n = extent.count;
-        put(&bytes[..n]);
+        if !put(&bytes[..n]) {
+            return;
+        }
         pair = extent.next;
     }
 }
 
-// The first record of a condition.
-fn head(s: Summary)
+// The first record of a condition. Answers whether standard output took it whole.
+fn head(s: Summary) -> bool
     requires { ⌜ Small s ⌝ }
 {
     let mut bytes = [0u8; 1024];
@@ -119,10 +124,10 @@ fn head(s: Summary)
         s.covered as u32,
         &mut bytes,
     );
-    put(&bytes[..n]);
+    put(&bytes[..n])
 }
 
-// The condition of two charts.
+// The condition of two charts, or as much of its beginning as standard output takes.
 fn show<'a>(old: Head, old_rows: &'a [u32], new: Head, new_rows: &'a [u32]) {
     let mut marks = [0u8; 4160];
     let mut targets = [0u16; 8192];
@@ -140,8 +145,9 @@ fn show<'a>(old: Head, old_rows: &'a [u32], new: Head, new_rows: &'a [u32]) {
     ) {
         Built::Refused(r) => refuse(r),
         Built::Done(s) => {
-            head(s);
-            transitions(new_rows, &marks, &targets);
+            if head(s) {
+                transitions(new_rows, &marks, &targets);
+            }
         }
     }
 }

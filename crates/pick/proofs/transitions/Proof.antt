@@ -26,14 +26,17 @@ slice-aggregate-put c = c .before .portion .ensures .front .counts
 put-requires : tie.Need-put-requires Inv-loop μ-loop
 put-requires c κs = search needs
 
+returns : tie.Need-returns Inv-loop μ-loop
+returns c = tt
+
 loop-less : tie.Need-loop-less Inv-loop μ-loop
-loop-less c = omega (arith, c .before .before .portion .ensures .onward (c .before .before .before .before .loop-test .taken))
+loop-less c = omega (arith, c .before .before .before .portion .ensures .onward (c .before .before .before .before .before .loop-test .taken))
 
 loop-again : tie.Need-loop-again Inv-loop μ-loop
 loop-again c = tt
 
-returns : tie.Need-returns Inv-loop μ-loop
-returns c = tt
+returns-2 : tie.Need-returns-2 Inv-loop μ-loop
+returns-2 c = tt
 
 pub transitions-spec : {M : Type 1} → statement M
 transitions-spec =
@@ -46,6 +49,7 @@ transitions-spec =
     array-share-prefix-bytes
     slice-aggregate-put
     put-requires
+    returns
     loop-less
     loop-again
-    returns)
+    returns-2)
