@@ -30,7 +30,7 @@ extern "C" {
 #endif
 
 #define PICKER_VERSION "0.1.0"
-/* Goes up with each change of a signature. */
+/* Goes up with each change of a signature, and not with a call more. */
 #define PICKER_INTERFACE 1
 
 /* Limits of a chart. */
@@ -98,8 +98,14 @@ uint64_t picker_write(uint32_t places, uint32_t alarm,
                       const uint32_t *rows, size_t rows_len, /* rows_len: entries, six for each row */
                       uint8_t *bytes, size_t bytes_len);     /* PICKER_TEXT_LEN or more */
 
+/* Judges one chart: the first refusal that is due for it, PICKER_BAD_LENGTH or 1 to 8, with chart 0.
+ * picker_judge_faultless. Nothing is written. */
+uint64_t picker_judge(uint32_t places, uint32_t alarm,
+                      const uint32_t *rows, size_t rows_len); /* rows_len: entries, six for each row */
+
 /* The rows that leave a place of the chart named, at the front of rows; entries past them stay. picker_lookup_rows.
- * There are none where the chart named is faulty, by its length too, or there is no such chart or place. */
+ * There are none where the chart named is faulty, by its length too (picker_judge says whether), where there is no
+ * such chart or place, or where no row leaves the place. */
 uint64_t picker_lookup(uint32_t old_places, uint32_t old_alarm,
                        const uint32_t *old_rows, size_t old_rows_len, /* old_rows_len: entries, six for each row */
                        uint32_t new_places, uint32_t new_alarm,
@@ -158,6 +164,9 @@ static inline size_t picker_read_rows_len(uint64_t answer) { return (size_t)PICK
 
 /* Of picker_write: how long the text is. Of a refusal 0. */
 static inline size_t picker_write_bytes(uint64_t answer) { return picker_value(answer, 0); }
+
+/* Of picker_judge. */
+static inline int picker_judge_faultless(uint64_t answer) { return answer == 0; }
 
 /* Of picker_lookup: how many rows were copied, 0 to 2. Of a refusal 0. */
 static inline uint32_t picker_lookup_rows(uint64_t answer) { return picker_value(answer, 0); }

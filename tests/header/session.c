@@ -161,6 +161,23 @@ static void text_and_rows(void)
     is("entry after", rows[6], 7);
 }
 
+/* What tells a lookup's empty part from a faulty chart. */
+static void judged(void)
+{
+    uint32_t rows[PICKER_PART_LEN];
+    is("faultless", (uint64_t)picker_judge_faultless(picker_judge(CHART(1))), 1);
+    is("rows of the alarm", picker_lookup(CHART(0), CHART(1), PICKER_NEW, 5, rows, PICKER_PART_LEN), 0);
+    tables[1][PICKER_ROW_LEN * 4 + 3] = PICKER_VARIABLES;
+    uint64_t answer = picker_judge(CHART(1));
+    is_refused("variable 64", answer, PICKER_BAD_OPERAND, 0, 4);
+    is("faulty", (uint64_t)picker_judge_faultless(answer), 0);
+    is("rows of a faulty chart", picker_lookup(CHART(0), CHART(1), PICKER_NEW, 0, rows, PICKER_PART_LEN), 0);
+    tables[1][PICKER_ROW_LEN * 4 + 3] = 1;
+    is_refused("29 of 30 entries", picker_judge(6, 5, tables[1], 29), PICKER_BAD_LENGTH, 0, 0);
+    is_refused("alarm 6", picker_judge(6, 6, tables[1], lens[1]), PICKER_BAD_ALARM, 0, 0);
+    is_refused("rows of judge", picker_judge(6, 5, NULL, 0), PICKER_EMPTY_CHART, 0, 0);
+}
+
 /* Refusals of each call leave what was lent, and their answers read as nothing. */
 static void refusals(void)
 {
@@ -253,6 +270,7 @@ int main(int argc, char **argv)
     same_chart();
     kept_start();
     text_and_rows();
+    judged();
     refusals();
     nulls();
     answers();

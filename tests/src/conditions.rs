@@ -1,4 +1,4 @@
-//! The proved lookup, builder and checker of the C interface, as the tests call them.
+//! The proved judge, lookup, builder and checker of the C interface, as the tests call them.
 
 use crate::checker::Record;
 use crate::texts::{taken_apart, Refusal};
@@ -6,6 +6,7 @@ use crate::Chart;
 
 pub mod linked {
     extern "C" {
+        pub fn picker_judge(places: u32, alarm: u32, rows: *const u32, rows_len: usize) -> u64;
         pub fn picker_lookup(
             old_places: u32,
             old_alarm: u32,
@@ -65,6 +66,11 @@ pub struct Buffers {
     pub targets: Vec<u16>,
     pub sets: Vec<u64>,
     pub waiting: Vec<u8>,
+}
+
+/// Zeros, or the first refusal that is due for a chart.
+pub fn judge(chart: &Chart) -> Result<[u64; 4], Refusal> {
+    taken_apart(unsafe { linked::picker_judge(chart.places, chart.alarm, chart.rows.as_ptr(), chart.rows.len()) })
 }
 
 /// Start and counts of marks 1, 2 and 3.

@@ -77,6 +77,7 @@ fn faults_and_lookup_as_modelled() {
         let (old, new) = (model::chart(&mut random), model::chart(&mut random));
         let expected = model::fault(&old);
         assert_eq!(fault(&old), expected, "{old:?}");
+        judged(&old, expected);
         seen[expected.0 as usize] += 1;
         for which in 0..3 {
             for place in 0..=old.places.max(new.places) {
@@ -87,6 +88,16 @@ fn faults_and_lookup_as_modelled() {
     }
     for number in [0, 1, 4, 5, 6, 7, 8] {
         assert!(seen[number] > 0, "no chart with refusal {number} was drawn");
+    }
+}
+
+/// The judge of the C interface: zeros, or the refusal with chart 0; and 21 for a table that lacks an entry.
+fn judged(chart: &Chart, (number, position): (u32, usize)) {
+    let expected = if number == 0 { Ok([0; 4]) } else { Err((number, 0, position)) };
+    assert_eq!(conditions::judge(chart), expected, "{chart:?}");
+    let mut short = chart.clone();
+    if short.rows.pop().is_some() {
+        assert_eq!(conditions::judge(&short), Err((21, 0, 0)), "{short:?}");
     }
 }
 

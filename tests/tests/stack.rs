@@ -32,6 +32,12 @@ fn checking(old: &Chart, new: &Chart, record: &mut Record) -> usize {
     unsafe { measured(linked::picker_check as *const () as usize, &arguments).1 }
 }
 
+/// The stack that judging a chart takes.
+fn judging(chart: &Chart) -> usize {
+    let arguments = &both(chart, chart)[..4];
+    unsafe { measured(linked::picker_judge as *const () as usize, arguments).1 }
+}
+
 /// The stack that a lookup takes.
 fn looking_up(old: &Chart, new: &Chart, chart: u32, place: u32) -> usize {
     let mut rows = [0u32; 12];
@@ -84,10 +90,11 @@ fn the_paint_tells() {
 }
 
 /// The calls that are measured, and what each may take.
-const CALLS: [(&str, usize); 5] = [("build", 4096), ("check", 1024), ("lookup", 1024), ("write", 1024), ("read", 4096)];
+const CALLS: [(&str, usize); 6] =
+    [("build", 4096), ("check", 1024), ("lookup", 1024), ("write", 1024), ("read", 4096), ("judge", 1024)];
 
 /// What each call took at most.
-struct Most([usize; 5]);
+struct Most([usize; 6]);
 
 impl Most {
     fn saw(&mut self, call: usize, taken: usize) {
@@ -109,14 +116,15 @@ impl Most {
         self.saw(4, reading(&mut text));
         texts::damage(random, &mut text);
         self.saw(4, reading(&mut text));
+        self.saw(5, judging(both[name as usize]));
     }
 }
 
-/// A build takes at most 4,096 bytes of stack, a check, a lookup, a text written or read what stands beside them.
+/// A build takes at most 4,096 bytes of stack, a check, a lookup, a judged chart, a text written or read what stands beside them.
 #[test]
 fn calls_take_little_stack() {
     let mut random = Random::new(20271);
-    let mut most = Most([0; 5]);
+    let mut most = Most([0; 6]);
     for (old, new) in pairs(&mut random) {
         most.pair(&mut random, &old, &new);
         most.chart(&mut random, 0, [&old, &new]);

@@ -1,6 +1,6 @@
 -- The refusals of the check are small, and so is the number that each makes; 0 is answered where none is due.
 -- Assumes nothing.
-use mathlib.Core.Path.{_≡_, refl, sym, ap, subst, _∙_}
+use mathlib.Core.Path.{_≡_, refl, sym, ap, _∙_}
 use mathlib.Core.Bool.{Bool, true, false, _&&_, not}
 use mathlib.Core.List.{List}
 use mathlib.Core.Option.{Option, none, some}
@@ -22,7 +22,7 @@ use Rattle.checker.specs.Rules.{headOf, shaped, startFits, rowFits}
 use Rattle.checker.specs.Checks.{told, sized, inChart, ruleAt, targetFault, rowsFault, pairFault, broken, ruleFault, recordFault, refusal}
 use Rattle.checker.specs.Promise.{Promise}
 use Rattle.capi.specs.Numbers.{number, zeros}
-use Rattle.capi.proofs.Refusals.{Small, due-small, in-chart-small}
+use Rattle.capi.proofs.Refusals.{Small, due-small, in-chart-small, told-on, told-number}
 
 -- a position that a rule is refused at
 Near : ℕ → Type 0
@@ -83,13 +83,10 @@ module _ (old new : Chart) (R : Record) where
   zero-passes (some r) s e = absurd (omega (arith, s .some-number))
 
   module _ {r s : Checked} (is : told r ≡ refusal old new R) (case : r ≡ s) where
-    told-is : told s ≡ refusal old new R
-    told-is = ap told (sym case) ∙ is
-
     pub told-small : OnSome Small (told s)
-    told-small = subst (OnSome Small) (sym told-is) check-small
+    told-small = told-on told is case Small check-small
 
     pub answered : {x : ℕ} → (told r ≡ none → Promise old new R) → x ≡ number (unless (told s) zeros)
         → (x ≡ number (unless (refusal old new R) zeros)) × (x ≡ 0 → Promise old new R)
     answered {x} keeps e =
-        (e ∙ ap (λ (o : Option Refusal). number (unless o zeros)) told-is, λ z. keeps (ap told case ∙ zero-passes (told s) told-small (sym e ∙ z)))
+        (told-number told is case e, λ z. keeps (ap told case ∙ zero-passes (told s) told-small (sym e ∙ z)))

@@ -1,6 +1,6 @@
 -- The numbers of a refusal that a call gives: they are small, and fit the places that they have in one number.
 -- Assumes nothing.
-use mathlib.Core.Path.{_≡_, sym, ap}
+use mathlib.Core.Path.{_≡_, sym, ap, subst, _∙_}
 use mathlib.Core.Bool.{Bool}
 use mathlib.Core.Option.{Option, none, some}
 use Prim.Native.Nat.{ℕ, _≤_}
@@ -8,12 +8,12 @@ use native.Mathlib.Omega.{arith}
 use Rattle.base.specs.Answers.{Answer, given, refused}
 use Rattle.base.specs.Chains.{mapped}
 use Rattle.base.specs.declared.Refusal.{Refusal}
-use Rattle.base.specs.Refusals.{sole, due}
+use Rattle.base.specs.Refusals.{sole, due, unless}
 use Rattle.base.proofs.Answers.{different}
 use Rattle.base.proofs.OnSome.{OnSome, when-on}
 use Rattle.chart.proofs.Bounds.{Slight}
 use Rattle.checker.specs.Checks.{inChart}
-use Rattle.capi.specs.Numbers.{Four, number, Fits}
+use Rattle.capi.specs.Numbers.{Four, number, Fits, zeros}
 
 -- ---- of a call with two charts
 -- a refusal's number, chart and position
@@ -33,6 +33,21 @@ pub in-chart-small : (chart : ℕ) → chart ≤ 1 → (o : Option Refusal) → 
 in-chart-small chart l none s = tt
 in-chart-small chart l (some f) s =
     record { some-number = s .some-number; few = omega (arith, s .few); one-of-two = l; near = omega (arith, s .row) }
+
+-- ---- of a call with one chart
+pub slight-fits : {r : Refusal} → Slight r → Fits r
+slight-fits s = record { number = omega (arith, s .few); chart = omega (arith, s .alone); position = omega (arith, s .row) }
+
+-- ---- of an answer that tells only whether a refusal is due: of its case, what holds of the refusal told and which number it makes
+module _ {A : Type 0} (told : A → Option Refusal) {a b : A} {o : Option Refusal} (is : told a ≡ o) (case : a ≡ b) where
+  told-is : told b ≡ o
+  told-is = ap told (sym case) ∙ is
+
+  pub told-on : (P : Refusal → Type 0) → OnSome P o → OnSome P (told b)
+  told-on P = subst (OnSome P) (sym told-is)
+
+  pub told-number : {x : ℕ} → x ≡ number (unless (told b) zeros) → x ≡ number (unless o zeros)
+  told-number e = e ∙ ap (λ (o : Option Refusal). number (unless o zeros)) told-is
 
 -- ---- of an answer that gives something else
 abbrev pub RefusalFits : {A : Type 0} → Answer A → Type 0

@@ -6,6 +6,7 @@ ghost use lib.ListN.{length};
 ghost use Rattle.base.specs.Answers.{refused};
 ghost use Rattle.base.specs.Chains.{mapped};
 ghost use Rattle.base.specs.Refusals.{unless};
+ghost use Rattle.chart.specs.Faults.{refusal as chartRefusal};
 ghost use Rattle.text.specs.Texts.{readInto, filled};
 ghost use Rattle.text.specs.Written.{writing, printed};
 ghost use Rattle.checker.specs.Records.{recordOf};
@@ -20,6 +21,7 @@ use base::Refusal;
 use base::sole;
 use builder::answers::Built;
 use chart::charts::Head;
+use chart::charts::Judged;
 use checker::records::Checked;
 use text::answers::Read;
 use text::answers::Wrote;
@@ -56,6 +58,17 @@ pub extern "C" fn picker_write(places: u32, alarm: u32, rows: &[u32], bytes: &mu
     match text::write(Head { places, alarm }, rows, bytes) {
         Wrote::Bytes(n) => n as u64,
         Wrote::Refused(r) => packed(r),
+    }
+}
+
+// The first refusal that is due for a chart: 0, 0, 0, 0 where none is.
+#[no_mangle]
+pub extern "C" fn picker_judge(places: u32, alarm: u32, rows: &[u32]) -> u64
+    ensures { λ r. ⌜ r ≡ number (unless (chartRefusal (chartOf places alarm (now (rows .entry)))) zeros) ⌝ }
+{
+    match chart::judge(Head { places, alarm }, rows) {
+        Judged::Faultless => 0,
+        Judged::Refused(r) => packed(r),
     }
 }
 
