@@ -1,4 +1,4 @@
-/* The path picker, for C (C99) and C++. Link target/staticlib/libcapi.a, which `rt staticlib capi` writes, for
+/* The path picker, for C (C99) and C++. Link target/staticlib/libpicker.a, which `rt staticlib picker` writes, for
  * x86-64. It needs nothing but memcpy and memset of the C library.
  *
  * docs/REFERENCE.md says what charts, rows, nodes, marks and refusals are; examples/covered.c is a whole program.

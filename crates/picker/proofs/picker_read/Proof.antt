@@ -1,10 +1,10 @@
--- `capi::picker_read` meets its contract: the answers are small, so that no sum wraps. Assumes nothing.
+-- `picker::picker_read` meets its contract: the answers are small, so that no sum wraps. Assumes nothing.
 use mathlib.Core.Path.{_∙_}
-use Rattle.capi.proofs.Small.{chart-read, refusal-read}
+use Rattle.picker.proofs.Small.{chart-read, refusal-read}
 use native.Mathlib.Omega.{arith}
 use borrow.Author.Needs.{needs}
-use Rattle.capi.proofs.picker_read.Statement.{statement}
-use Rattle.capi.proofs.picker_read.Tie as tie
+use Rattle.picker.proofs.picker_read.Statement.{statement}
+use Rattle.picker.proofs.picker_read.Tie as tie
 
 read-requires : tie.Need-read-requires
 read-requires c κs = search needs

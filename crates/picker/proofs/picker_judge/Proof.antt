@@ -1,11 +1,11 @@
--- `capi::picker_judge` meets its contract: the refusals of a chart are small, so that no sum wraps. Assumes nothing.
+-- `picker::picker_judge` meets its contract: the refusals of a chart are small, so that no sum wraps. Assumes nothing.
 use Rattle.chart.specs.Faults.{told}
 use Rattle.chart.proofs.Bounds.{Slight, refusal-slight}
-use Rattle.capi.proofs.Refusals.{slight-fits, told-on, told-number}
+use Rattle.picker.proofs.Refusals.{slight-fits, told-on, told-number}
 use native.Mathlib.Omega.{arith}
 use borrow.Author.Needs.{needs}
-use Rattle.capi.proofs.picker_judge.Statement.{statement}
-use Rattle.capi.proofs.picker_judge.Tie as tie
+use Rattle.picker.proofs.picker_judge.Statement.{statement}
+use Rattle.picker.proofs.picker_judge.Tie as tie
 
 judge-requires : tie.Need-judge-requires
 judge-requires c κs = search needs

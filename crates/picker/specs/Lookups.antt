@@ -8,7 +8,7 @@ use Rattle.base.specs.Answers.{Answer, given, refused}
 use Rattle.base.specs.Refusals.{due, unless}
 use Rattle.chart.specs.Charts.{Chart, size}
 use Rattle.chart.specs.Lookup.{lookup}
-use Rattle.capi.specs.Numbers.{Four}
+use Rattle.picker.specs.Numbers.{Four}
 
 -- the part that the lookup hands back, for 12 lent entries; "21, a lent length differs from the stated one"
 unfoldable pub lookedUp : Chart → Chart → ℕ → ℕ → List ℕ → Answer (List ℕ)

@@ -20,8 +20,8 @@ use Rattle.chart.specs.Faults.{refusal}
 use Rattle.chart.specs.Lookup.{openTo, lookup}
 use Rattle.chart.proofs.Faultless.{faultless}
 use Rattle.align.proofs.Parts.{whole, two-at-most}
-use Rattle.capi.specs.Numbers.{number, Fits}
-use Rattle.capi.specs.Lookups.{lookedUp, handed, ofRows}
+use Rattle.picker.specs.Numbers.{number, Fits}
+use Rattle.picker.specs.Lookups.{lookedUp, handed, ofRows}
 
 -- the refusal of another length than 12
 pub length-fits : {r : Refusal} → r ≡ sole 21 0 → Fits r

@@ -19,8 +19,8 @@ use Rattle.text.specs.Texts.{heading, toldRead, readInto}
 use Rattle.text.specs.Written.{toldWrote, writing}
 use Rattle.text.proofs.Bounds.{SmallRead, read-small, SmallWrite, write-small}
 use Rattle.text.proofs.Headings.{first, second, third}
-use Rattle.capi.specs.Numbers.{number, ofChart, ofText}
-use Rattle.capi.proofs.Refusals.{RefusalFits, Stopped, stopped}
+use Rattle.picker.specs.Numbers.{number, ofChart, ofText}
+use Rattle.picker.proofs.Refusals.{RefusalFits, Stopped, stopped}
 
 -- what an answer of the reader is
 pub record OfChart (h : Head) (n : ℕ) (a : Answer Chart) : Type 0 where

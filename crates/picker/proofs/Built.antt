@@ -37,8 +37,8 @@ use Rattle.condition.proofs.Demand3.{record-passes}
 use Rattle.paper.specs.Returned.{Returned}
 use Rattle.builder.specs.Answers.{told, lent, refusal, answered}
 use Rattle.builder.proofs.Answering.{accepted}
-use Rattle.capi.specs.Numbers.{number, Fits, ofBuild}
-use Rattle.capi.proofs.Refusals.{Small, small-fits, due-small, in-chart-small}
+use Rattle.picker.specs.Numbers.{number, Fits, ofBuild}
+use Rattle.picker.proofs.Refusals.{Small, small-fits, due-small, in-chart-small}
 
 count-most : (v : ℕ) (l : List ℕ) → count v l ≤ length l
 unfolding count

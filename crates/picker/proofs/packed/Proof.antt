@@ -1,8 +1,8 @@
--- `capi::packed` meets its contract: the numbers of the refusal fit their places, so that no sum wraps. Assumes nothing.
+-- `picker::packed` meets its contract: the numbers of the refusal fit their places, so that no sum wraps. Assumes nothing.
 use native.Mathlib.Omega.{arith}
 use borrow.Author.Needs.{needs}
-use Rattle.capi.proofs.packed.Statement.{statement}
-use Rattle.capi.proofs.packed.Tie as tie
+use Rattle.picker.proofs.packed.Statement.{statement}
+use Rattle.picker.proofs.packed.Tie as tie
 
 cast-result : tie.Need-cast-result
 cast-result c = search needs

@@ -1,9 +1,9 @@
--- `capi::picker_write` meets its contract: the answers are small, so that no sum wraps. Assumes nothing.
+-- `picker::picker_write` meets its contract: the answers are small, so that no sum wraps. Assumes nothing.
 use mathlib.Core.Path.{_∙_}
-use Rattle.capi.proofs.Small.{text-written, refusal-written}
+use Rattle.picker.proofs.Small.{text-written, refusal-written}
 use borrow.Author.Needs.{needs}
-use Rattle.capi.proofs.picker_write.Statement.{statement}
-use Rattle.capi.proofs.picker_write.Tie as tie
+use Rattle.picker.proofs.picker_write.Statement.{statement}
+use Rattle.picker.proofs.picker_write.Tie as tie
 
 write-requires : tie.Need-write-requires
 write-requires c κs = search needs

@@ -1,9 +1,9 @@
--- `capi::picker_lookup` meets its contract: a part has 12 entries at most. Assumes nothing.
-use Rattle.capi.proofs.Handed.{length-fits, part-short, length-refused, part-handed}
+-- `picker::picker_lookup` meets its contract: a part has 12 entries at most. Assumes nothing.
+use Rattle.picker.proofs.Handed.{length-fits, part-short, length-refused, part-handed}
 use native.Mathlib.Omega.{arith}
 use borrow.Author.Needs.{needs}
-use Rattle.capi.proofs.picker_lookup.Statement.{statement}
-use Rattle.capi.proofs.picker_lookup.Tie as tie
+use Rattle.picker.proofs.picker_lookup.Statement.{statement}
+use Rattle.picker.proofs.picker_lookup.Tie as tie
 
 sole-requires : tie.Need-sole-requires
 sole-requires c κs = search needs

@@ -1,9 +1,9 @@
--- `capi::picker_build` meets its contract: the answers are small, so that no sum wraps. Assumes nothing.
-use Rattle.capi.proofs.Built.{done-few, done-number, done-passes, done-returned, stopped-fits, stopped-number, stopped-none}
+-- `picker::picker_build` meets its contract: the answers are small, so that no sum wraps. Assumes nothing.
+use Rattle.picker.proofs.Built.{done-few, done-number, done-passes, done-returned, stopped-fits, stopped-number, stopped-none}
 use native.Mathlib.Omega.{arith}
 use borrow.Author.Needs.{needs}
-use Rattle.capi.proofs.picker_build.Statement.{statement}
-use Rattle.capi.proofs.picker_build.Tie as tie
+use Rattle.picker.proofs.picker_build.Statement.{statement}
+use Rattle.picker.proofs.picker_build.Tie as tie
 
 build-requires : tie.Need-build-requires
 build-requires c κs = search needs

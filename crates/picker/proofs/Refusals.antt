@@ -13,7 +13,7 @@ use Rattle.base.proofs.Answers.{different}
 use Rattle.base.proofs.OnSome.{OnSome, when-on}
 use Rattle.chart.proofs.Bounds.{Slight}
 use Rattle.checker.specs.Checks.{inChart}
-use Rattle.capi.specs.Numbers.{Four, number, Fits, zeros}
+use Rattle.picker.specs.Numbers.{Four, number, Fits, zeros}
 
 -- ---- of a call with two charts
 -- a refusal's number, chart and position

@@ -1,10 +1,10 @@
--- `capi::picker_check` meets its contract: the refusals are small, so that no sum wraps. Assumes nothing.
-use Rattle.capi.proofs.Refusals.{small-fits}
-use Rattle.capi.proofs.Checked.{told-small, answered}
+-- `picker::picker_check` meets its contract: the refusals are small, so that no sum wraps. Assumes nothing.
+use Rattle.picker.proofs.Refusals.{small-fits}
+use Rattle.picker.proofs.Checked.{told-small, answered}
 use native.Mathlib.Omega.{arith}
 use borrow.Author.Needs.{needs}
-use Rattle.capi.proofs.picker_check.Statement.{statement}
-use Rattle.capi.proofs.picker_check.Tie as tie
+use Rattle.picker.proofs.picker_check.Statement.{statement}
+use Rattle.picker.proofs.picker_check.Tie as tie
 
 check-requires : tie.Need-check-requires
 check-requires c κs = search needs

@@ -21,8 +21,8 @@ use Rattle.checker.specs.Records.{Graph, Record, mark, index}
 use Rattle.checker.specs.Rules.{headOf, shaped, startFits, rowFits}
 use Rattle.checker.specs.Checks.{told, sized, inChart, ruleAt, targetFault, rowsFault, pairFault, broken, ruleFault, recordFault, refusal}
 use Rattle.checker.specs.Promise.{Promise}
-use Rattle.capi.specs.Numbers.{number, zeros}
-use Rattle.capi.proofs.Refusals.{Small, due-small, in-chart-small, told-on, told-number}
+use Rattle.picker.specs.Numbers.{number, zeros}
+use Rattle.picker.proofs.Refusals.{Small, due-small, in-chart-small, told-on, told-number}
 
 -- a position that a rule is refused at
 Near : ℕ → Type 0
