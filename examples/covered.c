@@ -1,7 +1,8 @@
 /* covered OLD.csv NEW.csv [ROW ..]: says of a list of rows of the new chart, counted from 0, whether it is covered by
  * the old chart. Ends with 0 if it is, 1 if it has to be walked again, 2 if nothing can be said.
  *
- *     cc -Iinclude examples/covered.c target/staticlib/libpicker.a -o covered
+ *     ./install PREFIX && export PKG_CONFIG_PATH=PREFIX/lib/pkgconfig
+ *     cc examples/covered.c $(pkg-config --cflags --libs picker) -o covered
  *     ./covered samples/old.csv samples/new.csv 0 1
  *
  * A record says something only if picker_check passes it, for these two charts and as it stands now: then no run that

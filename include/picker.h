@@ -1,5 +1,5 @@
-/* The path picker, for C (C99) and C++. Link target/staticlib/libpicker.a, which `rt staticlib picker` writes, for
- * x86-64. It needs nothing but memcpy and memset of the C library.
+/* The path picker, for C (C99) and C++, on x86-64. `./install PREFIX` puts this header, libpicker.a and picker.pc, for
+ * pkg-config, under a folder. The library needs nothing but memcpy and memset of the C library.
  *
  * docs/REFERENCE.md says what charts, rows, nodes, marks and refusals are; examples/covered.c is a whole program.
  *
