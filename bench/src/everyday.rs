@@ -108,54 +108,70 @@ pub fn build(old: &Chart, new: &Chart) -> Result<Condition, Refusal> {
     Ok(Condition { start: Node::Pair(START), pairs, kept })
 }
 
+/// What Algorithm 2 keeps while it runs.
+struct Explorer {
+    pairs: HashMap<Pair, State>,
+    waiting: BTreeSet<Pair>,
+    kept: HashSet<usize>,
+}
+
+impl Explorer {
+    /// Keeps a new place: its pairs leave.
+    fn keep(&mut self, place: usize) {
+        if self.kept.insert(place) {
+            self.pairs.retain(|pair, _| pair.new != place);
+            self.waiting.retain(|pair| pair.new != place);
+        }
+    }
+
+    /// Joins a set to a pair's; whether the pair is new or its set grew.
+    fn join(&mut self, pair: Pair, set: u64) -> bool {
+        match self.pairs.entry(pair) {
+            Entry::Vacant(entry) => {
+                entry.insert(State { set, targets: [None; 2], mark: Mark::Beyond });
+                true
+            }
+            Entry::Occupied(entry) => {
+                let known = &mut entry.into_mut().set;
+                let grows = set & !*known != 0;
+                *known |= set;
+                grows
+            }
+        }
+    }
+}
+
 /// Algorithm 2: the pairs in the graph, and the kept places.
 fn explore(old: &Graph, new: &Graph) -> (HashMap<Pair, State>, HashSet<usize>) {
-    let fresh = |set| State { set, targets: [None; 2], mark: Mark::Beyond };
-    let mut pairs = HashMap::from([(START, fresh(0))]);
-    let mut waiting = BTreeSet::from([START]);
-    let mut kept = HashSet::new();
-    while let Some(pair) = waiting.pop_first() {
+    let mut all = Explorer { pairs: HashMap::new(), waiting: BTreeSet::from([START]), kept: HashSet::new() };
+    all.join(START, 0);
+    while let Some(pair) = all.waiting.pop_first() {
         let mut set = 0;
         for (which, row) in new.rows[pair.new].iter().enumerate() {
             // A pair that has left the graph is finished under the set it had.
-            if let Some(state) = pairs.get(&pair) {
+            if let Some(state) = all.pairs.get(&pair) {
                 set = state.set;
             }
             let q = row[1] as usize;
             let target = match step(old, new.alarm, pair, set, row) {
-                None => {
-                    if kept.insert(q) {
-                        pairs.retain(|pair, _| pair.new != q);
-                        waiting.retain(|pair| pair.new != q);
-                    }
-                    Node::Kept(q)
-                }
-                Some(_) if kept.contains(&q) => Node::Kept(q),
-                Some((to, joined)) => {
-                    let grows = match pairs.entry(to) {
-                        Entry::Vacant(entry) => {
-                            entry.insert(fresh(joined));
-                            true
-                        }
-                        Entry::Occupied(entry) => {
-                            let known = &mut entry.into_mut().set;
-                            let grows = joined & !*known != 0;
-                            *known |= joined;
-                            grows
-                        }
-                    };
-                    if grows && to.old != old.alarm {
-                        waiting.insert(to);
+                Some((to, joined)) if !all.kept.contains(&q) => {
+                    if all.join(to, joined) && to.old != old.alarm {
+                        all.waiting.insert(to);
                     }
                     Node::Pair(to)
                 }
+                Some(_) => Node::Kept(q),
+                None => {
+                    all.keep(q);
+                    Node::Kept(q)
+                }
             };
-            if let Some(state) = pairs.get_mut(&pair) {
+            if let Some(state) = all.pairs.get_mut(&pair) {
                 state.targets[which] = Some(target);
             }
         }
     }
-    (pairs, kept)
+    (all.pairs, all.kept)
 }
 
 /// Algorithm 1: targets that are kept by now, and every pair's mark.
@@ -202,27 +218,31 @@ pub fn check(old: &Chart, new: &Chart, condition: &Condition) -> Result<bool, Re
         Node::Kept(place) => kept.contains(place),
     };
     let keeps = |(&pair, state): (&Pair, &State)| {
-        new.rows[pair.new].iter().zip(state.targets).all(|(row, target)| {
-            let q = row[1] as usize;
-            match target {
-                None => pair.old == old.alarm,
-                Some(Node::Kept(place)) => place == q && kept.contains(&q) && state.mark == Mark::Open,
-                Some(Node::Pair(to)) => pairs.get(&to).is_some_and(|reached| {
-                    let leads = if pair.old == old.alarm {
-                        to.new == q
-                    } else {
-                        step(&old, new.alarm, pair, state.set, row).is_some_and(|(p, set)| p == to && set & !reached.set == 0)
-                    };
-                    let allowed = match state.mark {
-                        Mark::Open => reached.mark != Mark::Beyond,
-                        Mark::Covered | Mark::Beyond => reached.mark != Mark::Open,
-                    };
-                    leads && allowed
-                }),
-            }
+        new.rows[pair.new].iter().zip(state.targets).all(|(row, target)| match target {
+            None => pair.old == old.alarm,
+            Some(Node::Kept(q)) => q == row[1] as usize && kept.contains(&q) && state.mark == Mark::Open,
+            Some(Node::Pair(to)) => pairs.get(&to).is_some_and(|reached| {
+                allowed(state.mark, reached.mark) && leads(&old, new.alarm, pair, state.set, row, to, reached.set)
+            }),
         })
     };
     Ok(starts && pairs.iter().all(keeps))
+}
+
+/// Whether a pair with the first mark may lead to one with the second.
+fn allowed(from: Mark, to: Mark) -> bool {
+    match from {
+        Mark::Open => to != Mark::Beyond,
+        Mark::Covered | Mark::Beyond => to != Mark::Open,
+    }
+}
+
+/// Whether a row leads from a pair with a set to another with another.
+fn leads(old: &Graph, new_alarm: usize, from: Pair, set: u64, row: &[u32], to: Pair, holds: u64) -> bool {
+    if from.old == old.alarm {
+        return to.new == row[1] as usize;
+    }
+    step(old, new_alarm, from, set, row).is_some_and(|(pair, set)| pair == to && set & !holds == 0)
 }
 
 #[cfg(test)]

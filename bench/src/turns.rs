@@ -1,4 +1,4 @@
-//! Contenders that take turns on the same work, over several draws of charts, and the line of the table that comes of it.
+//! Contenders that take turns on the same work, over several draws of charts, and the line of the table for it.
 
 use std::time::{Duration, Instant};
 
