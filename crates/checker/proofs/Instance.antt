@@ -135,7 +135,7 @@ zeros-values = record { count = refl; small = λ i. rw (zeros-at 64 i) (omega ar
 unfoldable pub ones : List ℕ
 ones = replicate 64 1
 
--- the entries of a table that is written out
+-- the entries of a list that is written out
 abbrev pub all-small : List ℕ → Bool
 all-small [] = true
 all-small (x ∷ l) = ltb x (2 ^ 32) && all-small l
@@ -147,6 +147,10 @@ words-of l t = record { small = at l t }
     at [] t k = omega arith
     at (x ∷ l) t zero = ltb→lt x (2 ^ 32) (T-and (ltb x (2 ^ 32)) (all-small l) t .0)
     at (x ∷ l) t (suc k) = at l (T-and (ltb x (2 ^ 32)) (all-small l) t .1) k
+
+pub ones-values : Values ones
+unfolding ones
+ones-values = record { count = refl; small = words-of ones tt .small }
 
 -- the run by row 0, from zeros: it reaches the new alarm and is covered
 pub reached-alarm : reaches C zeros (0 ∷ []) ≡ true

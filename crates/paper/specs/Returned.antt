@@ -67,7 +67,8 @@ pub record Returned (old new : Chart) (R : Record) : Type 0 where
   pub condition : {Q W : SetOf Node} → Search (returned old new state) Q W → ((n : Node) → n isNotIn W)
       → IsCondition R (returned old new state) Q
 
--- "Lent: marks (4,160 bytes), targets (8,192 u16 [..]), sets (4,096 u64 [..])"
+-- "Lent: marks (4,160 bytes), targets (8,192 u16 [..]), sets (4,096 u64 [..])". `Returned` does not ask for it: it is what
+-- the theorem of proofs/Determined.antt supposes of a record
 pub record Lengths (R : Record) : Type 0 where
   pub marks : length (R .graph .marks) ≡ 4160
   pub targets : length (R .graph .targets) ≡ 8192

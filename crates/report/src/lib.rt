@@ -26,7 +26,8 @@ pub fn summary(start: u32, opened: u32, kept: u32, covered: u32, bytes: &mut [u8
     put_line(bytes, 0, start, opened, kept, covered)
 }
 
-// Some of the transitions from this pair on, at the front of the bytes. A chart has at most 128 rows: no entry past them is looked at.
+// Some of the transitions from this pair on, at the front of the bytes. A chart has at most 128 rows: no entry past them is
+// looked at. Nor are sets, so that any will do in the graph that the contract names.
 pub fn portion(
     table: &[u32],
     marks: &[u8; 4160],

@@ -196,7 +196,7 @@ fn rows_at<'a>(rows: &'a [u32], index: &[u8; 130], at: usize) -> &'a [u32]
     part(rows, wide(index[at]), wide(index[at + 1]))
 }
 
-// The rows that leave a place of either chart, as a part of that chart's table: by the index of both.
+// The rows that leave a place of either chart, by the index of both.
 pub fn rows_of<'a>(old: &'a [u32], new: &'a [u32], index: &[u8; 130], place: Place) -> &'a [u32]
     requires { ⌜ Indexed (now old) (now new) (now index) ⌝ }
     requires { ⌜ Ascending (tableOf place (now old) (now new)) × (numberOf place < 64) ⌝ }
