@@ -5,14 +5,15 @@ use crate::turns::{line, turns, Contender, Time, DRAWS};
 use picker_tests::{fault_number, texts, Chart, Random};
 use std::hint::black_box;
 
-/// A largest chart: 64 places of two opposite comparisons each, with constants drawn from all numbers. Codes are drawn
-/// too, or are one kind throughout.
-fn largest(random: &mut Random, drawn_codes: bool) -> Chart {
+/// A largest chart: 64 places of two opposite comparisons each, with constants drawn from all numbers; or, mixed, with
+/// half of the places comparing two variables.
+fn largest(random: &mut Random, mixed: bool) -> Chart {
     let mut rows = Vec::new();
     for p in 0..64 {
-        let (code, opposite) = if drawn_codes { random.one_of(&[(16, 17), (18, 21), (19, 20), (20, 19), (21, 18)]) } else { (18, 21) };
-        let (a, c) = (random.below(64) as u32, random.word());
-        rows.extend([p, random.below(64) as u32, code, a, 0, c, p, random.below(64) as u32, opposite, a, 0, c]);
+        let (r, opposite) = random.one_of(&[(0, 1), (2, 5), (3, 4), (4, 3), (5, 2)]);
+        let (a, to) = (random.below(64) as u32, [random.below(64) as u32, random.below(64) as u32]);
+        let (kind, b, c) = if mixed && random.below(2) == 0 { (32, random.below(64) as u32, 0) } else { (16, 0, random.word()) };
+        rows.extend([p, to[0], kind + r, a, b, c, p, to[1], kind + opposite, a, b, c]);
     }
     Chart { places: 64, alarm: 63, rows }
 }
@@ -73,14 +74,14 @@ fn judging(chart: &Chart) -> Vec<Time> {
 }
 
 pub fn lines() {
-    let charts = |drawn_codes| -> Vec<Chart> { DRAWS.iter().map(|seed| largest(&mut Random::new(*seed), drawn_codes)).collect() };
-    let (drawn, one_kind) = (charts(true), charts(false));
+    let charts = |mixed| -> Vec<Chart> { DRAWS.iter().map(|seed| largest(&mut Random::new(*seed), mixed)).collect() };
+    let (constants, mixed) = (charts(false), charts(true));
     let of = |what: &str, charts: &[Chart], time: &dyn Fn(&Chart) -> Vec<Time>| {
         line(what, None, &charts.iter().map(time).collect::<Vec<_>>(), [Some(1), None, None, None]);
     };
-    of("read a largest text", &drawn, &|chart| reading(&texts::plain_write(chart)));
-    of("read a largest text, every field in quotes", &drawn, &|chart| reading(&quoted(&texts::plain_write(chart))));
-    of("write a largest chart", &drawn, &writing);
-    of("judge a largest chart", &drawn, &judging);
-    of("judge a largest chart, all rows with one kind of code", &one_kind, &judging);
+    of("read a largest text", &constants, &|chart| reading(&texts::plain_write(chart)));
+    of("read a largest text, every field in quotes", &constants, &|chart| reading(&quoted(&texts::plain_write(chart))));
+    of("write a largest chart", &constants, &writing);
+    of("judge a largest chart, all rows with one kind of code", &constants, &judging);
+    of("judge a largest chart, two kinds of code", &mixed, &judging);
 }
