@@ -7,6 +7,7 @@ pub mod Maybe
 pub mod Answers
 pub mod Picks
 pub mod OnSome
+pub mod Fits
 pub mod Walks
 pub mod Sums
 pub mod Repeat

@@ -10,9 +10,13 @@ use Rattle.base.specs.Options.{when}
 abbrev pub sole : ℕ → ℕ → Refusal
 sole n p = record { number = n; chart = 0; position = p }
 
--- this refusal, where the test says that it is due
+-- the refusal with this number and position in the chart k, where the test says that it is due
+abbrev pub dueIn : ℕ → Bool → ℕ → ℕ → Option Refusal
+dueIn k b n p = when b (record { number = n; chart = k; position = p })
+
+-- the one that names no chart
 abbrev pub due : Bool → ℕ → ℕ → Option Refusal
-due b n p = when b (sole n p)
+due = dueIn 0
 
 -- what is answered, unless a refusal is due
 abbrev pub unless : {A : Type 0} → Option Refusal → A → Answer A

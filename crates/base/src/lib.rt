@@ -1,5 +1,5 @@
-// What no layer owns: the refusal that every answer can be; and as definitions and laws alone tests, values that may be
-// missing, answers and lists.
+// What no layer owns: the refusal that every answer can be, and an index that is sought; and as definitions and laws
+// alone tests, values that may be missing, answers and lists.
 ghost use mathlib.Core.Path.{_≡_};
 ghost use Rattle.base.specs.Refusals.{sole};
 
@@ -19,4 +19,10 @@ pub fn sole(number: u32, position: usize) -> Refusal
         chart: 0,
         position,
     }
+}
+
+// An index that is sought: of a row, a pair or a target.
+pub enum Found {
+    At(usize),
+    Nothing,
 }
