@@ -18,8 +18,9 @@ use Rattle.operations.specs.Operations.{kind, byKind, isAssignment, isAssumptio
 use Rattle.operations.specs.Values.{Values, var}
 use Rattle.operations.proofs.Meaning.{Agree as SameOn, value-reads, value-small, holds-reads}
 use Rattle.chart.specs.Runs.{lets, after}
-use Rattle.align.specs.Sets.{with, without, meets, holdsAll, setOf, readSet}
-use Rattle.align.proofs.Sets.{In, with-old, without-kept, meet-none, holds-in, set-of-in}
+use Rattle.sets.specs.Sets.{with, without, meets, holdsAll, setOf}
+use Rattle.align.specs.Reads.{readSet}
+use Rattle.sets.proofs.Sets.{In, with-old, without-kept, meet-none, holds-in, set-of-in}
 
 -- two lists of 64 values that agree on every variable outside the set
 pub record Agree (s : ℕ) (v w : List ℕ) : Type 0 where

@@ -9,7 +9,8 @@ use Rattle.operations.specs.Operations.{kind, operandB, operandC, reads, same, 
 use Rattle.operations.specs.Trials.{seats, trial, shown, together}
 use Rattle.chart.specs.Charts.{Chart, leaving, leavingOf}
 use Rattle.align.specs.declared.spots.Spot.{Spot}
-use Rattle.align.specs.Sets.{alone, joined, with, without, meets, setOf, readSet}
+use Rattle.sets.specs.Sets.{alone, joined, with, without, meets, setOf}
+use Rattle.align.specs.Reads.{readSet}
 use Rattle.align.specs.Steps.{find, along, matching, matched, rewritten, assigned, onward, follow, followed, counterpart, assumed, moved, arrived, step}
 
 -- places 0 to 5, alarm 5: v1 := 5; v0 < 100 or v0 ≥ 100; v1 > 50 to the alarm or v1 ≤ 50

@@ -10,9 +10,9 @@ use lib.Bits.{or-zero-l}
 use Rattle.chart.specs.Charts.{Chart}
 use Rattle.chart.specs.Faultless.{FaultlessChart}
 use Rattle.align.specs.declared.spots.Spot.{Spot}
-use Rattle.align.specs.Sets.{bit, alone, joined, with, meets}
+use Rattle.sets.specs.Sets.{bit, alone, joined, with, meets}
 use Rattle.align.specs.Steps.{onward, follow, followed}
-use Rattle.align.proofs.Sets.{In, bit-none, bit-or, bit-pow-other, alone-here, with-here, meet-none}
+use Rattle.sets.proofs.Sets.{In, bit-none, bit-or, bit-pow-other, alone-here, with-here, meet-none}
 use Rattle.align.proofs.Moves.{follow-ends, follow-twice, follow-on, onward-below}
 
 -- how many of the first k places have not been come to

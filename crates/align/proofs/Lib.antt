@@ -1,5 +1,4 @@
--- Laws of sets, of the rows of a place and of the aligned step.
-pub mod Sets
+-- Laws of the sets that are read, of the rows of a place and of the aligned step.
 pub mod ReadSets
 pub mod Parts
 pub mod Agree

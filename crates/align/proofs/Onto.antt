@@ -25,9 +25,10 @@ use Rattle.chart.specs.Charts.{Chart, size, operation}
 use Rattle.chart.specs.Faultless.{FaultlessChart}
 use Rattle.chart.specs.Runs.{lets, after}
 use Rattle.align.specs.declared.spots.Spot.{Spot}
-use Rattle.align.specs.Sets.{alone, with, without, meets, readSet}
+use Rattle.sets.specs.Sets.{alone, with, without, meets}
+use Rattle.align.specs.Reads.{readSet}
 use Rattle.align.specs.Steps.{find, isImplied, along, matching, matched, rewritten, rowsAt, atAlarm, assigned, onward, follow, followed, counterpart, assumed, moved, fair, arrived, step}
-use Rattle.align.proofs.Sets.{with-here}
+use Rattle.sets.proofs.Sets.{with-here}
 use Rattle.chart.proofs.Conflicts.{operands}
 use Rattle.align.proofs.Parts.{row-of, row-same}
 use Rattle.align.proofs.Agree.{Agree, value-agrees, holds-agrees, write-new, write-old, agree-with, agree-both, after-assignment, after-other, lets-assignment, lets-assumption, let-other, not-assignment}

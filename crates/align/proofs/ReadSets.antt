@@ -14,7 +14,8 @@ use Rattle.operations.specs.declared.Operand.the-variants.{Variable, Constant, 
 use Rattle.operations.specs.Operations.{kind, byKind, isKnown, isAssignment, isAssumption, operandB, operandC, fits, operandsFit, ifVariable, reads, withConstant}
 use Rattle.operations.specs.Trials.{partner}
 use Rattle.operations.proofs.Codes.{fit-a, fit-b}
-use Rattle.align.specs.Sets.{alone, joined, setOf, readSet}
+use Rattle.sets.specs.Sets.{alone, joined, setOf}
+use Rattle.align.specs.Reads.{readSet}
 
 -- a list of one variable or none before others
 first-joined : (operand : Operand) (x : ℕ) (l : List ℕ) → setOf (ifVariable operand x ++ l) ≡ joined (setOf (ifVariable operand x)) (setOf l)

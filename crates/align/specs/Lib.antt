@@ -1,3 +1,3 @@
--- The definitions that the contracts of the crate cite: read Sets first, then Steps.
-pub mod Sets
+-- The definitions that the contracts of the crate cite: read those of `sets` first, then Reads and Steps.
+pub mod Reads
 pub mod Steps

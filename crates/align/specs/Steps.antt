@@ -15,21 +15,16 @@ use Rattle.chart.specs.declared.places.OldPlace.{OldPlace}
 use Rattle.chart.specs.declared.places.NewPlace.{NewPlace}
 use Rattle.chart.specs.Charts.{Chart, size, to, operation, leaving}
 use Rattle.align.specs.declared.spots.Spot.{Spot}
-use Rattle.align.specs.declared.spots.Found.{Found}
-use Rattle.align.specs.declared.spots.Found.the-variants as founds
 use Rattle.align.specs.declared.spots.Onward.{Onward}
 use Rattle.align.specs.declared.spots.Onward.the-variants as onwards
 use Rattle.align.specs.declared.spots.Followed.{Followed}
 use Rattle.align.specs.declared.spots.Followed.the-variants as followeds
 use Rattle.align.specs.declared.spots.Aligned.{Aligned}
 use Rattle.align.specs.declared.spots.Aligned.the-variants as aligneds
-use Rattle.align.specs.Sets.{alone, with, without, meets, readSet}
+use Rattle.sets.specs.Sets.{alone, with, without, meets}
+use Rattle.align.specs.Reads.{readSet}
 
--- what the code's answers say: a row that is there or not, a spot come to or not
-abbrev pub toldFound : Found → Option ℕ
-toldFound (founds.At k) = some k
-toldFound founds.Nothing = none
-
+-- what the code's answers say: a spot come to or not
 abbrev pub toldOnward : Onward → Option Spot
 toldOnward (onwards.To h) = some h
 toldOnward onwards.Ends = none

@@ -7,12 +7,6 @@ pub struct Spot {
     pub set: u64,
 }
 
-// A row that is sought among those of a place.
-pub enum Found {
-    At(usize),
-    Nothing,
-}
-
 // What following one old assignment comes to.
 pub enum Onward {
     To(Spot),

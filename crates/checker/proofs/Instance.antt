@@ -27,7 +27,8 @@ use Rattle.chart.specs.Faults as faults
 use Rattle.chart.specs.Places.{newOf}
 use Rattle.chart.specs.Runs.{begin, run, reaches}
 use Rattle.chart.specs.Runs as runs
-use Rattle.align.specs.Sets as sets
+use Rattle.sets.specs.Sets as sets
+use Rattle.align.specs.Reads as reads
 use Rattle.align.specs.Steps as steps
 use Rattle.checker.specs.Records.{Record, recordOf, mark, nodes, covered}
 use Rattle.checker.specs.Rules.{headOf, markFits, marksFit, targetFits, targetsFit, shaped, startFits, keeps, joins, joinsStep, ranked, leads, rowFits}
@@ -102,7 +103,7 @@ row-at : (k : ℕ) → T (bool (rowFits C C (R .graph) 0 (leaving (C .table) 0) 
 row-at k = says (rowFits C C (R .graph) 0 (leaving (C .table) 0) k)
 
 rules-so : Rules C C (R .graph)
-unfolding Marked marks targets options.firstOf charts.leavingOf charts.leaving operations.kind operations.operandB operations.operandC operations.reads operations.same sets.alone sets.joined sets.meets sets.holdsAll sets.setOf sets.readSet steps.find steps.along steps.matching steps.matched steps.onward steps.follow steps.followed steps.counterpart steps.assumed steps.moved steps.arrived steps.step keeps joins joinsStep ranked leads rowFits
+unfolding Marked marks targets options.firstOf charts.leavingOf charts.leaving operations.kind operations.operandB operations.operandC operations.reads operations.same sets.alone sets.joined sets.meets sets.holdsAll sets.setOf reads.readSet steps.find steps.along steps.matching steps.matched steps.onward steps.follow steps.followed steps.counterpart steps.assumed steps.moved steps.arrived steps.step keeps joins joinsStep ranked leads rowFits
 rules-so m k l h two there =
     elim (is-marked m h) [
       | inl e ↦ subst (λ (m : ℕ). Says (rowFits C C (R .graph) m (leaving (C .table) (newOf m .0)) k)) (sym e) (first k two)

@@ -23,7 +23,7 @@ use Rattle.chart.specs.Charts.{Chart, size, to, operation, leaving}
 use Rattle.chart.specs.Faultless.{FaultlessChart}
 use Rattle.chart.specs.Places.{pairNumber, keptNumber, oldOf, newOf}
 use Rattle.align.specs.declared.spots.Spot.{Spot}
-use Rattle.align.specs.Sets.{holdsAll}
+use Rattle.sets.specs.Sets.{holdsAll}
 use Rattle.align.specs.Steps.{step}
 use Rattle.align.proofs.Moves.{part-below, step-below}
 use Rattle.align.proofs.Seek.{part-right}

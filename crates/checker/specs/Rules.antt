@@ -14,7 +14,7 @@ use Rattle.chart.specs.Charts.{Chart, charted, start, to, operation}
 use Rattle.chart.specs.Faultless.{FaultlessChart}
 use Rattle.chart.specs.Places.{pairNumber, keptNumber, oldOf, newOf}
 use Rattle.align.specs.declared.spots.Spot.{Spot}
-use Rattle.align.specs.Sets.{holdsAll}
+use Rattle.sets.specs.Sets.{holdsAll}
 use Rattle.align.specs.Steps.{fair, step}
 use Rattle.checker.specs.Records.{Graph, spot, target}
 

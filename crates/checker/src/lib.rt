@@ -12,7 +12,7 @@ ghost use Rattle.chart.specs.Faults.{told as chartTold};
 ghost use Rattle.checker.specs.Records.{graphOf, recordOf};
 ghost use Rattle.checker.specs.Checks.{told, sized, inChart, recordFault, refusal};
 ghost use Rattle.checker.specs.Promise.{Promise};
-use align::spots::Found;
+use base::Found;
 use base::Refusal;
 use base::sole;
 use chart::charts::Head;

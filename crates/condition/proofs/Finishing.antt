@@ -19,7 +19,7 @@ use Rattle.chart.specs.declared.charts.Head.{Head}
 use Rattle.chart.specs.declared.places.OldPlace.{OldPlace}
 use Rattle.chart.specs.declared.places.NewPlace.{NewPlace}
 use Rattle.chart.specs.Places.{keptNumber, oldOf, newOf}
-use Rattle.align.specs.Sets.{bit, without}
+use Rattle.sets.specs.Sets.{bit, without}
 use Rattle.align.specs.Steps.{fair}
 use Rattle.checker.specs.Records.{index}
 use Rattle.checker.specs.Rules.{startPair, startKept}

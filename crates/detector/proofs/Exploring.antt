@@ -10,9 +10,9 @@ use Rattle.base.proofs.Walks.{same-at, zeros-at}
 use Rattle.chart.specs.declared.charts.Head.{Head}
 use Rattle.chart.specs.Charts.{Chart, charted}
 use Rattle.chart.specs.Faultless.{FaultlessChart}
-use Rattle.align.specs.declared.spots.Found.{Found}
-use Rattle.align.specs.declared.spots.Found.the-variants as founds
-use Rattle.align.specs.Steps.{toldFound}
+use Rattle.base.specs.declared.Found.{Found}
+use Rattle.base.specs.declared.Found.the-variants as founds
+use Rattle.base.specs.Found.{toldFound}
 use Rattle.checker.specs.Rules.{startPair}
 use Rattle.checker.specs.Records.{index}
 use Rattle.words.specs.Words.{Member, added, listed}

@@ -17,8 +17,8 @@ use Rattle.chart.specs.Charts.{Chart, size}
 use Rattle.chart.specs.Faultless.{FaultlessChart}
 use Rattle.chart.specs.Places.{pairNumber, keptNumber, oldOf, newOf}
 use Rattle.align.specs.declared.spots.Spot.{Spot}
-use Rattle.align.specs.Sets.{joined, holdsAll}
-use Rattle.align.proofs.Sets.{holds-in, holds-all, joined-left, joined-right}
+use Rattle.sets.specs.Sets.{joined, holdsAll}
+use Rattle.sets.proofs.Sets.{holds-in, holds-all, joined-left, joined-right}
 use Rattle.checker.specs.Records.{index}
 use Rattle.graph.specs.Graphs.{Graph, Sized, firstPair, firstKept, keep, aim, due, join, unwait}
 use Rattle.detector.specs.Turns.{rowsOf, leadsTo, next, setNow, begun, stepOf, rowDone, secondDone, taken, explored}

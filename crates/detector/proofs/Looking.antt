@@ -14,11 +14,11 @@ use lib.ListN.{length, getD, set, drop, length-set}
 use lib.Seq.{getD-set-same, getD-set-other}
 use Rattle.base.specs.Walks.{firstFrom}
 use Rattle.base.proofs.Walks.{skip-at, stop-at, end-at}
-use Rattle.align.specs.Sets.{bit, without}
-use Rattle.align.proofs.Sets.{bit-none, without-kept}
-use Rattle.align.specs.declared.spots.Found.{Found}
-use Rattle.align.specs.declared.spots.Found.the-variants as founds
-use Rattle.align.specs.Steps.{toldFound}
+use Rattle.sets.specs.Sets.{bit, without}
+use Rattle.sets.proofs.Sets.{bit-none, without-kept}
+use Rattle.base.specs.declared.Found.{Found}
+use Rattle.base.specs.declared.Found.the-variants as founds
+use Rattle.base.specs.Found.{toldFound}
 use Rattle.words.specs.Words.{Member, Listed, LowestFrom}
 use Rattle.words.proofs.Rests.{coming-start, coming-less}
 use Rattle.graph.specs.Graphs.{Lists}

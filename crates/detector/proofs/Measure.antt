@@ -15,7 +15,7 @@ use Rattle.chart.specs.declared.places.NewPlace.{NewPlace}
 use Rattle.chart.specs.Charts.{Chart, size}
 use Rattle.chart.specs.Faultless.{FaultlessChart}
 use Rattle.chart.specs.Places.{pairNumber, keptNumber, newOf}
-use Rattle.align.specs.Sets.{joined}
+use Rattle.sets.specs.Sets.{joined}
 use Rattle.graph.specs.Graphs.{Graph, Sized, marked, keep, aim, due, join, unwait}
 use Rattle.detector.specs.Turns.{rowsOf, leadsTo, next, setNow, begun, rowDone, secondDone, taken, explored}
 use Rattle.detector.proofs.Steps.{Fits}

@@ -19,7 +19,8 @@ use Rattle.chart.specs.declared.places.NewPlace.{NewPlace}
 use Rattle.chart.specs.Charts.{Chart, size, to, operation, leaving}
 use Rattle.chart.specs.Faultless.{FaultlessChart}
 use Rattle.align.specs.declared.spots.Spot.{Spot}
-use Rattle.align.specs.Sets.{alone, joined, with, without, meets, readSet}
+use Rattle.sets.specs.Sets.{alone, joined, with, without, meets}
+use Rattle.align.specs.Reads.{readSet}
 use Rattle.align.specs.Steps.{find, isImplied, along, matching, matched, rewritten, rowsAt, atAlarm, assigned, onward, follow, followed, counterpart, assumed, moved, fair, arrived, step}
 use Rattle.align.proofs.Parts.{row-of, row-same}
 

@@ -16,7 +16,7 @@ use Rattle.base.proofs.Tests.{T-true, and-true}
 use Rattle.chart.specs.declared.places.NewPlace.{NewPlace}
 use Rattle.chart.specs.Places.{keptNumber, oldOf}
 use Rattle.checker.specs.Records.{index}
-use Rattle.align.specs.Sets.{joined, holdsAll}
+use Rattle.sets.specs.Sets.{joined, holdsAll}
 use Rattle.graph.specs.Graphs.{Graph, graph, Sized, marked, gone, cleared, untargeted, keep, aim, due, waits, join, unwait}
 
 -- ---- a mark is there or not

@@ -14,8 +14,8 @@ use Rattle.base.proofs.Walks.{pass-is}
 use Rattle.chart.specs.declared.places.NewPlace.{NewPlace}
 use Rattle.chart.specs.Places.{keptNumber}
 use Rattle.checker.specs.Records.{index}
-use Rattle.align.specs.Sets.{alone, meets}
-use Rattle.align.proofs.Sets.{alone-here, meet-none}
+use Rattle.sets.specs.Sets.{alone, meets}
+use Rattle.sets.proofs.Sets.{alone-here, meet-none}
 use Rattle.words.specs.Words.{Member, gathered}
 use Rattle.words.proofs.Words.{gathered-has}
 use Rattle.graph.specs.Graphs.{Graph, graph, Sized, Covers, gone, cleared, untargeted, keep}

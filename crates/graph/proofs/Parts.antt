@@ -11,7 +11,7 @@ use Rattle.base.proofs.Tests.{T-true, and-true, and-false}
 use Rattle.chart.specs.declared.places.OldPlace.{OldPlace}
 use Rattle.chart.specs.Places.{oldOf}
 use Rattle.checker.specs.Records.{index}
-use Rattle.align.specs.Sets.{joined, holdsAll}
+use Rattle.sets.specs.Sets.{joined, holdsAll}
 use Rattle.words.specs.Words.{Member, added, listed}
 use Rattle.words.proofs.Words.{added-had}
 use Rattle.graph.specs.Graphs.{graph, marked, aim, due, waits, join, listedIf}

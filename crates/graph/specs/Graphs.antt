@@ -10,7 +10,7 @@ use Rattle.base.specs.Walks.{pass}
 use Rattle.chart.specs.declared.places.NewPlace.{NewPlace}
 use Rattle.chart.specs.Places.{keptNumber, oldOf, newOf}
 use Rattle.chart.specs.Charts.{Chart}
-use Rattle.align.specs.Sets.{joined, holdsAll}
+use Rattle.sets.specs.Sets.{joined, holdsAll}
 use Rattle.checker.specs.Records.{index}
 use Rattle.checker.specs.Rules.{headOf, startPair, startKept}
 use Rattle.words.specs.Words.{Member, Listed, listed}

@@ -13,7 +13,7 @@ use lib.ListN.{length, getD, set, drop, length-set, length-drop, drop-of-length-
 use lib.Seq.{drop-cons, getD-drop, getD-set-same, getD-set-other}
 use Rattle.base.specs.Walks.{count}
 use Rattle.checker.specs.Records.{index}
-use Rattle.align.specs.Sets.{without}
+use Rattle.sets.specs.Sets.{without}
 use Rattle.words.specs.Words.{Member, LowestFrom}
 use Rattle.words.proofs.Rests.{coming-next, coming-end, none-up}
 use Rattle.marker.specs.declared.inner.marks.Counts.{Counts}

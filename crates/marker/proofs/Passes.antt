@@ -5,7 +5,7 @@ use Prim.Native.Nat.{ℕ, zero, suc, _+_, _*_, _≤_, _<_}
 use native.Mathlib.Numerals.{add-one}
 use native.Mathlib.Omega.{arith}
 use lib.ListN.{getD}
-use Rattle.align.specs.Sets.{without}
+use Rattle.sets.specs.Sets.{without}
 use Rattle.words.specs.Words.{Member, LowestFrom}
 use Rattle.words.proofs.Rests.{Coming, coming-start, coming-next, coming-more, coming-end, none-up}
 use Rattle.marker.specs.Spans.{each}

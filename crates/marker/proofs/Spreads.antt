@@ -6,7 +6,7 @@ use Prim.Native.Nat.{ℕ, _+_, _<_}
 use native.Mathlib.Omega.{arith}
 use native.Mathlib.Decide.{ℕ-discrete}
 use lib.ListN.{length}
-use Rattle.align.specs.Sets.{joined}
+use Rattle.sets.specs.Sets.{joined}
 use Rattle.marker.specs.Marks.{allOpened, none-yet, Tried, Swept}
 use Rattle.marker.specs.Seen.{HoldsBeyond}
 use Rattle.marker.specs.Spreads.{Spread, Passed}

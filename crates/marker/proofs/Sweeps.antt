@@ -4,7 +4,7 @@ use mathlib.Core.List.{List}
 use Prim.Native.Nat.{ℕ, _+_, _*_, _-_, _≤_, _<_}
 use native.Mathlib.Omega.{arith}
 use lib.ListN.{length, getD}
-use Rattle.align.specs.Sets.{without}
+use Rattle.sets.specs.Sets.{without}
 use Rattle.words.specs.Words.{LowestFrom, HighestBefore}
 use Rattle.words.proofs.Rests.{Coming, coming-start, coming-next, coming-more, coming-end, Leaving, leaving-start, leaving-next, leaving-more, leaving-less, leaving-end, none-up, none-down}
 use Rattle.marker.specs.Marks.{Tried, Swept}

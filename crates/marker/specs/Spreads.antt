@@ -6,7 +6,7 @@ use mathlib.Core.Option.{none}
 use Prim.Native.Nat.{ℕ, _%_, _<_}
 use lib.Dec.{eqb, ltb}
 use lib.ListN.{length, getD, set}
-use Rattle.align.specs.Sets.{with}
+use Rattle.sets.specs.Sets.{with}
 use Rattle.checker.specs.Records.{index}
 use Rattle.marker.specs.Marks.{nextOpening, Opened}
 

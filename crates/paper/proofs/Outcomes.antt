@@ -15,9 +15,10 @@ use Rattle.chart.specs.declared.places.OldPlace.{OldPlace}
 use Rattle.chart.specs.Charts.{Chart, operation}
 use Rattle.chart.specs.Faultless.{FaultlessChart}
 use Rattle.align.specs.declared.spots.Spot.{Spot}
-use Rattle.align.specs.Sets.{alone, with, without, meets, readSet}
+use Rattle.sets.specs.Sets.{alone, with, without, meets}
+use Rattle.align.specs.Reads.{readSet}
 use Rattle.align.specs.Steps.{find, oldTo, matching, matched, rewritten, rowsAt, atAlarm, assigned, onward, follow, followed, counterpart, assumed, moved}
-use Rattle.align.proofs.Sets.{In, alone-here, alone-only, with-here, with-old, with-only, meet-some, meet-none}
+use Rattle.sets.proofs.Sets.{In, alone-here, alone-only, with-here, with-old, with-only, meet-some, meet-none}
 use Rattle.align.proofs.Onto.{same→eq}
 use Rattle.align.proofs.Moves.{follow-ends, follow-twice, follow-on, moved-assigned, moved-twice, moved-assumed}
 use Rattle.checker.specs.Promise.{Words}

@@ -15,7 +15,7 @@ use Rattle.base.proofs.Tests.{and-true, and-false, or-false}
 use Rattle.chart.specs.declared.places.NewPlace.{NewPlace}
 use Rattle.chart.specs.Places.{keptNumber, newOf}
 use Rattle.chart.specs.Charts.{Chart}
-use Rattle.align.specs.Sets.{joined}
+use Rattle.sets.specs.Sets.{joined}
 use Rattle.graph.specs.Graphs.{Graph, Sized, marked, keep, due, join, unwait}
 use Rattle.graph.proofs.Graphs.{setAt, marked-yes, marked-no, marked-same, keep-node, keep-nodes, keep-mark, keep-wait, keep-mark-other, keep-set-other, keep-wait-other, join-mark, join-set, join-due, join-not-due, join-mark-other, join-set-other, join-wait-other}
 use Rattle.paper.specs.Nodes.{SetOf, _isIn_, _isNotIn_, _plus_, Pair, onlyPlace, onlyPair, withPlace, pairOf, Numbered}

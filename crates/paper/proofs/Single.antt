@@ -22,9 +22,9 @@ use Rattle.chart.specs.Conflicts.{Opposite}
 use Rattle.chart.specs.Faultless.{FaultlessChart}
 use Rattle.chart.proofs.Conflicts.{two-rows}
 use Rattle.align.specs.declared.spots.Spot.{Spot}
-use Rattle.align.specs.Sets.{bit, with, without, meets}
+use Rattle.sets.specs.Sets.{bit, with, without, meets}
 use Rattle.align.specs.Steps.{find, oldTo, along, rowsAt, atAlarm, onward}
-use Rattle.align.proofs.Sets.{same-set}
+use Rattle.sets.proofs.Sets.{same-set}
 use Rattle.align.proofs.Agree.{not-assignment}
 use Rattle.checker.specs.Promise.{Words}
 use Rattle.paper.specs.Lines5to18.{Has, Meet, IsWith, IsWithout, InG, Line13, Line15}

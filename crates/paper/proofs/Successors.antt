@@ -10,7 +10,8 @@ use Rattle.operations.specs.Operations.{isAssignment, same}
 use Rattle.chart.specs.declared.places.OldPlace.{OldPlace}
 use Rattle.chart.specs.Charts.{Chart, operation}
 use Rattle.align.specs.declared.spots.Spot.{Spot}
-use Rattle.align.specs.Sets.{alone, with, meets, readSet}
+use Rattle.sets.specs.Sets.{alone, with, meets}
+use Rattle.align.specs.Reads.{readSet}
 use Rattle.align.specs.Steps.{find, oldTo, along, matched, rowsAt, atAlarm, assigned, onward, follow, followed, counterpart, assumed, moved}
 
 abbrev at : OldPlace → ℕ → Spot

@@ -13,7 +13,7 @@ use Rattle.chart.specs.declared.places.OldPlace.{OldPlace}
 use Rattle.chart.specs.declared.places.NewPlace.{NewPlace}
 use Rattle.chart.specs.Charts.{Chart, start, size, to, operation, leaving}
 use Rattle.align.specs.declared.spots.Spot.{Spot}
-use Rattle.align.specs.Sets.{joined, holdsAll}
+use Rattle.sets.specs.Sets.{joined, holdsAll}
 use Rattle.paper.specs.Nodes.{SetOf, _isIn_, _isNotIn_, emptySet, _plus_, _minus_, Pair, pair, Node, aligned, indicator, Edge, edge, onlyPlace, onlyPair, onlyEdge, onlyNode, withPlace, number}
 
 -- the variables of line 1. V_δ gives each pair a set of variables, as a number whose bit i tells of vi

@@ -17,7 +17,8 @@ use Rattle.chart.specs.declared.places.OldPlace.{OldPlace}
 use Rattle.chart.specs.Charts.{Chart, size, from, operation}
 use Rattle.chart.specs.Charts as charts
 use Rattle.align.specs.declared.spots.Spot.{Spot}
-use Rattle.align.specs.Sets.{bit, readSet}
+use Rattle.sets.specs.Sets.{bit}
+use Rattle.align.specs.Reads.{readSet}
 use Rattle.paper.specs.Nodes.{SetOf, _isIn_, emptySet, _plus_}
 
 -- ---- sets of the variables v0 to v63: "bit i for vi"

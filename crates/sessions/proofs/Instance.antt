@@ -24,7 +24,8 @@ use Rattle.operations.specs.Operations as operations-operations
 use Rattle.chart.specs.Charts as chart-charts
 use Rattle.chart.specs.Faults as chart-faults
 use Rattle.chart.specs.Runs as chart-runs
-use Rattle.align.specs.Sets as align-sets
+use Rattle.sets.specs.Sets as sets-sets
+use Rattle.align.specs.Reads as align-reads
 use Rattle.align.specs.Steps as align-steps
 use Rattle.checker.specs.Records as checker-records
 use Rattle.graph.specs.Graphs as builder-graphs
@@ -41,7 +42,7 @@ pub R : Record
 R = recordOf 0 (set (set (set (replicate 4160 0) 0 1) 65 3) 130 4) (set (set (replicate 8192 65535) 0 65) 130 130) (replicate 4096 0)
 
 pub is-built : recorded C C ≡ R
-unfolding R base-options.firstOf base-repeat.repeated base-walks.pass base-walks.firstFrom chart-charts.leavingOf chart-charts.leaving operations-operations.kind operations-operations.operandB operations-operations.assignedC operations-operations.operandC operations-operations.reads operations-operations.same align-sets.alone align-sets.joined align-sets.with align-sets.without align-sets.meets align-sets.holdsAll align-sets.setOf align-sets.readSet align-steps.find align-steps.along align-steps.matching align-steps.matched align-steps.rewritten align-steps.assigned align-steps.onward align-steps.follow align-steps.followed align-steps.counterpart align-steps.assumed align-steps.moved align-steps.arrived align-steps.step builder-graphs.marked builder-graphs.gone builder-graphs.cleared builder-graphs.untargeted builder-graphs.keep builder-graphs.aim builder-graphs.due builder-graphs.waits builder-graphs.join builder-graphs.unwait builder-turns.lowest builder-turns.next builder-turns.setNow builder-turns.begun builder-turns.stepOf builder-turns.arrived builder-turns.processed builder-turns.rowDone builder-turns.secondDone builder-turns.taken builder-turns.explored builder-marks.plainMark builder-marks.plainMarks builder-marks.inQ builder-marks.opening builder-marks.nextOpening builder-marks.allOpened builder-marks.transitions builder-marks.cover builder-marks.covered builder-marks.allCovered builder-marks.finalMarks builder-builds.redirected builder-builds.finalTargets builder-builds.alone builder-builds.lone builder-builds.finished builder-builds.built builder-builds.startOf builder-builds.recorded
+unfolding R base-options.firstOf base-repeat.repeated base-walks.pass base-walks.firstFrom chart-charts.leavingOf chart-charts.leaving operations-operations.kind operations-operations.operandB operations-operations.assignedC operations-operations.operandC operations-operations.reads operations-operations.same sets-sets.alone sets-sets.joined sets-sets.with sets-sets.without sets-sets.meets sets-sets.holdsAll sets-sets.setOf align-reads.readSet align-steps.find align-steps.along align-steps.matching align-steps.matched align-steps.rewritten align-steps.assigned align-steps.onward align-steps.follow align-steps.followed align-steps.counterpart align-steps.assumed align-steps.moved align-steps.arrived align-steps.step builder-graphs.marked builder-graphs.gone builder-graphs.cleared builder-graphs.untargeted builder-graphs.keep builder-graphs.aim builder-graphs.due builder-graphs.waits builder-graphs.join builder-graphs.unwait builder-turns.lowest builder-turns.next builder-turns.setNow builder-turns.begun builder-turns.stepOf builder-turns.arrived builder-turns.processed builder-turns.rowDone builder-turns.secondDone builder-turns.taken builder-turns.explored builder-marks.plainMark builder-marks.plainMarks builder-marks.inQ builder-marks.opening builder-marks.nextOpening builder-marks.allOpened builder-marks.transitions builder-marks.cover builder-marks.covered builder-marks.allCovered builder-marks.finalMarks builder-builds.redirected builder-builds.finalTargets builder-builds.alone builder-builds.lone builder-builds.finished builder-builds.built builder-builds.startOf builder-builds.recorded
 is-built = refl
 
 -- ---- it passes, as all that is built does

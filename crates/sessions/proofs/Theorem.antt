@@ -25,7 +25,8 @@ use Rattle.text.specs.Fields as text-fields
 use Rattle.text.specs.Spans as text-spans
 use Rattle.text.specs.Texts as text-texts
 use Rattle.text.specs.Written as text-written
-use Rattle.align.specs.Sets as align-sets
+use Rattle.sets.specs.Sets as sets-sets
+use Rattle.align.specs.Reads as align-reads
 use Rattle.align.specs.Steps as align-steps
 use Rattle.graph.specs.Graphs as builder-graphs
 use Rattle.detector.specs.Turns as builder-turns
@@ -77,7 +78,7 @@ all-show (c ∷ l) t = let (h, r) = T-and (test c) (tests l) t in one (shows c h
 
 -- every test passes, by computing with the definitions
 computed : tests worked ≡ true
-unfolding worked tests test same fit bytes base-options.firstOf base-repeat.repeated base-walks.pass base-walks.firstFrom base-walks.count base-tests.someBelow chart-charts.leavingOf chart-charts.leaving chart-faults.countFault chart-faults.alarmFault chart-faults.rowFault chart-faults.clash chart-faults.conflictFault chart-faults.rowsFault chart-faults.fault operations-operations.kind operations-operations.operandB operations-operations.assignedC operations-operations.operandC operations-operations.operandsFit operations-operations.reads operations-operations.same operations-operations.value operations-operations.related operations-operations.holds operations-trials.seats operations-trials.trial operations-trials.shown operations-trials.together text-fields.digitOf text-fields.digits text-fields.value text-fields.kind text-fields.judged text-fields.bounded text-fields.ended text-fields.numberOf text-fields.numberAt text-fields.followed text-fields.fieldAt text-fields.lineEnd text-fields.closed text-fields.missing text-fields.itemAt text-spans.fieldsAt text-texts.whole text-texts.rowsAt text-texts.parsed text-texts.readText text-written.digitsIn text-written.digitsOf text-written.decimal text-written.closing text-written.fieldsText align-sets.alone align-sets.joined align-sets.with align-sets.without align-sets.meets align-sets.holdsAll align-sets.setOf align-sets.readSet align-steps.find align-steps.along align-steps.matching align-steps.matched align-steps.rewritten align-steps.assigned align-steps.onward align-steps.follow align-steps.followed align-steps.counterpart align-steps.assumed align-steps.moved align-steps.arrived align-steps.step builder-graphs.marked builder-graphs.gone builder-graphs.cleared builder-graphs.untargeted builder-graphs.keep builder-graphs.aim builder-graphs.due builder-graphs.waits builder-graphs.join builder-graphs.unwait builder-turns.lowest builder-turns.next builder-turns.setNow builder-turns.begun builder-turns.stepOf builder-turns.arrived builder-turns.processed builder-turns.rowDone builder-turns.secondDone builder-turns.taken builder-turns.explored builder-marks.plainMark builder-marks.plainMarks builder-marks.inQ builder-marks.opening builder-marks.nextOpening builder-marks.allOpened builder-marks.transitions builder-marks.cover builder-marks.covered builder-marks.allCovered builder-marks.finalMarks builder-builds.redirected builder-builds.finalTargets builder-builds.alone builder-builds.lone builder-builds.finished builder-builds.built builder-builds.startOf builder-builds.recorded builder-builds.summary report-lines.line report-lines.refusalLine report-transitions.rowsBelow report-transitions.firstRow report-transitions.transition report-transitions.ofPair report-transitions.ofPairs report-transitions.remaining report-printed.bothOf report-printed.bothRead report-printed.summaryLine report-printed.transitions report-printed.condition report-printed.conditionOf report-printed.printed
+unfolding worked tests test same fit bytes base-options.firstOf base-repeat.repeated base-walks.pass base-walks.firstFrom base-walks.count base-tests.someBelow chart-charts.leavingOf chart-charts.leaving chart-faults.countFault chart-faults.alarmFault chart-faults.rowFault chart-faults.clash chart-faults.conflictFault chart-faults.rowsFault chart-faults.fault operations-operations.kind operations-operations.operandB operations-operations.assignedC operations-operations.operandC operations-operations.operandsFit operations-operations.reads operations-operations.same operations-operations.value operations-operations.related operations-operations.holds operations-trials.seats operations-trials.trial operations-trials.shown operations-trials.together text-fields.digitOf text-fields.digits text-fields.value text-fields.kind text-fields.judged text-fields.bounded text-fields.ended text-fields.numberOf text-fields.numberAt text-fields.followed text-fields.fieldAt text-fields.lineEnd text-fields.closed text-fields.missing text-fields.itemAt text-spans.fieldsAt text-texts.whole text-texts.rowsAt text-texts.parsed text-texts.readText text-written.digitsIn text-written.digitsOf text-written.decimal text-written.closing text-written.fieldsText sets-sets.alone sets-sets.joined sets-sets.with sets-sets.without sets-sets.meets sets-sets.holdsAll sets-sets.setOf align-reads.readSet align-steps.find align-steps.along align-steps.matching align-steps.matched align-steps.rewritten align-steps.assigned align-steps.onward align-steps.follow align-steps.followed align-steps.counterpart align-steps.assumed align-steps.moved align-steps.arrived align-steps.step builder-graphs.marked builder-graphs.gone builder-graphs.cleared builder-graphs.untargeted builder-graphs.keep builder-graphs.aim builder-graphs.due builder-graphs.waits builder-graphs.join builder-graphs.unwait builder-turns.lowest builder-turns.next builder-turns.setNow builder-turns.begun builder-turns.stepOf builder-turns.arrived builder-turns.processed builder-turns.rowDone builder-turns.secondDone builder-turns.taken builder-turns.explored builder-marks.plainMark builder-marks.plainMarks builder-marks.inQ builder-marks.opening builder-marks.nextOpening builder-marks.allOpened builder-marks.transitions builder-marks.cover builder-marks.covered builder-marks.allCovered builder-marks.finalMarks builder-builds.redirected builder-builds.finalTargets builder-builds.alone builder-builds.lone builder-builds.finished builder-builds.built builder-builds.startOf builder-builds.recorded builder-builds.summary report-lines.line report-lines.refusalLine report-transitions.rowsBelow report-transitions.firstRow report-transitions.transition report-transitions.ofPair report-transitions.ofPairs report-transitions.remaining report-printed.bothOf report-printed.bothRead report-printed.summaryLine report-printed.transitions report-printed.condition report-printed.conditionOf report-printed.printed
 computed = refl
 
 pub worked-cases : Every worked

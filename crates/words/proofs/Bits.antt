@@ -6,8 +6,8 @@ use native.Mathlib.Nat.{pow-suc, div-eq-of-lt, lt-of-lt-of-le, eq-zero-or-pos}
 use native.Mathlib.Omega.{arith}
 use lib.Pow.{pow-mono, high}
 use lib.Count.{trailingZeros, leadingZeros, under, leading-top, leading-of-zero}
-use Rattle.align.specs.Sets.{bit}
-use Rattle.align.proofs.Sets.{bit-zero, bit-suc, bit-none}
+use Rattle.sets.specs.Sets.{bit}
+use Rattle.sets.proofs.Sets.{bit-zero, bit-suc, bit-none}
 use Rattle.words.specs.Words.{LowestFrom, HighestBefore}
 
 -- no bit of x from k on

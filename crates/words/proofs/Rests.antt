@@ -7,8 +7,8 @@ use native.Mathlib.Decide.{ℕ-discrete, decLt}
 use native.Mathlib.Omega.{arith}
 use lib.Bits.{and-le-l}
 use lib.ListN.{getD}
-use Rattle.align.specs.Sets.{bit, without}
-use Rattle.align.proofs.Sets.{bit-none, without-in, without-kept}
+use Rattle.sets.specs.Sets.{bit, without}
+use Rattle.sets.proofs.Sets.{bit-none, without-in, without-kept}
 use Rattle.words.specs.Words.{Member, LowestFrom, HighestBefore}
 use Rattle.words.proofs.Words.{not-at}
 

@@ -3,7 +3,7 @@ use mathlib.Core.Path.{_≡_}
 use mathlib.Core.List.{List}
 use Prim.Native.Nat.{ℕ, zero, suc, _-_, _/_, _%_, _≤_, _<_}
 use lib.ListN.{getD, set}
-use Rattle.align.specs.Sets.{bit, joined, with, without}
+use Rattle.sets.specs.Sets.{bit, joined, with, without}
 
 -- pair n is a member
 abbrev pub Member : List ℕ → ℕ → Type 0

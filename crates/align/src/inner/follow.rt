@@ -9,17 +9,17 @@ ghost use Rattle.chart.specs.Faultless.{FaultlessChart};
 ghost use Rattle.chart.specs.Lookup.{Indexed};
 ghost use Rattle.align.specs.Steps.{toldOnward, toldFollowed, along, onward, followed};
 use crate::inner::seek;
-use crate::inner::sets;
 use crate::spots::Followed;
-use crate::spots::Found;
 use crate::spots::Onward;
 use crate::spots::Spot;
+use base::Found;
 use chart::charts::Head;
 use chart::inner::pairs::bit;
 use chart::inner::rows::old_to;
 use chart::inner::rows::operation_at;
 use chart::inner::rows::rows_of;
 use chart::places::Place;
+use sets::inner::bits;
 
 // By row k of a place: what it writes joins the set.
 fn along(set: u64, rows: &[u32], k: usize) -> Spot
@@ -29,7 +29,7 @@ fn along(set: u64, rows: &[u32], k: usize) -> Spot
     let o = operation_at(rows, k);
     Spot {
         place: old_to(rows, k),
-        set: sets::with(set, o.a),
+        set: bits::with(set, o.a),
     }
 }
 
@@ -81,10 +81,10 @@ pub fn follow<'a>(
             }
             Onward::To(next) => {
                 let q = next.place;
-                if sets::meets(met, bit(q)) {
+                if bits::meets(met, bit(q)) {
                     return Followed::Twice;
                 }
-                met = sets::joined(met, bit(q));
+                met = bits::joined(met, bit(q));
                 at = next;
             }
         }

@@ -9,12 +9,12 @@ ghost use Rattle.chart.specs.Faultless.{FaultlessChart};
 ghost use Rattle.chart.specs.Lookup.{Indexed};
 ghost use Rattle.align.specs.Steps.{told, find, rewritten, assigned, matched, counterpart, assumed, moved, fair, arrived, rowsAt, step};
 use crate::inner::follow::follow;
+use crate::inner::reads;
 use crate::inner::seek;
-use crate::inner::sets;
 use crate::spots::Aligned;
 use crate::spots::Followed;
-use crate::spots::Found;
 use crate::spots::Spot;
+use base::Found;
 use chart::charts::Head;
 use chart::inner::rows::new_to;
 use chart::inner::rows::old_to;
@@ -24,16 +24,17 @@ use chart::places::NewPlace;
 use chart::places::OldPlace;
 use chart::places::Place;
 use operations::Operation;
+use sets::inner::bits;
 
 // The set after an assignment that both charts take.
 fn rewritten(set: u64, o: Operation) -> u64
     requires { ⌜ (isAssignment o ≡ true) × (operandsFit o ≡ true) ⌝ }
     ensures { λ r. ⌜ r ≡ rewritten set o ⌝ }
 {
-    if sets::meets_right(set, o) {
-        return sets::with(set, o.a);
+    if reads::meets_right(set, o) {
+        return bits::with(set, o.a);
     }
-    sets::without(set, o.a)
+    bits::without(set, o.a)
 }
 
 // By a new assignment: together with the equal old row, if there is one.
@@ -62,7 +63,7 @@ fn assigned<'a>(
         },
         Found::Nothing => Spot {
             place: p,
-            set: sets::with(h.set, o.a),
+            set: bits::with(h.set, o.a),
         },
     }
 }
@@ -73,10 +74,10 @@ fn matched(set: u64, rows: &[u32], k: usize, o: Operation) -> Aligned
     requires { ⌜ (isAssumption o ≡ true) × (operandsFit o ≡ true) ⌝ }
     ensures { λ r. ⌜ told r ≡ matched set (now (rows .entry)) k o ⌝ }
 {
-    if sets::meets_compared(set, o) {
+    if reads::meets_compared(set, o) {
         return Aligned::Failed;
     }
-    if sets::meets_compared(set, operation_at(rows, k)) {
+    if reads::meets_compared(set, operation_at(rows, k)) {
         return Aligned::Failed;
     }
     Aligned::To(Spot {

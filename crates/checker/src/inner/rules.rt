@@ -7,7 +7,7 @@ ghost use Rattle.base.specs.Says.{bool};
 ghost use Rattle.chart.specs.Charts.{charted, leaving};
 ghost use Rattle.chart.specs.Lookup.{Indexed};
 ghost use Rattle.chart.specs.Places.{newOf};
-ghost use Rattle.align.specs.Steps.{toldFound};
+ghost use Rattle.base.specs.Found.{toldFound};
 ghost use Rattle.checker.specs.Records.{graphOf, recordOf};
 ghost use Rattle.checker.specs.Rules.{startFits, Admitted};
 ghost use Rattle.checker.specs.Packed.{packed};
@@ -15,7 +15,7 @@ ghost use Rattle.checker.specs.Checks.{targetFault, rowsFault, pairFault
 use crate::inner::shape::blank;
 use crate::inner::targets::row_fits;
 use align::inner::step::fair;
-use align::spots::Found;
+use base::Found;
 use chart::charts::Head;
 use chart::inner::pairs::new_of;
 use chart::inner::pairs::old_of;

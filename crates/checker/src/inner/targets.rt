@@ -11,7 +11,6 @@ ghost use Rattle.chart.specs.Places.{newOf};
 ghost use Rattle.align.specs.Steps.{step};
 ghost use Rattle.checker.specs.Records.{graphOf, spot};
 ghost use Rattle.checker.specs.Rules.{targetFits, keeps, joins, joinsStep, restsAt, ranked, leads, rowFits, Admitted};
-use align::inner::sets::holds_all;
 use align::inner::step::step;
 use align::spots::Aligned;
 use align::spots::Spot;
@@ -21,6 +20,7 @@ use chart::inner::pairs::old_of;
 use chart::inner::pairs::pair;
 use chart::inner::rows::new_to;
 use chart::places::NewPlace;
+use sets::inner::bits::holds_all;
 
 // Whether the target is kept q, marked 2.
 fn keeps(marks: &[u8], q: NewPlace, t: usize) -> bool

@@ -4,7 +4,7 @@ ghost use mathlib.Core.List.{map};
 ghost use Prim.Native.Nat.{ℕ, _+_, _*_, _≤_, _<_};
 ghost use lib.ListN.{length, getD, take, drop};
 ghost use Rattle.base.specs.Walks.{count};
-ghost use Rattle.align.specs.Sets.{bit};
+ghost use Rattle.sets.specs.Sets.{bit};
 ghost use Rattle.checker.specs.Records.{index};
 ghost use Rattle.checker.specs.Rules.{startPair};
 ghost use Rattle.words.specs.Words.{Member};
@@ -12,7 +12,6 @@ ghost use Rattle.graph.specs.Graphs.{graph, Sized, Covers};
 ghost use Rattle.marker.specs.Spans.{remade};
 ghost use Rattle.condition.specs.Builds.{redirected, alone, lone, finished, startOf, summary};
 use crate::Summary;
-use align::inner::sets::without;
 use align::inner::step::fair;
 use chart::charts::Head;
 use chart::inner::pairs::kept;
@@ -24,6 +23,7 @@ use detector::inner::explore::first_pair;
 use graph::inner::buffers;
 use graph::inner::graphs::is_marked;
 use marker::inner::marks::rank;
+use sets::inner::bits::without;
 use words::inner::members;
 
 // A target whose new place is kept becomes that kept node. Both are asked at once, so that there is one branch alone.

@@ -10,7 +10,7 @@ ghost use Rattle.checker.specs.Rules.{startPair, startKept};
 ghost use Rattle.graph.specs.Graphs.{graph, Sized, Covers};
 ghost use Rattle.detector.specs.Turns.{begun, explored};
 use crate::inner::turns;
-use align::spots::Found;
+use base::Found;
 use chart::charts::Head;
 use graph::inner::buffers;
 use words::inner::members;

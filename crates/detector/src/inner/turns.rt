@@ -7,15 +7,15 @@ ghost use Rattle.chart.specs.Charts.{charted};
 ghost use Rattle.chart.specs.Faultless.{FaultlessChart};
 ghost use Rattle.chart.specs.Lookup.{Indexed};
 ghost use Rattle.align.specs.declared.spots.Spot.{Spot};
-ghost use Rattle.align.specs.Steps.{told, toldFound};
+ghost use Rattle.align.specs.Steps.{told};
+ghost use Rattle.base.specs.Found.{toldFound};
 ghost use Rattle.words.specs.Words.{LowestFrom};
 ghost use Rattle.graph.specs.Graphs.{graph, Sized, Lists, Tracks};
 ghost use Rattle.detector.specs.Turns.{lowest, LowestOf, setNow, arrived, processed, rowDone, taken};
-use align::inner::sets::without;
 use align::inner::step::step;
 use align::spots::Aligned;
-use align::spots::Found;
 use align::spots::Spot;
+use base::Found;
 use chart::charts::Head;
 use chart::inner::pairs::kept;
 use chart::inner::pairs::new_of;
@@ -27,6 +27,7 @@ use chart::places::NewPlace;
 use chart::places::Place;
 use graph::inner::buffers;
 use graph::inner::graphs;
+use sets::inner::bits::without;
 use words::inner::members;
 
 // The next pair of an old place to look at: the lowest bit of what is left of its word.

@@ -3,21 +3,21 @@ ghost use mathlib.Core.Path.{_≡_};
 ghost use mathlib.Core.List.{List};
 ghost use Prim.Native.Nat.{ℕ, _<_};
 ghost use lib.ListN.{length, set, getD};
-ghost use Rattle.align.specs.Sets.{joined};
+ghost use Rattle.sets.specs.Sets.{joined};
 ghost use Rattle.checker.specs.Records.{index};
 ghost use Rattle.words.specs.Words.{Member, added};
 ghost use Rattle.graph.specs.Graphs.{graph, Sized, Covers, marked, cleared, untargeted, keep, aim, due, join, listedIf};
 use crate::inner::buffers;
-use align::inner::sets::alone;
-use align::inner::sets::holds_all;
-use align::inner::sets::joined;
-use align::inner::sets::meets;
 use chart::charts::Head;
 use chart::inner::pairs::kept;
 use chart::inner::pairs::old_of;
 use chart::inner::pairs::pair;
 use chart::places::NewPlace;
 use chart::places::OldPlace;
+use sets::inner::bits::alone;
+use sets::inner::bits::holds_all;
+use sets::inner::bits::joined;
+use sets::inner::bits::meets;
 use words::inner::members;
 
 // Whether a node is in the graph, or kept.

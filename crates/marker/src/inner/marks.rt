@@ -11,8 +11,8 @@ ghost use Rattle.marker.specs.Marks.{cover, coverFrom, allCovered, final
 ghost use Rattle.marker.specs.Spreads.{Passed};
 ghost use Rattle.marker.specs.Counts.{Counted};
 use crate::inner::spread::spread;
-use align::inner::sets::without;
 use graph::inner::buffers;
+use sets::inner::bits::without;
 use words::inner::members;
 
 fn plain_mark(v: u8, x: u8) -> u8

@@ -7,11 +7,11 @@ ghost use Rattle.marker.specs.Spans.{each};
 ghost use Rattle.marker.specs.Seen.{HoldsBeyond};
 ghost use Rattle.marker.specs.Spreads.{Spread, ledTo, ledFrom};
 use crate::inner::marks::open_if;
-use align::inner::sets::alone;
-use align::inner::sets::joined;
-use align::inner::sets::meets;
-use align::inner::sets::with;
-use align::inner::sets::without;
+use sets::inner::bits::alone;
+use sets::inner::bits::joined;
+use sets::inner::bits::meets;
+use sets::inner::bits::with;
+use sets::inner::bits::without;
 use words::inner::members;
 
 // New place q leads to the new place of a target that is a pair.

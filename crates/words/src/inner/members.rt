@@ -5,11 +5,11 @@ ghost use mathlib.Core.Logic.{_↔_};
 ghost use Prim.Native.Nat.{_+_, _*_, _/_, _≤_, _<_};
 ghost use lib.ListN.{length};
 ghost use Rattle.words.specs.Words.{Member, added, removed, gathered, listed, LowestFrom, HighestBefore};
-use align::inner::sets::alone;
-use align::inner::sets::joined;
-use align::inner::sets::meets;
-use align::inner::sets::with;
-use align::inner::sets::without;
+use sets::inner::bits::alone;
+use sets::inner::bits::joined;
+use sets::inner::bits::meets;
+use sets::inner::bits::with;
+use sets::inner::bits::without;
 
 pub fn add(words: &mut [u64], n: usize)
     requires { ⌜ (64 ≤ length (now words)) × (n < 4096) ⌝ }

@@ -2,7 +2,7 @@
 use mathlib.Core.Path.{sym, subst}
 use Prim.Native.Nat.{_<_}
 use Rattle.operations.specs.declared.Operation.{Operation}
-use Rattle.align.specs.Sets.{with}
+use Rattle.sets.specs.Sets.{with}
 use Rattle.align.specs.Steps.{along}
 use Rattle.operations.proofs.Codes.{fit-a}
 use borrow.Author.Needs.{needs}

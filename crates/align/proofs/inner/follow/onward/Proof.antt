@@ -1,7 +1,8 @@
 -- `align::inner::follow::onward` meets its contract: at the alarm, by the assignment, or at the end. Assumes nothing.
 use mathlib.Core.Path.{_≡_, sym, ap, subst, _∙_}
 use Rattle.align.proofs.Moves.{onward-ends, onward-by}
-use Rattle.align.specs.Steps.{toldFound, along}
+use Rattle.align.specs.Steps.{along}
+use Rattle.base.specs.Found.{toldFound}
 use Rattle.align.proofs.Seek.{found-inside, part-right, later-row}
 use Rattle.operations.specs.Operations.{isAssignment, operandsFit}
 use Rattle.chart.specs.Charts.{size, operation}

@@ -1,7 +1,8 @@
 -- `align::inner::step::assumed` meets its contract: at the alarm, matched, or not found. Assumes nothing.
 use mathlib.Core.Path.{_≡_, refl, sym, ap, subst, _∙_}
 use Rattle.align.proofs.Moves.{counterpart-none, counterpart-by, matching-inside, matched-assumes, assumed-on, assumed-by}
-use Rattle.align.specs.Steps.{toldFound, matching, matched}
+use Rattle.align.specs.Steps.{matching, matched}
+use Rattle.base.specs.Found.{toldFound}
 use Rattle.align.proofs.Seek.{part-right}
 use Rattle.operations.specs.declared.Operation.{Operation}
 use Rattle.operations.specs.Operations.{isAssumption, operandsFit}

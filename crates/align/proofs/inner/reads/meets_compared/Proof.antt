@@ -1,12 +1,12 @@
--- `align::inner::sets::meets_compared` meets its contract: an assumption reads what it compares. Assumes nothing.
+-- `align::inner::reads::meets_compared` meets its contract: an assumption reads what it compares. Assumes nothing.
 use mathlib.Core.Path.{ap, ap₂, _∙_}
 use native.Mathlib.Omega.{arith}
 use Rattle.operations.proofs.Codes.{fit-a}
-use Rattle.align.specs.Sets.{alone, joined, meets}
+use Rattle.sets.specs.Sets.{alone, joined, meets}
 use Rattle.align.proofs.ReadSets.{reads-assumption, partner-fits}
 use borrow.Author.Needs.{needs}
-use Rattle.align.proofs.inner.sets.meets_compared.Statement.{statement}
-use Rattle.align.proofs.inner.sets.meets_compared.Tie as tie
+use Rattle.align.proofs.inner.reads.meets_compared.Statement.{statement}
+use Rattle.align.proofs.inner.reads.meets_compared.Tie as tie
 
 alone-requires : tie.Need-alone-requires
 alone-requires c κs = fit-a _ (c .pre .1)

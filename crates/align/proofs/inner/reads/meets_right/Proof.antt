@@ -1,9 +1,9 @@
--- `align::inner::sets::meets_right` meets its contract: an empty set meets nothing. Assumes nothing.
+-- `align::inner::reads::meets_right` meets its contract: an empty set meets nothing. Assumes nothing.
 use mathlib.Core.Path.{ap, _∙_}
-use Rattle.align.specs.Sets.{meets}
+use Rattle.sets.specs.Sets.{meets}
 use borrow.Author.Needs.{needs}
-use Rattle.align.proofs.inner.sets.meets_right.Statement.{statement}
-use Rattle.align.proofs.inner.sets.meets_right.Tie as tie
+use Rattle.align.proofs.inner.reads.meets_right.Statement.{statement}
+use Rattle.align.proofs.inner.reads.meets_right.Tie as tie
 
 returns : tie.Need-returns
 unfolding meets

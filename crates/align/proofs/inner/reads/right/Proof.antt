@@ -1,10 +1,10 @@
--- `align::inner::sets::right` meets its contract: from its operands. Assumes nothing.
+-- `align::inner::reads::right` meets its contract: from its operands. Assumes nothing.
 use mathlib.Core.Path.{ap₂, _∙_}
-use Rattle.align.specs.Sets.{joined}
+use Rattle.sets.specs.Sets.{joined}
 use Rattle.align.proofs.ReadSets.{reads-assignment, fits-b, fits-c}
 use borrow.Author.Needs.{needs}
-use Rattle.align.proofs.inner.sets.right.Statement.{statement}
-use Rattle.align.proofs.inner.sets.right.Tie as tie
+use Rattle.align.proofs.inner.reads.right.Statement.{statement}
+use Rattle.align.proofs.inner.reads.right.Tie as tie
 
 operand-b-requires : tie.Need-operand-b-requires
 operand-b-requires c κs = search needs

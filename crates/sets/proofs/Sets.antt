@@ -15,7 +15,7 @@ use lib.Arith.{digits-mod}
 use lib.Bits.{bitAnd, bitOr, or-step, and-step, or-shr, and-shr, or-lt, and-le-l}
 use Rattle.base.proofs.Lists.{has as among}
 use Rattle.base.proofs.Tests.{T-or}
-use Rattle.align.specs.Sets.{bit, alone, joined, with, without, meets, holdsAll, setOf}
+use Rattle.sets.specs.Sets.{bit, alone, joined, with, without, meets, holdsAll, setOf}
 
 -- i is in the set s
 abbrev pub In : ℕ → ℕ → Type 0

@@ -4,8 +4,6 @@ use mathlib.Core.List.{List, [], _∷_}
 use Prim.Native.Nat.{ℕ, _-_, _/_, _%_, _^_}
 use lib.Dec.{eqb}
 use lib.Bits.{bitAnd, bitOr}
-use Rattle.operations.specs.declared.Operation.{Operation}
-use Rattle.operations.specs.Operations.{reads}
 
 -- "bit i for vi"
 abbrev pub bit : ℕ → ℕ → ℕ
@@ -35,10 +33,7 @@ meets s t = not (eqb (bitAnd s t) 0)
 unfoldable pub holdsAll : ℕ → ℕ → Bool
 holdsAll s t = eqb (bitOr s t) s
 
+-- the variables of a list, such as "the read ones", as a set
 unfoldable pub setOf : List ℕ → ℕ
 setOf [] = 0
 setOf (v ∷ l) = joined (alone v) (setOf l)
-
--- the variables that an operation reads (rd of the source), as a set
-unfoldable pub readSet : Operation → ℕ
-readSet o = setOf (reads o)

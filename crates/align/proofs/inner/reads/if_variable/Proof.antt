@@ -1,14 +1,14 @@
--- `align::inner::sets::if_variable` meets its contract: operand by operand. Assumes nothing.
+-- `align::inner::reads::if_variable` meets its contract: operand by operand. Assumes nothing.
 use lib.Dec.{leb}
 use mathlib.Core.Path.{_≡_, sym, _∙_}
-use Rattle.align.specs.Sets.{alone, joined, setOf}
+use Rattle.sets.specs.Sets.{alone, joined, setOf}
 use lib.Bits.{or-zero-r}
 use borrow.Author.Tests.{leb-true}
 use mathlib.Core.Bool.{true}
 use native.Mathlib.Omega.{arith}
 use borrow.Author.Needs.{needs}
-use Rattle.align.proofs.inner.sets.if_variable.Statement.{statement}
-use Rattle.align.proofs.inner.sets.if_variable.Tie as tie
+use Rattle.align.proofs.inner.reads.if_variable.Statement.{statement}
+use Rattle.align.proofs.inner.reads.if_variable.Tie as tie
 
 enum-told : tie.Need-enum-told
 enum-told c = search needs

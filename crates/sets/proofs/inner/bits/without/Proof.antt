@@ -1,11 +1,11 @@
--- `align::inner::sets::without` meets its contract. Assumes nothing.
+-- `sets::inner::bits::without` meets its contract. Assumes nothing.
 use mathlib.Core.Path.{ap}
-use Rattle.align.specs.Sets.{alone, without}
+use Rattle.sets.specs.Sets.{alone, without}
 use Prim.Native.Nat.{ℕ, _-_, _^_}
 use lib.Bits.{bitAnd}
 use borrow.Author.Needs.{needs}
-use Rattle.align.proofs.inner.sets.without.Statement.{statement}
-use Rattle.align.proofs.inner.sets.without.Tie as tie
+use Rattle.sets.proofs.inner.bits.without.Statement.{statement}
+use Rattle.sets.proofs.inner.bits.without.Tie as tie
 
 alone-requires : tie.Need-alone-requires
 alone-requires c κs = search needs

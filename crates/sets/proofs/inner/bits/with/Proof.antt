@@ -1,9 +1,9 @@
--- `align::inner::sets::with` meets its contract: from its parts. Assumes nothing.
+-- `sets::inner::bits::with` meets its contract: from its parts. Assumes nothing.
 use mathlib.Core.Path.{ap, _∙_}
-use Rattle.align.specs.Sets.{alone, joined, with}
+use Rattle.sets.specs.Sets.{alone, joined, with}
 use borrow.Author.Needs.{needs}
-use Rattle.align.proofs.inner.sets.with.Statement.{statement}
-use Rattle.align.proofs.inner.sets.with.Tie as tie
+use Rattle.sets.proofs.inner.bits.with.Statement.{statement}
+use Rattle.sets.proofs.inner.bits.with.Tie as tie
 
 alone-requires : tie.Need-alone-requires
 alone-requires c κs = search needs

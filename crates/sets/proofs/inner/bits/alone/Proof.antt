@@ -1,13 +1,13 @@
--- `align::inner::sets::alone` meets its contract: a shift by v is 2^v. Assumes nothing.
+-- `sets::inner::bits::alone` meets its contract: a shift by v is 2^v. Assumes nothing.
 use mathlib.Core.Path.{_∙_}
 use native.Mathlib.Nat.{one-mul}
 use native.Mathlib.Omega.{arith}
 use lib.Pow.{shl-exact}
 use lib.Dec.{lit<}
 use borrow.Author.Needs.{needs}
-use Rattle.align.specs.Sets.{alone}
-use Rattle.align.proofs.inner.sets.alone.Statement.{statement}
-use Rattle.align.proofs.inner.sets.alone.Tie as tie
+use Rattle.sets.specs.Sets.{alone}
+use Rattle.sets.proofs.inner.bits.alone.Statement.{statement}
+use Rattle.sets.proofs.inner.bits.alone.Tie as tie
 
 shl-result : tie.Need-shl-result
 shl-result c = search needs

@@ -1,54 +1,15 @@
-// Sets of the variables v0 to v63, as the bits of a u64.
+// The variables that an operation reads, as sets.
 ghost use mathlib.Core.Path.{_≡_};
 ghost use mathlib.Core.Bool.{true};
-ghost use Prim.Native.Nat.{_<_};
 ghost use Rattle.operations.specs.Operations.{isAssignment, isAssumption, fits, ifVariable, operandsFit};
-ghost use Rattle.align.specs.Sets.{alone, joined, with, without, meets, holdsAll, setOf, readSet};
+ghost use Rattle.sets.specs.Sets.{meets, setOf};
+ghost use Rattle.align.specs.Reads.{readSet};
 use operations::Operand;
 use operations::Operation;
 use operations::inner::trials::partner;
-
-// The set of v alone.
-pub fn alone(v: u32) -> u64
-    requires { ⌜ v < 64 ⌝ }
-    ensures { λ r. ⌜ r ≡ alone v ⌝ }
-{
-    1u64 << v
-}
-
-pub fn joined(s: u64, t: u64) -> u64
-    ensures { λ r. ⌜ r ≡ joined s t ⌝ }
-{
-    s | t
-}
-
-pub fn with(s: u64, v: u32) -> u64
-    requires { ⌜ v < 64 ⌝ }
-    ensures { λ r. ⌜ r ≡ with s v ⌝ }
-{
-    joined(s, alone(v))
-}
-
-pub fn without(s: u64, v: u32) -> u64
-    requires { ⌜ v < 64 ⌝ }
-    ensures { λ r. ⌜ r ≡ without s v ⌝ }
-{
-    s & !alone(v)
-}
-
-// Whether some variable is in both.
-pub fn meets(s: u64, t: u64) -> bool
-    ensures { λ r. ⌜ r ≡ meets s t ⌝ }
-{
-    s & t != 0
-}
-
-// Whether s holds all of t.
-pub fn holds_all(s: u64, t: u64) -> bool
-    ensures { λ r. ⌜ r ≡ holdsAll s t ⌝ }
-{
-    s | t == s
-}
+use sets::inner::bits::alone;
+use sets::inner::bits::joined;
+use sets::inner::bits::meets;
 
 // The variable in an operand's place, if it is one.
 fn if_variable(operand: Operand, x: u32) -> u64

@@ -1,0 +1,2 @@
+-- Laws of sets.
+pub mod Sets

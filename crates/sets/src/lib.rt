@@ -1,0 +1,2 @@
+// Sets of variables as bits. No entry point stands here: what the crates above may call is in `inner`.
+pub mod inner; // inner.rt: for the crates above
