@@ -7,6 +7,7 @@ use Prim.Native.Nat.{ℕ, zero, suc, _+_, _-_, _^_, _≤_, _<_}
 use native.Mathlib.Decide.{ℕ-discrete}
 use native.Mathlib.Omega.{arith}
 use lib.Bits.{or-zero-l}
+use Rattle.base.proofs.OnSome.{on-at}
 use Rattle.chart.specs.Charts.{Chart}
 use Rattle.chart.specs.Faultless.{FaultlessChart}
 use Rattle.align.specs.declared.spots.Spot.{Spot}
@@ -63,7 +64,7 @@ module _ (old : Chart) (F : FaultlessChart old) where
       let e : suc n + d ≡ suc (n + d) = omega arith in
       ap (λ (k : ℕ). follow old k met h) e
       ∙ further n (n + d) met h (λ h′ o t. longer n d (with met (h′ .place .0)) h′
-      (omega (arith, unmet-less 64 met (h′ .place .0) (onward-below old F h .of h′ o) (λ i. meet-none met (alone (h′ .place .0)) (h′ .place .0) t i (alone-here (h′ .place .0))))))
+      (omega (arith, unmet-less 64 met (h′ .place .0) (on-at _ (onward-below old F h) o) (λ i. meet-none met (alone (h′ .place .0)) (h′ .place .0) t i (alone-here (h′ .place .0))))))
 
   -- however many rows may be followed beyond 64, the walk is the same
   pub enough : (d : ℕ) (h : Spot) → h .place .0 < 64 → follow old (64 + d) (alone (h .place .0)) h ≡ followed old h

@@ -1,5 +1,5 @@
 -- The aligned step branch by branch, as the code comes upon it. Assumes nothing.
-use mathlib.Core.Path.{_≡_, refl, sym, ap, subst, _∙_}
+use mathlib.Core.Path.{_≡_, sym, ap, subst, _∙_}
 use mathlib.Core.Bool.{Bool, true, false, _&&_, _||_, not}
 use mathlib.Core.List.{List}
 use mathlib.Core.Option.{Option, none, some}
@@ -9,7 +9,7 @@ use Rattle.base.specs.Options.{orElse}
 use Rattle.base.specs.Says.{bool}
 use Rattle.base.proofs.Tests.{and-true}
 use Rattle.base.proofs.Picks.{pick-true, pick-false, pick-none, pick-some}
-use Rattle.base.proofs.Maybe.{All, All-none, All-some, All-map, All-when, All-orElse}
+use Rattle.base.proofs.OnSome.{OnSome, on-at, when-so, or-on, picked, further}
 use Rattle.operations.specs.declared.Operation.{Operation}
 use Rattle.operations.specs.Operations.{isAssignment, isAssumption, same}
 use Rattle.operations.specs.Trials.{implication}
@@ -21,7 +21,7 @@ use Rattle.align.specs.declared.spots.Spot.{Spot}
 use Rattle.sets.specs.Sets.{alone, joined, with, without, meets}
 use Rattle.align.specs.Reads.{readSet}
 use Rattle.align.specs.Steps.{find, isImplied, along, matching, matched, rewritten, rowsAt, atAlarm, assigned, onward, follow, followed, counterpart, assumed, moved, fair, arrived, step}
-use Rattle.align.proofs.Onto.{same→eq, further, picked, Among, found}
+use Rattle.align.proofs.Onto.{same→eq, Among, found}
 use Rattle.align.proofs.Parts.{row-of, row-same}
 
 -- ---- lines 7 and 8
@@ -47,22 +47,24 @@ module _ (rows : List ℕ) (o : Operation) {x : Option ℕ} (e : x ≡ find rows
   unfolding matching
   matching-implied q p h = h ∙ ap (byImplication rows) p ∙ ap (λ (y : Option ℕ). orElse y (byImplication rows o)) (sym (sym e ∙ q))
 
-matching-there : (rows : List ℕ) (o : Operation) → All (Among rows (λ o. Unit {0})) (matching rows o)
+matching-there : (rows : List ℕ) (o : Operation) → OnSome (Among rows (λ o. Unit {0})) (matching rows o)
 unfolding matching
-matching-there rows o = All-orElse (found rows (λ o′. same o′ o) (λ o t. tt)) (found rows (λ o′. isAssumption o′ && isImplied (implication o o′)) (λ o t. tt))
+matching-there rows o =
+    or-on _ (find rows (λ o′. same o′ o)) _ (found rows (λ o′. same o′ o) (λ o t. tt))
+    (λ _. found rows (λ o′. isAssumption o′ && isImplied (implication o o′)) (λ o t. tt))
 
 pub matching-inside : (rows : List ℕ) (o : Operation) (k : ℕ) → some k ≡ matching rows o → k < size rows
-matching-inside rows o k e = matching-there rows o .of k (sym e) .inside
+matching-inside rows o k e = on-at _ (matching-there rows o) (sym e) .inside
 
 -- what is matched with an assumption is one too
-matching-assumes : (rows : List ℕ) (o : Operation) → isAssumption o ≡ true → All (Among rows (λ o. isAssumption o ≡ true)) (matching rows o)
+matching-assumes : (rows : List ℕ) (o : Operation) → isAssumption o ≡ true → OnSome (Among rows (λ o. isAssumption o ≡ true)) (matching rows o)
 unfolding matching
 matching-assumes rows o t =
-    All-orElse (found rows (λ o′. same o′ o) (λ o′ e. subst (λ (x : Operation). isAssumption x ≡ true) (sym (same→eq o′ o e)) t))
-    (found rows (λ o′. isAssumption o′ && isImplied (implication o o′)) (λ o′ e. and-true (isAssumption o′) _ e .0))
+    or-on _ (find rows (λ o′. same o′ o)) _ (found rows (λ o′. same o′ o) (λ o′ e. subst (λ (x : Operation). isAssumption x ≡ true) (sym (same→eq o′ o e)) t))
+    (λ _. found rows (λ o′. isAssumption o′ && isImplied (implication o o′)) (λ o′ e. and-true (isAssumption o′) _ e .0))
 
 pub matched-assumes : (rows : List ℕ) (o : Operation) (k : ℕ) → isAssumption o ≡ true → some k ≡ matching rows o → isAssumption (operation rows k) ≡ true
-matched-assumes rows o k t e = matching-assumes rows o t .of k (sym e) .fits
+matched-assumes rows o k t e = on-at _ (matching-assumes rows o t) (sym e) .fits
 
 -- ---- lines 6 to 10
 module _ (old : Chart) (h : Spot) (o : Operation) {rows : List ℕ} {x : Option ℕ} (r : rows ≡ rowsAt old (h .place)) (e : x ≡ find rows (λ o′. same o′ o)) where
@@ -95,59 +97,59 @@ module _ (old : Chart) (F : FaultlessChart old) where
   abbrev pub Below : Spot → Type 0
   Below h = h .place .0 < 64
 
-  along-below : (p s : ℕ) (x : Option ℕ) → All (Among (leaving (old .table) p) (λ o. isAssignment o ≡ true)) x → All Below (along s (leaving (old .table) p) x)
+  along-below : (p s : ℕ) (x : Option ℕ) → OnSome (Among (leaving (old .table) p) (λ o. isAssignment o ≡ true)) x → OnSome Below (along s (leaving (old .table) p) x)
   unfolding along
-  along-below p s none q = All-none
-  along-below p s (some k) q = All-some (part-below p k (q .of k refl .inside))
+  along-below p s none q = tt
+  along-below p s (some k) q = (part-below p k (q .inside))
 
-  pub onward-below : (h : Spot) → All Below (onward old h)
+  pub onward-below : (h : Spot) → OnSome Below (onward old h)
   unfolding onward
   onward-below h =
-      picked (atAlarm old (h .place)) none _ (λ t. All-none)
+      picked _ (atAlarm old (h .place)) none _ (λ t. tt)
       (λ t. along-below (h .place .0) (h .set) (find (rowsAt old (h .place)) isAssignment) (found (rowsAt old (h .place)) isAssignment (λ o t. t)))
 
-  follow-below : (n met : ℕ) (h : Spot) → Below h → All Below (follow old n met h)
+  follow-below : (n met : ℕ) (h : Spot) → Below h → OnSome Below (follow old n met h)
   unfolding follow
-  follow-below zero met h b = All-none
+  follow-below zero met h b = tt
   follow-below (suc n) met h b =
-      further (onward old h) (some h) _ (All-some b)
-      (All-map (λ h′ b′. picked (meets met (alone (h′ .place .0))) none _ (λ t. All-none) (λ t. follow-below n (with met (h′ .place .0)) h′ b′)) (onward-below h))
+      further Below _ (onward old h) (some h) _ (onward-below h) b
+      (λ h′ b′. picked _ (meets met (alone (h′ .place .0))) none _ (λ t. tt) (λ t. follow-below n (with met (h′ .place .0)) h′ b′))
 
-  pub followed-below : (h : Spot) → Below h → All Below (followed old h)
+  pub followed-below : (h : Spot) → Below h → OnSome Below (followed old h)
   unfolding followed
   followed-below h b = follow-below 64 (alone (h .place .0)) h b
 
-  assumed-below : (h : Spot) (o : Operation) → Below h → (x : Option ℕ) → All (Among (rowsAt old (h .place)) (λ o. Unit {0})) x → All Below (assumed old h o x)
+  assumed-below : (h : Spot) (o : Operation) → Below h → (x : Option ℕ) → OnSome (Among (rowsAt old (h .place)) (λ o. Unit {0})) x → OnSome Below (assumed old h o x)
   unfolding assumed matched
-  assumed-below h o b none q = All-some b
+  assumed-below h o b none q = b
   assumed-below h o b (some k) q =
-      All-when (not (meets (h .set) (readSet o) || meets (h .set) (readSet (operation (rowsAt old (h .place)) k)))) _ (λ t. part-below (h .place .0) k (q .of k refl .inside))
+      when-so _ (not (meets (h .set) (readSet o) || meets (h .set) (readSet (operation (rowsAt old (h .place)) k)))) _ (λ t. part-below (h .place .0) k (q .inside))
 
-  counterpart-there : (p : OldPlace) (o : Operation) → All (Among (rowsAt old p) (λ o. Unit {0})) (counterpart old p o)
+  counterpart-there : (p : OldPlace) (o : Operation) → OnSome (Among (rowsAt old p) (λ o. Unit {0})) (counterpart old p o)
   unfolding counterpart
-  counterpart-there p o = picked (atAlarm old p) none _ (λ t. All-none) (λ t. matching-there (rowsAt old p) o)
+  counterpart-there p o = picked _ (atAlarm old p) none _ (λ t. tt) (λ t. matching-there (rowsAt old p) o)
 
-  assigned-below : (h : Spot) (o : Operation) → Below h → (x : Option ℕ) → All (Among (rowsAt old (h .place)) (λ o. Unit {0})) x → Below (assigned old h o x)
+  assigned-below : (h : Spot) (o : Operation) → Below h → (x : Option ℕ) → OnSome (Among (rowsAt old (h .place)) (λ o. Unit {0})) x → Below (assigned old h o x)
   unfolding assigned
   assigned-below h o b none q = b
-  assigned-below h o b (some k) q = part-below (h .place .0) k (q .of k refl .inside)
+  assigned-below h o b (some k) q = part-below (h .place .0) k (q .inside)
 
-  moved-below : (h : Spot) (o : Operation) → Below h → All Below (moved old h o)
+  moved-below : (h : Spot) (o : Operation) → Below h → OnSome Below (moved old h o)
   unfolding moved followed
   moved-below h o b =
-      picked (isAssignment o) _ _
-      (λ t. All-some (assigned-below h o b (find (rowsAt old (h .place)) (λ o′. same o′ o)) (found (rowsAt old (h .place)) (λ o′. same o′ o) (λ o t. tt))))
-      (λ t. further (follow old 64 (alone (h .place .0)) h) none _ All-none
-      (All-map (λ h′ b′. assumed-below h′ o b′ (counterpart old (h′ .place) o) (counterpart-there (h′ .place) o)) (follow-below 64 (alone (h .place .0)) h b)))
+      picked _ (isAssignment o) _ _
+      (λ t. (assigned-below h o b (find (rowsAt old (h .place)) (λ o′. same o′ o)) (found (rowsAt old (h .place)) (λ o′. same o′ o) (λ o t. tt))))
+      (λ t. further Below _ (follow old 64 (alone (h .place .0)) h) none _ (follow-below 64 (alone (h .place .0)) h b) tt
+      (λ h′ b′. assumed-below h′ o b′ (counterpart old (h′ .place) o) (counterpart-there (h′ .place) o)))
 
   -- the old place that a step comes to is one of 64
-  pub step-below : (new : Chart) (h : Spot) (o : Operation) (q : NewPlace) → Below h → All Below (step old new h o q)
+  pub step-below : (new : Chart) (h : Spot) (o : Operation) (q : NewPlace) → Below h → OnSome Below (step old new h o q)
   unfolding step arrived
   step-below new h o q b = go (moved old h o) (moved-below h o b)
     where
-      go : (x : Option Spot) → All Below x → All Below (arrived (old .alarm) (new .alarm) q x)
-      go none f = All-none
-      go (some h′) f = All-when (bool (fair (old .alarm) (new .alarm) (h′ .place) q)) h′ (λ t. f .of h′ refl)
+      go : (x : Option Spot) → OnSome Below x → OnSome Below (arrived (old .alarm) (new .alarm) q x)
+      go none f = tt
+      go (some h′) f = when-so _ (bool (fair (old .alarm) (new .alarm) (h′ .place) q)) h′ (λ t. f)
 
 module _ (old : Chart) where
   -- ---- lines 13 and 14
@@ -234,7 +236,7 @@ module _ (old : Chart) (h : Spot) where
       walk-ends q = sym (walk .rest ∙ ap (λ (n : ℕ). follow old n met at) again ∙ sym (follow-ends old (left - 1) met at e q))
 
       pub next-below : {next : Spot} → FaultlessChart old → r ≡ some next → next .place .0 < 64
-      next-below {next} F q = onward-below old F at .of next (sym e ∙ q)
+      next-below {next} F q = on-at _ (onward-below old F at) (sym e ∙ q)
 
       module _ {next : Spot} {b : ℕ} {m : Bool} (q : r ≡ some next) (p : b ≡ 2 ^ next .place .0) (t : m ≡ meets met b) where
         come-to : meets met (alone (next .place .0)) ≡ m

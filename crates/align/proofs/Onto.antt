@@ -10,7 +10,7 @@ use borrow.Author.Tests.{not-true}
 use Rattle.base.specs.Says.{Says, bool}
 use Rattle.base.proofs.Tests.{T-and, T-true, is-true, and-true, or-false}
 use Rattle.base.proofs.Says.{says}
-use Rattle.base.proofs.Maybe.{All, All-none, All-some, All-map, All-when, All-orElse, All-firstOf}
+use Rattle.base.proofs.OnSome.{OnSome, when-so, or-on, first-on, picked, further, on-map}
 use Rattle.operations.specs.declared.Operation.{Operation}
 use Rattle.operations.specs.declared.assumptions.Implication.{Implication}
 use Rattle.operations.specs.declared.assumptions.Implication.the-variants.{Never, Implied, NotImplied}
@@ -52,9 +52,9 @@ pub record Among (rows : List ℕ) (P : Operation → Type 0) (k : ℕ) : Type 0
   pub inside : k < size rows
   pub fits : P (operation rows k)
 
-pub found : (rows : List ℕ) (f : Operation → Bool) {P : Operation → Type 0} → ((o : Operation) → f o ≡ true → P o) → All (Among rows P) (find rows f)
+pub found : (rows : List ℕ) (f : Operation → Bool) {P : Operation → Type 0} → ((o : Operation) → f o ≡ true → P o) → OnSome (Among rows P) (find rows f)
 unfolding find
-found rows f h = All-firstOf (size rows) (λ k l. All-when (f (operation rows k)) k (λ t. record { inside = l; fits = h (operation rows k) (is-true _ t) }))
+found rows f h = first-on _ (size rows) _ (λ k l. when-so _ (f (operation rows k)) k (λ t. record { inside = l; fits = h (operation rows k) (is-true _ t) }))
 
 -- the old assumption that is found by implication holds wherever the new one does
 implied : (f g : Operation) → Operands f → Operands g → isImplied (implication f g) ≡ true → Implies f g
@@ -65,17 +65,6 @@ implied f g F G t = go (implication f g) (implication-means f g F G) t
     go Implied m t = m .1
     go NotImplied m t = absurd (T-true t)
 
--- ---- values that may be missing, taken further
-module _ {A B : Type 0} {P : B → Type 0} where
-  pub further : (o : Option A) (d : Option B) (f : A → Option B) → All P d → All (λ x. All P (f x)) o → All P (elim o [ none ↦ d | some x ↦ f x ])
-  further none d f h k = h
-  further (some x) d f h k = k .of x refl
-
-module _ {B : Type 0} {P : B → Type 0} where
-  pub picked : (b : Bool) (x y : Option B) → (b ≡ true → All P x) → (b ≡ false → All P y) → All P (elim b [ true ↦ x | false ↦ y ])
-  picked true x y h k = h refl
-  picked false x y h k = k refl
-
 module _ (old : Chart) where
   -- whatever values agree with w outside the spot's set, they lead from its place to the old alarm
   pub record Onto (w : List ℕ) (h : Spot) : Type 0 where
@@ -83,15 +72,15 @@ module _ (old : Chart) where
 
   module _ (w : List ℕ) where
     -- lines 6 to 10
-    assigned-onto : (h : Spot) (o : Operation) → isAssignment o ≡ true → o .a < 64 → (x : Option ℕ) → All (Among (rowsAt old (h .place)) (λ o′. same o′ o ≡ true)) x
+    assigned-onto : (h : Spot) (o : Operation) → isAssignment o ≡ true → o .a < 64 → (x : Option ℕ) → OnSome (Among (rowsAt old (h .place)) (λ o′. same o′ o ≡ true)) x
         → Onto (after o w) (assigned old h o x) → Onto w h
     unfolding assigned rewritten
     assigned-onto h o t l none q K = record { leads = λ v A. K .leads v (rw (after-assignment o w t) (write-new (agree-with A (o .a)) (o .a) (value o (var w)) (with-here (o .a) (h .set) (o .a)))) }
     assigned-onto h o t l (some k) q K =
         record {
           leads = λ v A.
-              (let e = same→eq (operation (rowsAt old (h .place)) k) o (q .of k refl .fits) in
-              hits-row old (h .place .0) k v (q .of k refl .inside) (rw e (lets-assignment o v t))
+              (let e = same→eq (operation (rowsAt old (h .place)) k) o (q .fits) in
+              hits-row old (h .place .0) k v (q .inside) (rw e (lets-assignment o v t))
               (K .leads (after (operation (rowsAt old (h .place)) k) v) (rw (e, after-assignment o v t, after-assignment o w t) (go v A (meets (h .set) (readSet o)) (λ n. n)))));
         }
       where
@@ -101,42 +90,41 @@ module _ (old : Chart) where
         go v A false n = rw (value-agrees A o t (n refl)) (agree-both A (o .a) (value o (var w)) l)
 
     -- line 14: an old assignment alone, its variable joins the set
-    along-onto : (h : Spot) (x : Option ℕ) → All (Among (rowsAt old (h .place)) (λ o. isAssignment o ≡ true)) x → All (λ h′. Onto w h′ → Onto w h) (along (h .set) (rowsAt old (h .place)) x)
+    along-onto : (h : Spot) (x : Option ℕ) → OnSome (Among (rowsAt old (h .place)) (λ o. isAssignment o ≡ true)) x → OnSome (λ h′. Onto w h′ → Onto w h) (along (h .set) (rowsAt old (h .place)) x)
     unfolding along
-    along-onto h none q = All-none
+    along-onto h none q = tt
     along-onto h (some k) q =
         let o = operation (rowsAt old (h .place)) k in
-        let t = q .of k refl .fits in
-        All-some (λ K. record {
-          leads = λ v A. hits-row old (h .place .0) k v (q .of k refl .inside) (lets-assignment o v t)
+        let t = q .fits in
+        (λ K. record {
+          leads = λ v A. hits-row old (h .place .0) k v (q .inside) (lets-assignment o v t)
               (K .leads (after o v) (rw (after-assignment o v t) (write-old (agree-with A (o .a)) (o .a) (value o (var v)) (with-here (o .a) (h .set) (o .a)))));
         })
 
-    onward-onto : (h : Spot) → All (λ h′. Onto w h′ → Onto w h) (onward old h)
+    onward-onto : (h : Spot) → OnSome (λ h′. Onto w h′ → Onto w h) (onward old h)
     unfolding onward
     onward-onto h =
-        picked (atAlarm old (h .place)) none _ (λ t. All-none)
+        picked _ (atAlarm old (h .place)) none _ (λ t. tt)
         (λ t. along-onto h (find (rowsAt old (h .place)) isAssignment) (found (rowsAt old (h .place)) isAssignment (λ o t. t)))
 
     -- lines 13 and 14
-    follow-onto : (n met : ℕ) (h : Spot) → All (λ h′. Onto w h′ → Onto w h) (follow old n met h)
+    follow-onto : (n met : ℕ) (h : Spot) → OnSome (λ h′. Onto w h′ → Onto w h) (follow old n met h)
     unfolding follow
-    follow-onto zero met h = All-none
+    follow-onto zero met h = tt
     follow-onto (suc n) met h =
-        further (onward old h) (some h) _ (All-some (λ K. K))
-        (All-map (λ h′ q. picked (meets met (alone (h′ .place .0))) none _ (λ t. All-none)
-        (λ t. All-map (λ h″ f K. q (f K)) (follow-onto n (with met (h′ .place .0)) h′)))
-        (onward-onto h))
+        further _ _ (onward old h) (some h) _ (onward-onto h) (λ K. K)
+        (λ h′ q. picked _ (meets met (alone (h′ .place .0))) none _ (λ t. tt)
+        (λ t. on-map _ _ (follow old n (with met (h′ .place .0)) h′) (λ h″ f K. q (f K)) (follow-onto n (with met (h′ .place .0)) h′)))
 
     -- lines 16 to 18: the set meets nothing that a matched assumption reads
-    assumed-onto : (h : Spot) (o : Operation) (x : Option ℕ) → All (Among (rowsAt old (h .place)) (λ o′. (isAssumption o′ ≡ true) × (holds o′ (var w) ≡ true))) x
-        → All (λ h′. Onto w h′ → Onto w h) (assumed old h o x)
+    assumed-onto : (h : Spot) (o : Operation) (x : Option ℕ) → OnSome (Among (rowsAt old (h .place)) (λ o′. (isAssumption o′ ≡ true) × (holds o′ (var w) ≡ true))) x
+        → OnSome (λ h′. Onto w h′ → Onto w h) (assumed old h o x)
     unfolding assumed matched
-    assumed-onto h o none q = All-some (λ K. K)
+    assumed-onto h o none q = (λ K. K)
     assumed-onto h o (some k) q =
         let o′ = operation (rowsAt old (h .place)) k in
-        let l = q .of k refl in
-        All-when (not (meets (h .set) (readSet o) || meets (h .set) (readSet o′))) _ (λ t K. record {
+        let l = q in
+        when-so _ (not (meets (h .set) (readSet o) || meets (h .set) (readSet o′))) _ (λ t K. record {
           leads = λ v A.
               (let n = or-false (meets (h .set) (readSet o)) (meets (h .set) (readSet o′)) (not-true _ (is-true _ t)) in
               hits-row old (h .place .0) k v (l .inside) (lets-assumption o′ v (l .fits .0) (holds-agrees A o′ (l .fits .0) (n .1) ∙ l .fits .1))
@@ -146,12 +134,13 @@ module _ (old : Chart) where
   module _ (F : FaultlessChart old) (words : (k : ℕ) → getD (old .table) k 0 < 2 ^ 32) (w : List ℕ) (W : Values w) where
     -- line 15: the old row that is matched holds of the new values
     counterpart-holds : (p : OldPlace) (o : Operation) → Operands o → isAssumption o ≡ true → holds o (var w) ≡ true
-        → All (Among (rowsAt old p) (λ o′. (isAssumption o′ ≡ true) × (holds o′ (var w) ≡ true))) (counterpart old p o)
+        → OnSome (Among (rowsAt old p) (λ o′. (isAssumption o′ ≡ true) × (holds o′ (var w) ≡ true))) (counterpart old p o)
     unfolding counterpart matching
     counterpart-holds p o O t h =
-        picked (atAlarm old p) none _ (λ e. All-none) (λ e. All-orElse
+        picked _ (atAlarm old p) none _ (λ e. tt) (λ e. or-on _ (find (rowsAt old p) (λ o′. same o′ o)) _
         (found (rowsAt old p) (λ o′. same o′ o) (λ o′ e. subst (λ (x : Operation). (isAssumption x ≡ true) × (holds x (var w) ≡ true)) (sym (same→eq o′ o e)) (t, h)))
-        (All-map (λ k q. record { inside = q .inside; fits = matched k (q .inside) (q .fits) }) (found (rowsAt old p) (λ o′. isAssumption o′ && isImplied (implication o o′)) (λ o′ e. e))))
+        (λ _. on-map _ _ (find (rowsAt old p) (λ o′. isAssumption o′ && isImplied (implication o o′)))
+        (λ k q. record { inside = q .inside; fits = matched k (q .inside) (q .fits) }) (found (rowsAt old p) (λ o′. isAssumption o′ && isImplied (implication o o′)) (λ o′ e. e))))
       where
         matched : (k : ℕ) → k < size (rowsAt old p) → isAssumption (operation (rowsAt old p) k) && isImplied (implication o (operation (rowsAt old p) k)) ≡ true
             → (isAssumption (operation (rowsAt old p) k) ≡ true) × (holds (operation (rowsAt old p) k) (var w) ≡ true)
@@ -162,24 +151,23 @@ module _ (old : Chart) where
             let G : Operands (operation (rowsAt old p) k) = subst Operands (sym (S .operation-same)) (operands old F words i (r .inside)) in
             (z .0, implied o (operation (rowsAt old p) k) O G (z .1) w W h)
 
-    moved-onto : (h : Spot) (o : Operation) → Operands o → lets o w ≡ true → All (λ h′. Onto (after o w) h′ → Onto w h) (moved old h o)
+    moved-onto : (h : Spot) (o : Operation) → Operands o → lets o w ≡ true → OnSome (λ h′. Onto (after o w) h′ → Onto w h) (moved old h o)
     unfolding moved followed
     moved-onto h o O l =
-        picked (isAssignment o) _ _
-        (λ t. All-some (assigned-onto w h o t (O .a) (find (rowsAt old (h .place)) (λ o′. same o′ o)) (found (rowsAt old (h .place)) (λ o′. same o′ o) (λ o′ e. e))))
+        picked _ (isAssignment o) _ _
+        (λ t. (assigned-onto w h o t (O .a) (find (rowsAt old (h .place)) (λ o′. same o′ o)) (found (rowsAt old (h .place)) (λ o′. same o′ o) (λ o′ e. e))))
         (λ n. let z = let-other o w n l in
-        further (follow old 64 (alone (h .place .0)) h) none _ All-none
-        (All-map (λ h′ f. All-map (λ h″ g K. f (g (subst (λ (u : List ℕ). Onto u h″) (after-other o w n) K)))
-        (assumed-onto w h′ o (counterpart old (h′ .place) o) (counterpart-holds (h′ .place) o O (z .0) (z .1))))
-        (follow-onto w 64 (alone (h .place .0)) h)))
+        further _ _ (follow old 64 (alone (h .place .0)) h) none _ (follow-onto w 64 (alone (h .place .0)) h) tt
+        (λ h′ f. on-map _ _ (assumed old h′ o (counterpart old (h′ .place) o)) (λ h″ g K. f (g (subst (λ (u : List ℕ). Onto u h″) (after-other o w n) K)))
+        (assumed-onto w h′ o (counterpart old (h′ .place) o) (counterpart-holds (h′ .place) o O (z .0) (z .1)))))
 
     -- the whole step, by a row that lets the values w pass
     pub step-onto : (new : Chart) (h : Spot) (o : Operation) (q : NewPlace) → Operands o → lets o w ≡ true
-        → All (λ h′. (Onto (after o w) h′ → Onto w h) × Says (fair (old .alarm) (new .alarm) (h′ .place) q)) (step old new h o q)
+        → OnSome (λ h′. (Onto (after o w) h′ → Onto w h) × Says (fair (old .alarm) (new .alarm) (h′ .place) q)) (step old new h o q)
     unfolding step arrived
     step-onto new h o q O l = go (moved old h o) (moved-onto h o O l)
       where
-        go : (x : Option Spot) → All (λ h′. Onto (after o w) h′ → Onto w h) x
-            → All (λ h′. (Onto (after o w) h′ → Onto w h) × Says (fair (old .alarm) (new .alarm) (h′ .place) q)) (arrived (old .alarm) (new .alarm) q x)
-        go none f = All-none
-        go (some h′) f = All-when (bool (fair (old .alarm) (new .alarm) (h′ .place) q)) h′ (λ t. (f .of h′ refl, says (fair (old .alarm) (new .alarm) (h′ .place) q) t))
+        go : (x : Option Spot) → OnSome (λ h′. Onto (after o w) h′ → Onto w h) x
+            → OnSome (λ h′. (Onto (after o w) h′ → Onto w h) × Says (fair (old .alarm) (new .alarm) (h′ .place) q)) (arrived (old .alarm) (new .alarm) q x)
+        go none f = tt
+        go (some h′) f = when-so _ (bool (fair (old .alarm) (new .alarm) (h′ .place) q)) h′ (λ t. (f, says (fair (old .alarm) (new .alarm) (h′ .place) q) t))

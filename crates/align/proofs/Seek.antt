@@ -8,6 +8,7 @@ use mathlib.Core.Logic.{dite}
 use native.Mathlib.Decide.{decLt}
 use native.Mathlib.Omega.{arith}
 use Rattle.base.specs.Options.{when, missing, firstOf}
+use Rattle.base.proofs.OnSome.{on-at}
 use Rattle.base.proofs.Tests.{and-false}
 use Rattle.base.proofs.Options.{first-at, none-at, none-all, none-everywhere}
 use Rattle.operations.specs.declared.Operation.{Operation}
@@ -59,7 +60,7 @@ module _ (rows : List ℕ) (p : Operation → Bool) where
 
   -- what is found is a row, and as sought
   pub found-inside : (k : ℕ) → some k ≡ find rows p → k < size rows
-  found-inside k e = found rows p {P = λ o. p o ≡ true} (λ o t. t) .of k (sym e) .inside
+  found-inside k e = on-at _ (found rows p {P = λ o. p o ≡ true} (λ o t. t)) (sym e) .inside
 
 -- ---- what an assumption implies
 -- nothing, where no values meet it

@@ -6,9 +6,19 @@ use mathlib.Core.Option.{none, some, Option·none-ne-some, Option·some-injectiv
 use Prim.Native.Nat.{ℕ, zero, suc, _+_, _≤_, _<_}
 use native.Mathlib.Numerals.{add-one}
 use native.Mathlib.Omega.{arith}
+use native.Mathlib.Decide.{ℕ-discrete}
 use lib.ListN.{length, getD, set, drop, replicate, drop-of-length-le}
 use lib.Seq.{ext-getD, drop-cons}
 use Rattle.base.specs.Walks.{pass, firstFrom}
+
+-- what holds at i and passes from each number to the next holds at j
+pub up-to : (P : ℕ → Type 0) {i : ℕ} (j : ℕ) → i ≤ j → P i → ((k : ℕ) → i ≤ k → k < j → P k → P (k + 1)) → P j
+up-to P {i} zero l p f = let e : i ≡ 0 = omega arith in rw e at p
+up-to P {i} (suc j) l p f = go (ℕ-discrete i (suc j)) (λ h. up-to P j h p (λ k a b. f k a (omega arith)))
+  where
+    go : Dec (i ≡ suc j) → (i ≤ j → P j) → P (suc j)
+    go (yes e) ih = rw e at p
+    go (no e) ih = let z : j + 1 ≡ suc j = omega arith in rw z at (f j (omega arith) (omega arith) (ih (omega arith)))
 
 -- ---- a pass
 pub length-pass : (f : ℕ → ℕ → ℕ) (i : ℕ) (l : List ℕ) → length (pass f i l) ≡ length l

@@ -1,6 +1,6 @@
 -- Demand 3, first half: a run of the new chart that reaches the new alarm and is covered by a record that the check passes has a run of
 -- the old chart from the same values that reaches the old alarm. Assumes nothing.
-use mathlib.Core.Path.{_≡_, refl, sym, subst, subst₂, _∙_}
+use mathlib.Core.Path.{_≡_, sym, subst, subst₂, _∙_}
 use mathlib.Core.Bool.{Bool, true, false}
 use mathlib.Core.Logic.{_≢_, _⊎_, inl, inr}
 use mathlib.Core.List.{List, [], _∷_}
@@ -11,7 +11,7 @@ use native.Mathlib.Decide.{ℕ-discrete}
 use lib.Dec.{T, eqb, eqb→eq, ltb, ltb→lt}
 use Rattle.base.specs.Lists.{any}
 use Rattle.base.specs.Says.{Says, bool}
-use Rattle.base.proofs.Maybe.{All}
+use Rattle.base.proofs.OnSome.{OnSome}
 use Rattle.base.proofs.Says.{says}
 use Rattle.base.proofs.Tests.{T-and, T-or, T-true, is-true}
 use Rattle.operations.specs.declared.Operation.{Operation}
@@ -110,10 +110,10 @@ module _ (old new : Chart) (old-words : Words (old .table)) (new-words : Words (
   at-new m w (inr e) t = at-old m w e
 
   -- a target that joins the step's pair
-  joined-step : (q : NewPlace) (t : ℕ) {P : Spot → Type 0} (o : Option Spot) → All P o → T (joinsStep (G .marks) (G .sets) q t o) → (h : Spot) × Says (joins (G .marks) (G .sets) q t h) × P h
+  joined-step : (q : NewPlace) (t : ℕ) {P : Spot → Type 0} (o : Option Spot) → OnSome P o → T (joinsStep (G .marks) (G .sets) q t o) → (h : Spot) × Says (joins (G .marks) (G .sets) q t h) × P h
   unfolding joinsStep
   joined-step q t none h x = absurd x
-  joined-step q t (some s) h x = (s, says (joins (G .marks) (G .sets) q t s) x, h .of s refl)
+  joined-step q t (some s) h x = (s, says (joins (G .marks) (G .sets) q t s) x, h)
 
   -- one row from a pair that is not at the old alarm
   module _ (m i : ℕ) (is : List ℕ) (w : List ℕ) (off : m / 64 ≢ old .alarm) (W : Values w)

@@ -14,17 +14,13 @@ use lib.Dec.{eqb, leb, ltb, leb·zero, eqb→eq}
 use lib.ListN.{getD}
 use Rattle.base.specs.Says.{every, bool, Says}
 use Rattle.base.proofs.Says.{every-at}
-use Rattle.base.proofs.Tests.{and-false, T-true}
+use Rattle.base.proofs.Tests.{and-false, or-none, T-true}
 use Rattle.chart.specs.declared.charts.Head.{Head}
 use Rattle.chart.specs.declared.places.OldPlace.{OldPlace}
 use Rattle.chart.specs.declared.places.NewPlace.{NewPlace}
 use Rattle.chart.specs.Places.{oldOf, newOf}
 use Rattle.align.specs.Steps.{fair}
 use Rattle.checker.specs.Rules.{markFits, targetFits, targetsFit, startFits}
-
-pub or-end : (b : Bool) → b || false ≡ b
-or-end true = refl
-or-end false = refl
 
 -- ---- the largest of several numbers
 -- the larger of two is at most k exactly where both are
@@ -105,7 +101,7 @@ module _ (marks : List ℕ) (from : ℕ) where
         go (no m) = rw (ne-eqb (getD marks (from + j) 0) 0 m)
 
     back : (j : ℕ) → inLine (n + j) ≡ eqb (getD marks (from + n + j) 0) 0
-    back j = rw (le-ltb (n + j) n (omega arith), ← add-assoc from n j) (or-end (eqb (getD marks (from + n + j) 0) 0))
+    back j = rw (le-ltb (n + j) n (omega arith), ← add-assoc from n j) (or-none (eqb (getD marks (from + n + j) 0) 0))
 
     in-parts : every 64 inLine ≡ every n inFront && every (64 - n) (λ j. eqb (getD marks (from + n + j) 0) 0)
     in-parts =
@@ -176,12 +172,12 @@ module _ (old new : Head) (p j x : ℕ) (l : j < 64) where
       → eqb x 0 || (ltb j n && (not (eqb x 2) && leb x 4)) ≡ bool (markFits old new (64 * p + j) x)
   pair-fits n u o t =
       rw (t, new-place, lt-ltb (64 * p + j) 4096 (omega arith), lt-leb 4096 (64 * p + j) (omega arith), old-place, o)
-      (unless-0 x (ltb j (new .places)) (λ z. pair-mark x z ∙ sym (or-end (eqb x 1 || (eqb x 3 || eqb x 4)))))
+      (unless-0 x (ltb j (new .places)) (λ z. pair-mark x z ∙ sym (or-none (eqb x 1 || (eqb x 3 || eqb x 4)))))
 
   none-fits : p < 64 → ltb p (old .places) ≡ false → eqb x 0 ≡ bool (markFits old new (64 * p + j) x)
   none-fits u o =
       rw (new-place, lt-ltb (64 * p + j) 4096 (omega arith), lt-leb 4096 (64 * p + j) (omega arith), old-place, o)
-      (sym (rw (and-false (ltb j (new .places))) (or-end (eqb x 0))))
+      (sym (rw (and-false (ltb j (new .places))) (or-none (eqb x 0))))
 
 -- the 64 marks at old place p, where n of them are of places that exist
 module _ (old new : Head) (marks : List ℕ) (p n : ℕ) (there : (j : ℕ) → j < 64 → ltb j n ≡ ltb j (new .places)) where
@@ -232,7 +228,7 @@ module _ (old new : Head) (marks : List ℕ) where
   unfolding startFits
   start-pair s {q = q} e m a b h =
       h ∙ ap (λ (p : OldPlace). bool (fair (old .alarm) (new .alarm) p q)) a ∙ ap (λ (q : NewPlace). bool (fair (old .alarm) (new .alarm) (oldOf 0) q)) b
-      ∙ sym (rw (e, eq-eqb (getD marks 0 0) 1 m) (or-end (bool (fair (old .alarm) (new .alarm) (oldOf 0) (newOf 0)))))
+      ∙ sym (rw (e, eq-eqb (getD marks 0 0) 1 m) (or-none (bool (fair (old .alarm) (new .alarm) (oldOf 0) (newOf 0)))))
 
   pub start-kept : (s : ℕ) {r : Bool} → s ≡ 4096 → r ≡ eqb (getD marks 4096 0) 2 → r ≡ bool (startFits old new s marks)
   unfolding startFits

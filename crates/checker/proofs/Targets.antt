@@ -13,8 +13,10 @@ use lib.ListN.{getD}
 use Rattle.base.specs.Options.{missing, firstOf}
 use Rattle.base.specs.Says.{bool, Says}
 use Rattle.base.specs.Tests.{within}
+use Rattle.base.proofs.OnSome.{on-at}
 use Rattle.base.proofs.Options.{missing-none, none-of, none-everywhere}
 use Rattle.base.proofs.Picks.{pick-true, pick-false}
+use Rattle.base.proofs.Tests.{or-none}
 use Rattle.operations.specs.declared.Operation.{Operation}
 use Rattle.operations.specs.Operations.{isKnown, operandsFit}
 use Rattle.chart.specs.declared.places.OldPlace.{OldPlace}
@@ -30,7 +32,6 @@ use Rattle.align.proofs.Seek.{part-right}
 use Rattle.checker.specs.Records.{Graph, mark, setAt, spot, target, index}
 use Rattle.checker.specs.Rules.{targetFits, keeps, joins, joinsStep, restsAt, ranked, leads, rowFits}
 use Rattle.checker.specs.Checks.{targetFault, rowsFault, pairFault}
-use Rattle.checker.proofs.Shapes.{or-end}
 
 -- a place is known by its number
 abbrev placed : {q : NewPlace} {x : ℕ} → q .0 ≡ x → q ≡ record { 0 = x }
@@ -95,7 +96,7 @@ ranked-none marks m t e = rw (eq-eqb t 65535 e)
 module _ (marks : List ℕ) (m t : ℕ) {r : Bool} (some : t ≡ 65535 → ⊥) where
   pub ranked-open : getD marks m 0 ≡ 1 → r ≡ within 1 3 (getD marks t 0) → r ≡ bool (ranked marks m t)
   unfolding ranked
-  ranked-open e h = h ∙ sym (rw (ne-eqb t 65535 some, eq-eqb (getD marks m 0) 1 e) (or-end (within 1 3 (getD marks t 0))))
+  ranked-open e h = h ∙ sym (rw (ne-eqb t 65535 some, eq-eqb (getD marks m 0) 1 e) (or-none (within 1 3 (getD marks t 0))))
 
   pub ranked-covered : (getD marks m 0 ≡ 1 → ⊥) → r ≡ within 3 4 (getD marks t 0) → r ≡ bool (ranked marks m t)
   unfolding ranked
@@ -119,7 +120,7 @@ module _ (old new : Chart) (G : Graph) (m : ℕ) (o : Operation) (x t : ℕ) {p 
   same-step = s ∙ ap (λ (p : OldPlace). step old new (record { place = p; set = setAt G m }) o (record { 0 = x })) e
 
   pub stepped-below : (h : Spot) → FaultlessChart old → m < 4096 → a ≡ some h → h .place .0 < 64
-  stepped-below h F l z = step-below old F new (spot G m) o (record { 0 = x }) (omega arith) .of h (sym same-step ∙ z)
+  stepped-below h F l z = on-at _ (step-below old F new (spot G m) o (record { 0 = x }) (omega arith)) (sym same-step ∙ z)
 
   pub joins-failed : a ≡ none → false ≡ joinsStep (G .marks) (G .sets) (record { 0 = x }) t (step old new (spot G m) o (record { 0 = x }))
   unfolding joinsStep
@@ -140,7 +141,7 @@ module _ (old new : Chart) (G : Graph) (m : ℕ) (o : Operation) (x t : ℕ) {p 
 
   pub leads-resting : {r : Bool} → a ≡ true → r ≡ bool (restsAt (G .marks) q t) → r ≡ bool (leads old new G m o (record { 0 = x }) t)
   unfolding leads
-  leads-resting u h = h ∙ ap (λ (q : NewPlace). bool (restsAt (G .marks) q t)) (placed {q = q} {x = x} w) ∙ sym (rw (alarm ∙ u) (or-end (bool (restsAt (G .marks) (record { 0 = x }) t))))
+  leads-resting u h = h ∙ ap (λ (q : NewPlace). bool (restsAt (G .marks) q t)) (placed {q = q} {x = x} w) ∙ sym (rw (alarm ∙ u) (or-none (bool (restsAt (G .marks) (record { 0 = x }) t))))
 
   module _ {k : Bool} (u : a ≡ false) (h : k ≡ bool (keeps (G .marks) q t)) where
     kept-so : bool (keeps (G .marks) (record { 0 = x }) t) ≡ k

@@ -12,6 +12,7 @@ use lib.Dec.{T, eqb}
 use lib.ListN.{length, getD, set, replicate, length-set, length-map, length-replicate}
 use Rattle.base.specs.Refusals.{due}
 use Rattle.base.specs.Says.{Test, bool, Says}
+use Rattle.base.proofs.Ones.{one-there, one-only}
 use Rattle.base.proofs.Options.{both-missing}
 use Rattle.base.proofs.Says.{says, said}
 use Rattle.base.proofs.Tests.{T-true, or-false}
@@ -31,7 +32,6 @@ use Rattle.graph.specs.Graphs.{Graph, firstPair, firstKept, marked}
 use Rattle.detector.specs.Turns.{rowsOf, leadsTo, stepOf, explored}
 use Rattle.marker.specs.Marks.{finalMarks}
 use Rattle.condition.specs.Builds.{redirected, finalTargets, alone, lone, finished, built, startOf, recorded}
-use Rattle.detector.proofs.Ones.{one-there, one-only}
 use Rattle.graph.proofs.Graphs.{markAt, targetAt, marked-yes, marked-no, not-marked}
 use Rattle.detector.proofs.Turns.{leads-below}
 use Rattle.detector.proofs.Measure.{nothing-waits}

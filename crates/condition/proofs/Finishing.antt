@@ -12,7 +12,9 @@ use lib.ListN.{length, getD, set, take, drop, replicate, length-set, List·getD-
 use lib.Seq.{getD-set-same, getD-set-other, getD-take, length-take-le}
 use Rattle.base.specs.Says.{eq, each, bool}
 use Rattle.base.specs.Walks.{pass, count}
+use Rattle.base.proofs.Counts.{count-set, count-here, count-else, count-none}
 use Rattle.base.proofs.Says.{says}
+use Rattle.base.proofs.Stores.{Passing, passing-none, passing-all, passing-gap}
 use Rattle.base.proofs.Tests.{and-true, T-true}
 use Rattle.base.proofs.Walks.{zeros-at}
 use Rattle.chart.specs.declared.charts.Head.{Head}
@@ -33,10 +35,8 @@ use Rattle.marker.specs.declared.inner.marks.Counts.{Counts}
 use Rattle.marker.specs.Marks.{finalMarks}
 use Rattle.condition.specs.Builds.{redirected, finalTargets, alone, lone, finished, startOf, summary}
 use Rattle.graph.proofs.Parts.{graph-eq}
-use Rattle.graph.proofs.Stores.{Passing, passing-none, passing-all}
-use Rattle.marker.proofs.Spans.{Remaking, remaking-start, remaking-more, remaking-gap, remaking-end, passing-gap, passing-span}
+use Rattle.marker.proofs.Spans.{Remaking, remaking-start, remaking-more, remaking-gap, remaking-end, passing-span}
 use Rattle.marker.proofs.Seen.{none-past}
-use Rattle.marker.proofs.Counts.{count-set, count-here, count-else, count-none}
 use Rattle.marker.proofs.Ranking.{kept-is}
 
 -- ---- a target

@@ -5,6 +5,7 @@ use mathlib.Core.Option.{some}
 use Prim.Native.Nat.{ℕ, _^_, _<_}
 use native.Mathlib.Omega.{arith}
 use lib.ListN.{length, set, replicate}
+use Rattle.base.proofs.Ones.{one-only}
 use Rattle.base.proofs.Repeat.{Going, less-by, again-by, done-by}
 use Rattle.base.proofs.Walks.{same-at, zeros-at}
 use Rattle.chart.specs.declared.charts.Head.{Head}
@@ -23,7 +24,6 @@ use Rattle.graph.proofs.Graphs.{Shaped}
 use Rattle.graph.proofs.Parts.{graph-eq}
 use Rattle.detector.proofs.Turns.{next-waits}
 use Rattle.detector.proofs.Measure.{weight, turns, begun-shaped, begun-weight}
-use Rattle.detector.proofs.Ones.{one-only}
 
 -- four buffers that were filled, and two that were then written, are a graph that has begun
 pub begun-is : (old new : Head) {m t s w m₁ m₂ t₁ s₁ w₁ w₂ : List ℕ} {first : ℕ} → Sized (graph m t s w) → first ≡ startPair old new

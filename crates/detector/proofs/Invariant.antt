@@ -10,6 +10,7 @@ use native.Mathlib.Omega.{arith}
 use native.Mathlib.Decide.{ℕ-discrete}
 use lib.ListN.{getD, set}
 use lib.Seq.{getD-set-same, getD-set-other}
+use Rattle.base.proofs.Ones.{one-there, one-other, one-only}
 use Rattle.base.proofs.Repeat.{repeated-keeps}
 use Rattle.base.proofs.Walks.{zeros-at, same-at}
 use Rattle.chart.specs.declared.places.NewPlace.{NewPlace}
@@ -22,7 +23,6 @@ use Rattle.sets.proofs.Sets.{holds-in, holds-all, joined-left, joined-right}
 use Rattle.checker.specs.Records.{index}
 use Rattle.graph.specs.Graphs.{Graph, Sized, firstPair, firstKept, keep, aim, due, join, unwait}
 use Rattle.detector.specs.Turns.{rowsOf, leadsTo, next, setNow, begun, stepOf, rowDone, secondDone, taken, explored}
-use Rattle.detector.proofs.Ones.{one-there, one-other, one-only}
 use Rattle.detector.proofs.Steps.{Fits}
 use Rattle.graph.proofs.Graphs.{markAt, setAt, waitAt, targetAt, Shaped, keep-node, keep-nodes, keep-kept, keep-mark, keep-set, keep-wait, keep-target, keep-mark-other, keep-set-other, keep-wait-other, keep-target-other, keep-shaped, aimed, by-aim, aimed-shaped, join-mark, join-set, join-due, join-not-due, join-mark-other, join-set-other, join-wait-other, join-there, join-target, join-shaped, join-small, held, not-due-why, unwait-shaped}
 use Rattle.detector.proofs.Turns.{by-row, set-now, set-now-small, leads-below, step-of-fits, next-waits}

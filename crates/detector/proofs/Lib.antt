@@ -2,7 +2,6 @@
 pub mod Steps
 pub mod Turns
 pub mod Measure
-pub mod Ones
 pub mod Invariant
 pub mod Processing
 pub mod Rows

@@ -8,6 +8,7 @@ use native.Mathlib.Decide.{decLt}
 use borrow.Author.Tests.{lt-ltb, le-ltb, eqb-false, eqb-true, not-true, not-false}
 use lib.Dec.{eqb}
 use lib.ListN.{length, getD}
+use Rattle.base.proofs.OnSome.{on-at}
 use Rattle.base.proofs.Walks.{first-is, none-passes}
 use Rattle.chart.specs.Charts.{Chart, size, operation}
 use Rattle.chart.specs.Faultless.{FaultlessChart}
@@ -87,8 +88,9 @@ module _ (old new : Chart) (F : FaultlessChart old) (G : FaultlessChart new) (n 
   pub step-of-fits : (b : ℕ) → old .places ≤ b → oldOf n .0 < b → v < 2 ^ 64 → (h : Spot) → stepOf old new n v r ≡ some h → Fits b h
   unfolding stepOf
   step-of-fits b w l k h e =
-      step-fits old F b w new (record { place = oldOf n; set = v }) (operation (rowsOf new n) r) (leadsTo new n r) (row-a new G (newOf n .0) r there)
-      (record { place = l; set = k }) .of h e
+      on-at (Fits b)
+      (step-fits old F b w new (record { place = oldOf n; set = v }) (operation (rowsOf new n) r) (leadsTo new n r) (row-a new G (newOf n .0) r there)
+      (record { place = l; set = k })) e
 
 -- ---- the pair that a turn takes
 pub record Waiter (g : Graph) (n : ℕ) : Type 0 where

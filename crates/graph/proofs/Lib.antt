@@ -1,6 +1,5 @@
 -- Laws of what a build does to the buffers.
 pub mod Graphs
-pub mod Stores
 pub mod Parts
 pub mod Keeping
 pub mod Tracking

@@ -12,6 +12,8 @@ use lib.Dec.{eqb}
 use lib.ListN.{length, getD, set, drop, length-set, length-drop, drop-of-length-le, List·getD-eq-default}
 use lib.Seq.{drop-cons, getD-drop, getD-set-same, getD-set-other}
 use Rattle.base.specs.Walks.{count}
+use Rattle.base.proofs.Counts.{count-set}
+use Rattle.base.proofs.Walks.{up-to}
 use Rattle.checker.specs.Records.{index}
 use Rattle.sets.specs.Sets.{without}
 use Rattle.words.specs.Words.{Member, LowestFrom}
@@ -22,8 +24,7 @@ use Rattle.marker.specs.Spans.{each}
 use Rattle.marker.specs.Seen.{Holds}
 use Rattle.marker.specs.Marks.{transitions, cover, covered, coverFrom, allCovered}
 use Rattle.marker.proofs.Marks.{cover-here, cover-not, cover-same}
-use Rattle.marker.proofs.Counts.{count-set, Ones, ones-at, ones-drop, counted-none, counted-few, counted-past, counted-open, counted-then}
-use Rattle.marker.proofs.Spans.{up-to}
+use Rattle.marker.proofs.Counts.{Ones, ones-at, ones-drop, counted-none, counted-few, counted-past, counted-open, counted-then}
 use Rattle.marker.proofs.Passes.{Going, going-start, going-more, going-end}
 use Rattle.marker.proofs.Seen.{holds-kept, unmarked-past}
 

@@ -15,7 +15,7 @@ use lib.ListN.{length, getD, set}
 use lib.Seq.{getD-set-other}
 use Rattle.base.proofs.Lists.{has}
 use Rattle.base.proofs.Repeat.{repeated-keeps}
-use Rattle.base.proofs.Tests.{T-or, T-or-l, T-or-r, T-true}
+use Rattle.base.proofs.Tests.{T-or, T-or-l, T-or-r, T-true, is-true}
 use Rattle.checker.specs.Records.{index}
 use Rattle.marker.specs.Marks.{plainMarks, inQ, opening, nextOpening, opened, allOpened, transitions, cover, covered, allCovered, finalMarks}
 use Rattle.marker.proofs.Marks.{Ranks, rank-there, rank-node, rank-set, plain-ranks, plain-pair, plain-node, opening-why, first-opens, all-opens, covered-ranks, covered-same, covered-not, cover-here, cover-not, cover-same}
@@ -49,17 +49,13 @@ module _ (m t : List ℕ) (lm : length m ≡ 4160) (S : ℕ → Type 0) where
       let p = rank-there m x (W .ranks) n (omega (arith, w .1)) in
       let here : S n =
       elim (T-or (inQ x (getD t (index n 0) 0)) (inQ x (getD t (index n 1) 0)) (T-true (w .2))) [
-        | inl a ↦ C n 0 (w .0) (p .1) (omega arith) (target-in x W (getD t (index n 0) 0) (yes-of (inQ x (getD t (index n 0) 0)) a))
-        | inr a ↦ C n 1 (w .0) (p .1) (omega arith) (target-in x W (getD t (index n 1) 0) (yes-of (inQ x (getD t (index n 1) 0)) a))
+        | inl a ↦ C n 0 (w .0) (p .1) (omega arith) (target-in x W (getD t (index n 0) 0) (is-true (inQ x (getD t (index n 0) 0)) a))
+        | inr a ↦ C n 1 (w .0) (p .1) (omega arith) (target-in x W (getD t (index n 1) 0) (is-true (inQ x (getD t (index n 1) 0)) a))
       ] in
       record {
         ranks = rank-set m x n 1 (W .ranks) (w .1) (inl refl);
         ones = λ k z. dite (ℕ-discrete k n) (λ q. subst S (sym q) here) (λ q. W .ones k (sym (getD-set-other x n k 1 0 q) ∙ z));
       }
-    where
-      yes-of : (b : Bool) → T b → b ≡ true
-      yes-of true t = refl
-      yes-of false t = absurd t
 
   plain-not-open : (k : ℕ) → getD (plainMarks m) k 0 ≡ 1 → ⊥
   plain-not-open k e =

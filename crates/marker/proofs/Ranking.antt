@@ -10,15 +10,15 @@ use borrow.Author.Tests.{ne-eqb, lt-ltb, le-ltb}
 use lib.Dec.{eqb}
 use lib.ListN.{length, getD, set, drop, drop-of-length-le, List·getD-eq-default}
 use Rattle.base.specs.Walks.{count}
+use Rattle.base.proofs.Counts.{count-gap, count-none}
+use Rattle.base.proofs.Stores.{Passing, passing-none, passing-all, passing-gap}
 use Rattle.checker.specs.Records.{index}
 use Rattle.marker.specs.declared.inner.marks.Counts.{Counts}
 use Rattle.marker.specs.Spans.{remade}
 use Rattle.marker.specs.Seen.{Holds}
 use Rattle.marker.specs.Marks.{plainMark, plainAs, plainMarks, inQ, opening, allOpened, allCovered, finalMarks}
-use Rattle.graph.proofs.Stores.{Passing, passing-none, passing-all}
 use Rattle.marker.proofs.Marks.{Ranks, rank-pair, rank-node, none-covered, final-ranks}
-use Rattle.marker.proofs.Spans.{passing-gap, passing-span}
-use Rattle.marker.proofs.Counts.{count-gap, count-none}
+use Rattle.marker.proofs.Spans.{passing-span}
 use Rattle.marker.proofs.Seen.{none-seen, unmarked-past}
 
 -- ---- plain marks

@@ -1,15 +1,14 @@
 -- Sets of pairs that say where to look, as marks and sets change. Assumes nothing.
-use mathlib.Core.Path.{_≡_, refl, sym, _∙_}
+use mathlib.Core.Path.{_≡_, sym, _∙_}
 use mathlib.Core.List.{List}
 use mathlib.Core.Logic.{⊎-elim, dite}
 use Prim.Native.Nat.{ℕ, _+_, _*_, _/_, _≤_, _<_}
 use native.Mathlib.Omega.{arith}
 use native.Mathlib.Decide.{ℕ-discrete}
 use lib.ListN.{length, getD, set, List·getD-eq-default}
-use lib.Seq.{getD-set-same, getD-set-other, ext-getD}
+use lib.Seq.{getD-set-same, getD-set-other}
 use Rattle.words.specs.Words.{Member, removed}
 use Rattle.words.proofs.Words.{length-removed, removed-other, none-in}
-use Rattle.graph.proofs.Stores.{Passing, passing-more}
 use Rattle.marker.specs.Seen.{Holds, HoldsBeyond}
 use Rattle.marker.specs.Marks.{plainMarks, allOpened, Opened, Tried}
 use Rattle.marker.proofs.Marks.{plain-ranks}
@@ -68,14 +67,3 @@ module _ {w x : List ℕ} (H : HoldsBeyond w x) where
           has = λ k c p. dite (ℕ-discrete k i) (λ q. absurd (omega (arith, rw q at p, getD-set-same x i 1 0 (omega (arith, H .most)))))
               (λ q. removed-other w i (omega arith) k q (H .has k c (sym (getD-set-other x i k 1 0 q) ∙ p)));
         })
-
--- ---- a copy, word by word: the first i are those of w
-abbrev pub Copying : List ℕ → List ℕ → List ℕ → ℕ → Type 0
-Copying w d₀ d i = Passing (λ j x. getD w j 0) d₀ d i
-
-module _ (w : List ℕ) {d₀ d : List ℕ} {i : ℕ} (C : Copying w d₀ d i) (l : length d₀ ≡ length w) where
-  pub copy-more : i < length w → Copying w d₀ (set d i (getD w i 0)) (i + 1)
-  copy-more b = passing-more (λ j x. getD w j 0) C (omega (arith, C .long)) refl
-
-  pub copy-end : length w ≤ i → d ≡ w
-  copy-end h = ext-getD 0 d w (omega (arith, C .long)) (λ j k. C .before j (omega (arith, C .long)))

@@ -2,24 +2,15 @@
 use mathlib.Core.Path.{_≡_, refl, sym, ap, _∙_}
 use mathlib.Core.Logic.{dite}
 use mathlib.Core.List.{List}
-use Prim.Native.Nat.{ℕ, zero, suc, _+_, _≤_, _<_}
+use Prim.Native.Nat.{ℕ, _+_, _≤_, _<_}
 use native.Mathlib.Omega.{arith}
-use native.Mathlib.Decide.{ℕ-discrete, decLt}
+use native.Mathlib.Decide.{decLt}
 use borrow.Author.Tests.{lt-ltb, le-ltb}
 use lib.ListN.{length, getD, set, length-set, List·getD-eq-default}
 use Rattle.base.specs.Walks.{pass}
 use Rattle.base.proofs.Walks.{length-pass, pass-at, pass-is}
 use Rattle.marker.specs.Spans.{among, remade}
-use Rattle.graph.proofs.Stores.{Passing, passing-more}
-
--- what holds at i and passes from each number to the next holds at j
-pub up-to : (P : ℕ → Type 0) {i : ℕ} (j : ℕ) → i ≤ j → P i → ((k : ℕ) → i ≤ k → k < j → P k → P (k + 1)) → P j
-up-to P {i} zero l p f = let e : i ≡ 0 = omega arith in rw e at p
-up-to P {i} (suc j) l p f = go (ℕ-discrete i (suc j)) (λ h. up-to P j h p (λ k a b. f k a (omega arith)))
-  where
-    go : Dec (i ≡ suc j) → (i ≤ j → P j) → P (suc j)
-    go (yes e) ih = rw e at p
-    go (no e) ih = let z : j + 1 ≡ suc j = omega arith in rw z at (f j (omega arith) (omega arith) (ih (omega arith)))
+use Rattle.base.proofs.Stores.{Passing, passing-more, passing-gap}
 
 -- ---- the elements of a span made anew
 module _ (a b : ℕ) (f : ℕ → ℕ) (i x : ℕ) where
@@ -37,17 +28,6 @@ module _ (a b : ℕ) (f : ℕ → ℕ) (i x : ℕ) where
 
   among-after : b ≤ i → among a b f i x ≡ x
   among-after q = dite (decLt i a) among-before (λ p. among-past (omega arith) q)
-
--- a pass goes on past elements that stay as they are
-pub passing-gap : (g : ℕ → ℕ → ℕ) {d₀ d : List ℕ} {i j : ℕ} → Passing g d₀ d i → i ≤ j → j ≤ length d
-    → ((k : ℕ) → i ≤ k → k < j → g k (getD d₀ k 0) ≡ getD d₀ k 0) → Passing g d₀ d j
-passing-gap g {i = i} P a b h =
-    record {
-      long = P .long;
-      most = b;
-      before = λ k l. dite (decLt k i) (λ m. P .before k m) (λ m. P .after k (omega arith) ∙ sym (h k (omega arith) l));
-      after = λ k l. P .after k (omega arith);
-    }
 
 -- one store a turn: of those below i that is done
 pub record Remaking (a b : ℕ) (f : ℕ → ℕ) (d₀ d : List ℕ) (i : ℕ) : Type 0 where

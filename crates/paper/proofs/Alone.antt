@@ -5,13 +5,13 @@ use Prim.Native.Nat.{ℕ}
 use native.Mathlib.Omega.{arith}
 use native.Mathlib.Decide.{ℕ-discrete}
 use lib.ListN.{set, replicate}
+use Rattle.base.proofs.Ones.{one-there, one-only}
 use Rattle.base.proofs.Tests.{T-true}
 use Rattle.base.proofs.Walks.{zeros-at, same-at}
 use Rattle.chart.specs.Places.{keptNumber}
 use Rattle.chart.specs.Charts.{Chart}
 use Rattle.checker.specs.Records.{Record, recordOf, mark, index}
 use Rattle.graph.specs.Graphs.{firstKept}
-use Rattle.detector.proofs.Ones.{one-there, one-only}
 use Rattle.paper.specs.Nodes.{SetOf, _isIn_, Pair, Node, aligned, indicator, Edge, onlyNode, number, nodeNumber, NodeNumbered}
 use Rattle.paper.specs.Algorithm2.{lone}
 use Rattle.paper.specs.Algorithm1.{Search}

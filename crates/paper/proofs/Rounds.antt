@@ -10,6 +10,7 @@ use native.Mathlib.Decide.{ℕ-discrete, decLt}
 use borrow.Author.Tests.{le-ltb, eqb-true, not-false}
 use lib.Dec.{eqb}
 use lib.ListN.{length, getD, set, replicate}
+use Rattle.base.proofs.Ones.{one-there, one-other}
 use Rattle.base.proofs.Tests.{T-true}
 use Rattle.base.proofs.Repeat.{Going, repeated-keeps, again-by, done-by}
 use Rattle.base.proofs.Walks.{zeros-at, same-at, first-is}
@@ -22,7 +23,6 @@ use Rattle.checker.specs.Records.{index}
 use Rattle.checker.specs.Promise.{Words}
 use Rattle.graph.specs.Graphs.{Graph, marked, unwait}
 use Rattle.detector.specs.Turns.{rowsOf, next, lowest, setNow, begun, rowDone, secondDone, taken, explored}
-use Rattle.detector.proofs.Ones.{one-there, one-other}
 use Rattle.graph.proofs.Graphs.{markAt, setAt, Shaped, marked-yes, marked-no, is-marked, unwait-shaped}
 use Rattle.detector.proofs.Turns.{Waiter, set-now, set-had, set-now-small, next-waits, none-waits}
 use Rattle.detector.proofs.Measure.{weight, turns, begun-shaped, begun-weight, row-lighter}

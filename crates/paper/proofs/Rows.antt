@@ -11,6 +11,7 @@ use borrow.Author.Tests.{lt-ltb}
 use lib.Dec.{eqb}
 use lib.ListN.{set}
 use Rattle.base.specs.Options.{when}
+use Rattle.base.proofs.OnSome.{on-at}
 use Rattle.operations.specs.Assumptions.{Operands}
 use Rattle.chart.specs.declared.places.NewPlace.{NewPlace}
 use Rattle.chart.specs.Places.{pairNumber, keptNumber, oldOf, newOf}
@@ -157,7 +158,7 @@ module _ (old new : Chart) (F : FaultlessChart old) (G : FaultlessChart new) whe
 
     module _ (h : Spot) (came : cameTo old new n v r ≡ some h) where
       place : h .place ≡ successor old (oldOf n) (operation (rowsOf new n) r)
-      place = one-successor old (oldOf n) v (operation (rowsOf new n) r) .of h came
+      place = on-at _ (one-successor old (oldOf n) v (operation (rowsOf new n) r)) came
 
       kept-row : leadsTo new n r isIn s .Δ → Row old new n v (toPair old new s (pairOf n) r (pair (h .place) (leadsTo new n r)) (h .set)) (aim g n r (keptNumber (leadsTo new n r)))
       unfolding toPair

@@ -10,7 +10,7 @@ use borrow.Author.Tests.{eq-eqb, eqb-true, lt-ltb, le-ltb, ltb-true, ltb-false, 
 use lib.Dec.{eqb, ltb}
 use Rattle.base.specs.Options.{when, firstOf}
 use Rattle.base.specs.Repeat.{repeated}
-use Rattle.base.proofs.Maybe.{All-when, All-firstOf}
+use Rattle.base.proofs.OnSome.{on-at, when-so, first-on}
 use Rattle.base.proofs.Options.{none-of, not-due}
 use Rattle.base.proofs.Repeat.{Falls, rests, repeated-keeps}
 use Rattle.base.proofs.Sums.{sum, sum-lt, sum-most}
@@ -191,7 +191,10 @@ module _ (R : Record) (G : DifferenceGraph) (edges : (e : Edge) → G .E e ↔ T
   found : (s : Now) (i : ℕ) → find s ≡ some i → (i < 4160) × (nodeOf i isIn s .W)
   unfolding find
   found s i e =
-      All-firstOf {P = λ k. (k < 4160) × (nodeOf k isIn s .W)} 4160 {f = λ k. when (s .W (nodeOf k)) k} (λ k l. All-when (s .W (nodeOf k)) k (λ t. (l, is-true (s .W (nodeOf k)) t))) .of i e
+      on-at Waits (first-on Waits 4160 (λ k. when (s .W (nodeOf k)) k) (λ k l. when-so Waits (s .W (nodeOf k)) k (λ t. (l, is-true (s .W (nodeOf k)) t)))) e
+    where
+      Waits : ℕ → Type 0
+      Waits k = (k < 4160) × (nodeOf k isIn s .W)
 
   turn : (s : Now) (x : Node) → x isIn s .W → NodeNumbered x → Turn G (s .Q) (s .W) x (s .Q plus precedes x) ((s .W minus onlyNode x) plus (precedes x minus s .Q))
   turn s x w B =

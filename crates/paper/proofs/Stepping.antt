@@ -12,6 +12,7 @@ use borrow.Author.Tests.{eq-eqb, eqb-true, eqb-false}
 use lib.Bits.{or-zero-l, and-le-l}
 use lib.Pow.{pow-lt, pow-mono}
 use Rattle.base.specs.Options.{when, orElse}
+use Rattle.base.proofs.OnSome.{on-at}
 use Rattle.base.proofs.Options.{none-of, not-due, both-missing}
 use Rattle.base.proofs.Sums.{sum, sum-lt, sum-most}
 use Rattle.base.proofs.Tests.{T-true, and-true}
@@ -129,7 +130,7 @@ module _ (old : Chart) where
       ap f (sym (r .2)) ∙ not-found (rowsAt old p) f e (r .0) (r .1)
 
   pub an-edge : (p : OldPlace) (f : Operation → Bool) (k : ℕ) → find (rowsAt old p) f ≡ some k → (k < size (rowsAt old p)) × (f (operation (rowsAt old p) k) ≡ true)
-  an-edge p f k e = let r = found (rowsAt old p) f {P = λ o. f o ≡ true} (λ o h. h) .of k e in (r .inside, r .fits)
+  an-edge p f k e = let r = on-at _ (found (rowsAt old p) f {P = λ o. f o ≡ true} (λ o h. h)) e in (r .inside, r .fits)
 
   -- ---- lines 5 to 10
   module _ (p : OldPlace) (s : ℕ) (o : Operation) (b : s < 2 ^ 64) (a : o .a < 64) (t : isAssignment o ≡ true) where
@@ -227,7 +228,7 @@ module _ (old : Chart) (F : FaultlessChart old) where
                 (omega (arith, unmet-less met (h′ .place .0) below (λ z. meet-none met (alone (h′ .place .0)) (h′ .place .0) t z (alone-here (h′ .place .0)))))
               where
                 below : h′ .place .0 < 64
-                below = onward-below old F h .of h′ e
+                below = on-at _ (onward-below old F h) e
 
   -- ---- lines 15 to 18
   pub edge-operands : Words (old .table) → (p : OldPlace) (op : Operation) (q : OldPlace) → InG old p op q → Operands op

@@ -4,7 +4,7 @@ use mathlib.Core.Path.{_≡_, refl, sym, _∙_}
 use mathlib.Core.Bool.{Bool, true, false, _||_, not}
 use mathlib.Core.Option.{Option, none, some}
 use Prim.Native.Nat.{ℕ, zero, suc}
-use Rattle.base.proofs.Maybe.{All, All-none, All-some, All-when}
+use Rattle.base.proofs.OnSome.{OnSome, on-at, when-so}
 use Rattle.operations.specs.declared.Operation.{Operation}
 use Rattle.operations.specs.Operations.{isAssignment, same}
 use Rattle.chart.specs.declared.places.OldPlace.{OldPlace}
@@ -52,10 +52,10 @@ module _ (old : Chart) where
   beyond p none = p
   beyond p (some k) = oldTo (rowsAt old p) k
 
-  assumed-place : (p : OldPlace) (s : ℕ) (o : Operation) (k : Option ℕ) → All (λ (h : Spot). h .place ≡ beyond p k) (assumed old (at p s) o k)
+  assumed-place : (p : OldPlace) (s : ℕ) (o : Operation) (k : Option ℕ) → OnSome (λ (h : Spot). h .place ≡ beyond p k) (assumed old (at p s) o k)
   unfolding assumed matched beyond
-  assumed-place p s o none = All-some refl
-  assumed-place p s o (some k) = All-when (not (meets s (readSet o) || meets s (readSet (operation (rowsAt old p) k)))) _ (λ t. refl)
+  assumed-place p s o none = refl
+  assumed-place p s o (some k) = when-so _ (not (meets s (readSet o) || meets s (readSet (operation (rowsAt old p) k)))) _ (λ t. refl)
 
   -- the old place that any set leads to, if it leads anywhere
   past : OldPlace → Operation → Option Spot → OldPlace
@@ -65,7 +65,7 @@ module _ (old : Chart) where
   pub successor : OldPlace → Operation → OldPlace
   successor p o = elim (isAssignment o) [ true ↦ beyond p (find (rowsAt old p) (λ o′. same o′ o)) | false ↦ past p o (followed old (at p 0)) ]
 
-  pub one-successor : (p : OldPlace) (s : ℕ) (o : Operation) → All (λ (h : Spot). h .place ≡ successor p o) (moved old (at p s) o)
+  pub one-successor : (p : OldPlace) (s : ℕ) (o : Operation) → OnSome (λ (h : Spot). h .place ≡ successor p o) (moved old (at p s) o)
   unfolding moved followed successor past assigned beyond
   one-successor p s o = go (isAssignment o)
     where
@@ -73,18 +73,18 @@ module _ (old : Chart) where
       set-free none = refl
       set-free (some k) = refl
 
-      on : {x y : Option Spot} → Like x y → All (λ (h : Spot). h .place ≡ past p o y) (elim x [ none ↦ none | some h′ ↦ assumed old h′ o (counterpart old (h′ .place) o) ])
-      on neither = All-none
+      on : {x y : Option Spot} → Like x y → OnSome (λ (h : Spot). h .place ≡ past p o y) (elim x [ none ↦ none | some h′ ↦ assumed old h′ o (counterpart old (h′ .place) o) ])
+      on neither = tt
       on (both q u v) = assumed-place q u o (counterpart old q o)
 
-      go : (b : Bool) → All (λ (h : Spot). h .place ≡ (elim b [ true ↦ beyond p (find (rowsAt old p) (λ o′. same o′ o)) | false ↦ past p o (followed old (at p 0)) ]))
+      go : (b : Bool) → OnSome (λ (h : Spot). h .place ≡ (elim b [ true ↦ beyond p (find (rowsAt old p) (λ o′. same o′ o)) | false ↦ past p o (followed old (at p 0)) ]))
           (elim b [
             | true ↦ some (assigned old (at p s) o (find (rowsAt old p) (λ o′. same o′ o)))
             | false ↦ elim (followed old (at p s)) [ none ↦ none | some h′ ↦ assumed old h′ o (counterpart old (h′ .place) o) ]
           ])
-      go true = All-some (set-free (find (rowsAt old p) (λ o′. same o′ o)))
+      go true = set-free (find (rowsAt old p) (λ o′. same o′ o))
       go false = on (follow-like 64 (alone (p .0)) p s 0)
 
   -- two sets
   pub set-free : (p : OldPlace) (s t : ℕ) (o : Operation) (h h′ : Spot) → moved old (at p s) o ≡ some h → moved old (at p t) o ≡ some h′ → h .place ≡ h′ .place
-  set-free p s t o h h′ d e = one-successor p s o .of h d ∙ sym (one-successor p t o .of h′ e)
+  set-free p s t o h h′ d e = on-at _ (one-successor p s o) d ∙ sym (on-at _ (one-successor p t o) e)

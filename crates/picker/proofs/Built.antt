@@ -1,14 +1,13 @@
 -- The answers of a build are small, and so is the number that each makes; what is below 2^56 tells the start.
 -- Assumes nothing.
 use mathlib.Core.Path.{_≡_, refl, sym, ap, subst, _∙_}
-use mathlib.Core.Bool.{Bool, true, false, not}
-use mathlib.Core.List.{List, [], _∷_}
+use mathlib.Core.Bool.{not}
+use mathlib.Core.List.{List}
 use mathlib.Core.Logic.{⊎-elim}
 use mathlib.Core.Option.{Option, none, some}
-use Prim.Native.Nat.{ℕ, _+_, _%_, _^_, _≤_, _<_}
+use Prim.Native.Nat.{ℕ, _%_, _^_, _≤_, _<_}
 use native.Mathlib.Omega.{arith}
 use borrow.Author.Tests.{not-false}
-use lib.Dec.{eqb}
 use lib.ListN.{length}
 use Rattle.base.specs.Answers.{Answer, given, refused}
 use Rattle.base.specs.Chains.{mapped}
@@ -16,7 +15,7 @@ use Rattle.base.specs.Options.{orElse}
 use Rattle.base.specs.declared.Refusal.{Refusal}
 use Rattle.base.specs.Refusals.{due, unless}
 use Rattle.base.specs.Says.{bool}
-use Rattle.base.specs.Walks.{count}
+use Rattle.base.proofs.Counts.{count-most}
 use Rattle.base.proofs.OnSome.{OnSome, or-on}
 use Rattle.base.proofs.Options.{both-missing, not-due}
 use Rattle.base.proofs.Says.{says}
@@ -39,15 +38,6 @@ use Rattle.builder.specs.Answers.{told, lent, refusal, answered}
 use Rattle.builder.proofs.Answering.{accepted}
 use Rattle.picker.specs.Numbers.{number, Fits, ofBuild}
 use Rattle.picker.proofs.Refusals.{Small, small-fits, due-small, in-chart-small}
-
-count-most : (v : ℕ) (l : List ℕ) → count v l ≤ length l
-unfolding count
-count-most v [] = omega arith
-count-most v (x ∷ l) = go (eqb x v) (count-most v l)
-  where
-    go : (b : Bool) → count v l ≤ length l → elim b as (λ _. ℕ) [ true ↦ count v l + 1 | false ↦ count v l ] ≤ length (x ∷ l)
-    go true h = omega arith
-    go false h = omega arith
 
 -- ---- a record that passes
 module _ (old new : Chart) (R : Record) (e : checkRefusal old new R ≡ none) where

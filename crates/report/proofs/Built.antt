@@ -2,11 +2,10 @@
 -- Assumes nothing.
 use mathlib.Core.Path.{_≡_, sym, ap, subst, _∙_}
 use mathlib.Core.Bool.{Bool, true, false, not}
-use mathlib.Core.List.{List, [], _∷_}
+use mathlib.Core.List.{List}
 use mathlib.Core.Option.{Option, none, some}
-use Prim.Native.Nat.{ℕ, _+_, _^_, _≤_, _<_}
+use Prim.Native.Nat.{ℕ, _^_, _≤_, _<_}
 use native.Mathlib.Omega.{arith}
-use lib.Dec.{eqb}
 use lib.ListN.{length}
 use Rattle.base.specs.Answers.{Answer, given, refused}
 use Rattle.base.specs.declared.Refusal.{Refusal}
@@ -14,6 +13,7 @@ use Rattle.base.specs.Refusals.{sole, due, unless}
 use Rattle.base.specs.Walks.{count}
 use Rattle.base.specs.Options.{orElse}
 use Rattle.base.specs.Says.{bool}
+use Rattle.base.proofs.Counts.{count-most}
 use Rattle.base.proofs.Answers.{different}
 use Rattle.base.proofs.OnSome.{OnSome, when-on, or-on}
 use Rattle.chart.specs.Charts.{Chart}
@@ -29,15 +29,6 @@ use Rattle.detector.specs.Turns.{explored}
 use Rattle.condition.specs.Builds.{alone, built, startOf, recorded, summary}
 use Rattle.builder.specs.Answers.{told, lent, refusal, answered, left}
 use Rattle.report.specs.Printed.{Small}
-
-count-length : (v : ℕ) (l : List ℕ) → count v l ≤ length l
-unfolding count
-count-length v [] = omega arith
-count-length v (x ∷ l) = go (eqb x v) (count-length v l)
-  where
-    go : (b : Bool) → count v l ≤ length l → elim b as (λ _. ℕ) [ true ↦ count v l + 1 | false ↦ count v l ] ≤ length (x ∷ l)
-    go true h = omega arith
-    go false h = omega arith
 
 start-small : (old new : Chart) (m : List ℕ) → startOf (headOf old) (headOf new) m ≤ 4160
 unfolding startOf
@@ -56,7 +47,7 @@ module _ (old new : Chart) (m t s w : List ℕ) (l : length m ≡ 4160) where
   unfolding recorded summary
   made x e f =
       let h : (v : ℕ) → count v (built old new .marks) ≤ 4160 =
-      λ v. subst (λ (k : List ℕ). count v k ≤ 4160) (ap (λ (g : Graph). g .marks) f) (subst (λ (n : ℕ). count v m ≤ n) l (count-length v m)) in
+      λ v. subst (λ (k : List ℕ). count v k ≤ 4160) (ap (λ (g : Graph). g .marks) f) (subst (λ (n : ℕ). count v m ≤ n) l (count-most v m)) in
       subst Small (sym e) (record { start = start-small old new (explored old new .marks); opened = h 1; kept = h 2; covered = h 3 })
 
   pub summary-small : (g : Graph) (r : Built) (x : Summary) → told r ≡ answered old new g → graph m t s w ≡ left old new g → r ≡ builts.Done x → Small x

@@ -14,7 +14,7 @@ use Rattle.base.specs.declared.Refusal.{Refusal}
 use Rattle.base.specs.Answers.{Answer, given, refused}
 use Rattle.base.specs.Chains.{andThen}
 use Rattle.base.specs.Refusals.{sole, unless}
-use Rattle.base.proofs.OnSome.{OnSome}
+use Rattle.base.proofs.OnSome.{OnSome, OnGiven}
 use Rattle.chart.specs.Charts.{Chart, size}
 use Rattle.chart.specs.Faults.{fault, refusal}
 use Rattle.chart.proofs.Bounds.{Slight, fault-slight, refusal-slight}
@@ -30,7 +30,6 @@ use Rattle.text.specs.Written.{written, writing}
 use Rattle.text.proofs.Cases.{by-test, by-field}
 use Rattle.text.proofs.Told.{whole-rows, whole-after, whole-end}
 use Rattle.text.proofs.Charts.{Spells, parsed-shows}
-use Rattle.text.proofs.Sequences.{OnGiven}
 use Rattle.text.proofs.Theorems.{text-positions}
 
 -- ---- the numbers of a text's refusals

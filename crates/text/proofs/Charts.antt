@@ -11,8 +11,8 @@ use borrow.Author.Tests.{eq-eqb, ne-eqb}
 use lib.ListN.{length, getD, drop, drop-of-length-le, length-drop}
 use Rattle.base.specs.declared.Refusal.{Refusal}
 use Rattle.base.specs.Answers.{Answer, given, refused}
-use Rattle.base.specs.Chains.{andThen}
 use Rattle.base.specs.Refusals.{sole, unless}
+use Rattle.base.proofs.OnSome.{OnGiven, on-then}
 use Rattle.chart.specs.Charts.{Chart, size}
 use Rattle.chart.specs.Faults.{fault}
 use Rattle.text.specs.Fields.{kind}
@@ -23,14 +23,10 @@ use Rattle.text.specs.Files.{U32s}
 use Rattle.text.specs.declared.fields.Kind.{Kind}
 use Rattle.text.proofs.Numbers.{kind-high}
 use Rattle.text.proofs.Spelling.{Fits, bare, Closing, comma, line}
-use Rattle.text.proofs.Sequences.{Items, FitAll, items-fit, OnGiven, Shown, fields-show, items-read, items-join, items-split, items-some}
+use Rattle.text.proofs.Sequences.{Items, FitAll, items-fit, Shown, fields-show, items-read, items-join, items-split, items-some}
 use Rattle.text.proofs.Told.{whole-after, whole-end, parsed-some}
 
 -- ---- a text that is read has the chart's fields
-
-pub on-then : {A B : Type 0} (P : A → Type 0) (Q : B → Type 0) (a : Answer A) (f : A → Answer B) → OnGiven P a → ((x : A) → P x → OnGiven Q (f x)) → OnGiven Q (andThen a f)
-on-then P Q (given x) f h g = g x h
-on-then P Q (refused r) f h g = tt
 
 -- what is shown of a chart whose text is read to the end
 pub record Spells (text : List ℕ) (C : Chart) : Type 0 where

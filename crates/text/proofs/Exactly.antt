@@ -8,13 +8,14 @@ use native.Mathlib.Omega.{arith}
 use lib.ListN.{length, getD, length-append}
 use Rattle.base.specs.Answers.{given, refused}
 use Rattle.base.specs.Refusals.{sole}
+use Rattle.base.proofs.OnSome.{OnGiven}
 use Rattle.chart.specs.Charts.{Chart, size}
 use Rattle.chart.specs.Faults.{fault, refusal}
 use Rattle.chart.proofs.Faultless.{faultless}
 use Rattle.text.specs.Texts.{whole, parsed, readText}
 use Rattle.text.specs.Written.{numbers, written}
 use Rattle.text.specs.Files.{U32s, FileOf}
-use Rattle.text.proofs.Sequences.{Items, FitAll, items-fit, OnGiven}
+use Rattle.text.proofs.Sequences.{Items, FitAll, items-fit}
 use Rattle.text.proofs.Grammar.{items-file, file-items}
 use Rattle.text.proofs.Told.{whole-rows}
 use Rattle.text.proofs.Charts.{Spells, read-shows, spelt-parsed, fields-items, chart-fits}

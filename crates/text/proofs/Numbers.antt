@@ -10,6 +10,7 @@ use borrow.Author.Tests.{eq-eqb, ne-eqb, le-leb, lt-leb, leb-true, leb-false, no
 use lib.Dec.{eqb, leb}
 use lib.ListN.{length, getD, drop, List·getD-eq-default, drop-of-length-le}
 use lib.Seq.{drop-cons}
+use Rattle.base.proofs.Tests.{and-false}
 use Rattle.text.specs.declared.fields.Kind.{Kind}
 use Rattle.text.specs.declared.fields.Field.{Field}
 use Rattle.text.specs.declared.fields.Field.the-variants.{Number, Unfit}
@@ -32,10 +33,6 @@ module _ (text : List ℕ) (at : ℕ) where
   byte-past h = List·getD-eq-default text 256 h
 
 -- ---- a digit
-
-and-false : (a : Bool) → a && false ≡ false
-and-false true = refl
-and-false false = refl
 
 and-true-right : (a : Bool) → a && true ≡ a
 and-true-right true = refl

@@ -5,7 +5,8 @@ use mathlib.Core.List.{List, [], _∷_, _++_, append-assoc, append-nil}
 use Prim.Native.Nat.{ℕ, zero, suc, _+_, _≤_, _<_}
 use native.Mathlib.Omega.{arith}
 use lib.ListN.{length, drop, length-append}
-use Rattle.base.specs.Answers.{Answer, given, refused}
+use Rattle.base.specs.Answers.{Answer, given}
+use Rattle.base.proofs.OnSome.{OnGiven, on-given}
 use Rattle.text.specs.Fields.{kind, itemAt}
 use Rattle.text.specs.Spans.{Span, fieldsAt}
 use Rattle.text.proofs.Cases.{by-field}
@@ -32,15 +33,6 @@ items-fit [] k s r i = tt
 items-fit (x ∷ l) k s r i = (i .item .field .small, (i .item .field .fits, items-fit l (suc k) (i .middle) r (i .rest)))
 
 -- ---- from the reading to the bytes
-
--- P of what is given, if something is
-abbrev pub OnGiven : {A : Type 0} → (A → Type 0) → Answer A → Type 0
-OnGiven P (given x) = P x
-OnGiven P (refused r) = Unit
-
-pub on-given : {A : Type 0} (P Q : A → Type 0) (a : Answer A) → ((x : A) → P x → Q x) → OnGiven P a → OnGiven Q a
-on-given P Q (given x) f h = f x h
-on-given P Q (refused r) f h = tt
 
 pub record Shown (n k : ℕ) (text : List ℕ) (at : ℕ) (before : List ℕ) (s : Span) : Type 0 where
   pub numbers : List ℕ

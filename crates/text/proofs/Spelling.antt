@@ -4,6 +4,7 @@ use mathlib.Core.Path.{_≡_, refl, sym, ap, _∙_, subst}
 use mathlib.Core.List.{List, [], _∷_, _++_, map, append-assoc}
 use mathlib.Core.Bool.{Bool, true, false, _&&_}
 use mathlib.Core.Logic.{dite}
+use mathlib.Core.Option.{Option, none, some}
 use Prim.Native.Nat.{ℕ, suc, _+_, _*_, _-_, _%_, _≤_, _<_}
 use native.Mathlib.Numerals.{add-one}
 use native.Mathlib.Decide.{decLt}
@@ -12,6 +13,7 @@ use borrow.Author.Tests.{eq-eqb, ne-eqb, le-leb, lt-leb, leb-true, eqb-true, eqb
 use lib.Dec.{eqb, leb}
 use lib.ListN.{length, getD, drop, length-append, length-map, drop-of-length-le, length-drop}
 use lib.Seq.{drop-drop, drop-cons, drop-append-seam, getD-drop}
+use Rattle.base.proofs.OnSome.{OnSome, on-map}
 use Rattle.text.specs.declared.fields.Kind.{Kind}
 use Rattle.text.specs.declared.fields.Kind.the-variants.{Plain, Count, Spare}
 use Rattle.text.specs.declared.fields.Field.{Field}
@@ -24,10 +26,14 @@ use Rattle.text.proofs.Decimals.{Nines, Leads, Spells, spells, decimal-
 
 -- ---- what a field shows
 
--- P of the number and the offset after it, if there is one
+-- the number and the offset after it, if there is one
+abbrev pub shown : Field → Option (ℕ × ℕ)
+shown (Number x p) = some (x, p)
+shown (Unfit n p) = none
+
+-- P of these
 abbrev pub OnNumber : (ℕ → ℕ → Type 0) → Field → Type 0
-OnNumber P (Number x p) = P x p
-OnNumber P (Unfit n p) = Unit
+OnNumber P f = OnSome (λ (n : ℕ × ℕ). P (n .0) (n .1)) (shown f)
 
 -- what a field may hold
 abbrev pub Fits : Kind → ℕ → Type 0
@@ -120,8 +126,7 @@ number-read sort first (d ∷ ds) g =
     (λ _. tt))
 
 on-number : (P Q : ℕ → ℕ → Type 0) (f : Field) → ((x p : ℕ) → P x p → Q x p) → OnNumber P f → OnNumber Q f
-on-number P Q (Number x p) g h = g x p h
-on-number P Q (Unfit n p) g h = tt
+on-number P Q f g = on-map (λ (n : ℕ × ℕ). P (n .0) (n .1)) (λ (n : ℕ × ℕ). Q (n .0) (n .1)) (shown f) (λ n. g (n .0) (n .1))
 
 pub number-shows : (sort : Kind) (text : List ℕ) (at : ℕ) → OnNumber (λ x p. Numbered sort (drop at text) x (drop p text)) (numberAt sort text at)
 unfolding numberAt

@@ -1,12 +1,11 @@
--- Laws of tables: fields that are read into one, and a table that is copied.
--- Assumes nothing.
-use mathlib.Core.Path.{_≡_, refl, sym, ap, _∙_, subst}
+-- Laws of tables: fields that are read into one. Assumes nothing.
+use mathlib.Core.Path.{_≡_, refl, sym, ap, _∙_}
 use mathlib.Core.List.{List, [], _∷_, _++_, append-assoc, append-nil}
 use Prim.Native.Nat.{ℕ, suc, _+_, _-_, _≤_, _<_}
 use native.Mathlib.Numerals.{add-one}
 use native.Mathlib.Omega.{arith}
-use lib.ListN.{length, getD, take, drop, set, length-set, take-append-drop}
-use lib.Seq.{length-take-le, drop-drop, drop-set-lt, take-suc-set, take-all, paste, paste-zero, paste-suc, length-paste}
+use lib.ListN.{length, take, drop, set, length-set, take-append-drop}
+use lib.Seq.{length-take-le, drop-drop, drop-set-lt, take-suc-set}
 use Rattle.text.specs.declared.fields.Field.{Field}
 use Rattle.text.specs.declared.fields.Field.the-variants.{Number, Unfit}
 use Rattle.text.specs.declared.inner.table.Reach.{Reach}
@@ -83,28 +82,3 @@ reached-past f p at e = rw e
 pub reached-stopped : (f : Reach) (n p at : ℕ) → f ≡ Stopped n p → at ≡ reached f at
 unfolding reached
 reached-stopped f n p at e = rw e
-
--- ---- a table is copied
-
-pub record Copying (l table₀ table : List ℕ) (i : ℕ) : Type 0 where
-  pub is : table ≡ paste table₀ 0 l i
-  pub most : i ≤ length l
-  pub long : length table ≡ length table₀
-
-pub copying-start : (l table : List ℕ) → Copying l table table 0
-copying-start l table = record { is = paste-zero table 0 l; most = omega arith; long = refl }
-
-module _ (l table₀ table : List ℕ) (i : ℕ) where
-  pub copying-more : length l ≤ length table₀ → Copying l table₀ table i → i < length l → Copying l table₀ (set table i (getD l i 0)) (i + 1)
-  copying-more w c h =
-      let z : 0 + i ≡ i = omega arith in
-      let s : set (paste table₀ 0 l i) i (getD l i 0) ≡ paste table₀ 0 l (suc i) =
-      subst (λ (k : ℕ). set (paste table₀ 0 l i) k (getD l i 0) ≡ paste table₀ 0 l (suc i)) z (paste-suc table₀ 0 l i 0 (omega arith) h) in
-      let e : set table i (getD l i 0) ≡ paste table₀ 0 l (i + 1) = rw (c .is, add-one i) s in
-      record { is = e; most = omega arith; long = ap length e ∙ length-paste table₀ 0 l (i + 1) (omega arith) (omega arith) }
-
-  pub copying-done : Copying l table₀ table i → length l ≤ i → table ≡ l ++ drop (length l) table₀
-  copying-done c h =
-      let e : i ≡ length l = omega (arith, c .most) in
-      let z : 0 + length l ≡ length l = omega arith in
-      c .is ∙ rw (e, z, take-all (length l) l (omega arith))

@@ -11,6 +11,7 @@ use Rattle.base.specs.declared.Refusal.{Refusal}
 use Rattle.base.specs.Answers.{Answer, given, refused}
 use Rattle.base.specs.Chains.{andThen, mapped}
 use Rattle.base.specs.Refusals.{sole, unless}
+use Rattle.base.proofs.OnSome.{OnGiven}
 use Rattle.base.proofs.Answers.{different}
 use Rattle.chart.specs.declared.charts.Head.{Head}
 use Rattle.chart.specs.declared.charts.Judged.{Judged}
@@ -27,7 +28,7 @@ use Rattle.text.specs.Spans.{Span, fieldsAt}
 use Rattle.text.specs.Texts.{whole, rowsAt, parsed, readText, readInto, filled, Heading, heading, toldRead}
 use Rattle.text.specs.Written.{numbers, written, writing, printed, toldWrote, Put}
 use Rattle.text.proofs.Headings.{first, second, third}
-use Rattle.text.proofs.Sequences.{FitAll, OnGiven, Shown, fields-show, items-fit}
+use Rattle.text.proofs.Sequences.{FitAll, Shown, fields-show, items-fit}
 
 -- ---- faults
 

@@ -8,13 +8,14 @@ use Prim.Native.Nat.{ℕ, zero, suc, _*_, _/_, _%_, _≤_, _<_}
 use native.Mathlib.Decide.{decLt}
 use native.Mathlib.Omega.{arith}
 use borrow.Author.Tests.{lt-ltb, le-ltb}
-use lib.ListN.{length, getD, take, drop, drop-of-length-le}
+use lib.ListN.{length, getD, take, drop-of-length-le}
 use lib.Seq.{take-at}
 use Rattle.base.specs.declared.Refusal.{Refusal}
 use Rattle.base.specs.Answers.{Answer, given, refused}
 use Rattle.base.specs.Chains.{andThen, mapped}
 use Rattle.base.specs.Refusals.{sole, unless}
 use Rattle.base.proofs.Answers.{different}
+use Rattle.base.proofs.OnSome.{OnGiven, on-given, on-then}
 use Rattle.chart.specs.declared.charts.Head.{Head}
 use Rattle.chart.specs.Charts.{Chart, size, charted}
 use Rattle.chart.specs.Faults.{refusal}
@@ -31,10 +32,9 @@ use Rattle.text.specs.Spans.{Span, onField, fieldsAt}
 use Rattle.text.specs.Texts.{whole, rowsAt, parsed, readText, readInto, heading, toldRead}
 use Rattle.text.specs.Walk.{onNumber, numbersAt, laid, reachOf, reachAt, reached, firstOf, firstAt, pastFirst, entriesOf, rowNumbers, answered}
 use Rattle.text.proofs.Cases.{by-field}
-use Rattle.text.proofs.Sequences.{OnGiven, on-given}
 use Rattle.text.proofs.Headings.{first, second, third}
 use Rattle.text.proofs.Told.{ReadAs, read-refused, read-sized, whole-rows, whole-after, whole-end, few-counted}
-use Rattle.text.proofs.Charts.{on-then, Spells, parsed-shows}
+use Rattle.text.proofs.Charts.{Spells, parsed-shows}
 
 -- ---- fields that follow one another
 

@@ -1,5 +1,6 @@
 -- `align::inner::step::moved` meets its contract: by an assignment, or by an assumption after what is followed. Assumes nothing.
 use mathlib.Core.Path.{_≡_, sym, ap, subst, _∙_}
+use Rattle.base.proofs.OnSome.{on-at}
 use Rattle.align.proofs.Moves.{followed-below, moved-assigned, moved-twice, moved-assumed}
 use Rattle.align.specs.Steps.{toldFollowed}
 use Rattle.operations.specs.declared.Operation.{Operation}
@@ -36,7 +37,7 @@ assumed-requires c κs =
     let o = c .before .before .before .before .before .before .operation-at in
     let n = sym (c .before .before .before .before .before .is-assignment .ensures) ∙ c .before .before .before .before .if1 .left in
     let t = subst (λ (o : Operation). isAssumption o ≡ true) (o .ensures) (assuming (o .result) (subst (λ (o : Operation). isKnown o ≡ true) (sym (o .ensures)) (p .1 .1 .1 .1)) n) in
-    (p .0, (p .1 .0, (followed-below _ (p .0) _ (p .1 .1 .0) .of _ (sym (c .before .before .before .follow .ensures) ∙ ap toldFollowed (c .before .next .given .1)), (p .1 .1 .1 .0, t, p .1 .1 .1 .2))))
+    (p .0, (p .1 .0, (on-at _ (followed-below _ (p .0) _ (p .1 .1 .0)) (sym (c .before .before .before .follow .ensures) ∙ ap toldFollowed (c .before .next .given .1)), (p .1 .1 .1 .0, t, p .1 .1 .1 .2))))
 
 enum-told : tie.Need-enum-told
 enum-told c = search needs

@@ -1,7 +1,7 @@
 -- `graph::inner::buffers::fill16` meets its contract. Assumes nothing.
 use Prim.Native.Nat.{_-_}
 use lib.ListN.{length, length-set}
-use Rattle.graph.proofs.Stores.{Filling, filling-none, filling-more, filled}
+use Rattle.base.proofs.Stores.{Filling, filling-none, filling-more, filled}
 use borrow.Author.Needs.{needs}
 use native.Mathlib.Omega.{arith}
 use Rattle.graph.proofs.inner.buffers.fill16.Statement.{statement}

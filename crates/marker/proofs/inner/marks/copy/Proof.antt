@@ -1,8 +1,9 @@
 -- `marker::inner::marks::copy` meets its contract. Assumes nothing.
+use mathlib.Core.Path.{sym}
 use Prim.Native.Nat.{_-_}
+use native.Mathlib.Nat.{le-of-eq}
 use lib.ListN.{length}
-use Rattle.graph.proofs.Stores.{passing-none}
-use Rattle.marker.proofs.Seen.{Copying, copy-more, copy-end}
+use Rattle.base.proofs.Stores.{Copying, copying-start, copying-more, copying-whole}
 use borrow.Author.Needs.{needs}
 use Rattle.marker.proofs.inner.marks.copy.Statement.{statement}
 use Rattle.marker.proofs.inner.marks.copy.Tie as tie
@@ -14,7 +15,7 @@ abbrev μ-loop : tie.MeasureT-loop
 μ-loop from to₀ p₀ to p = length from - p
 
 loop-holds : tie.Need-loop-holds Inv-loop μ-loop
-loop-holds c = passing-none _ _
+loop-holds c = search copying-start
 
 mul-to : tie.Need-mul-to Inv-loop μ-loop
 mul-to c = search needs
@@ -35,13 +36,13 @@ loop-less : tie.Need-loop-less Inv-loop μ-loop
 loop-less c = search needs
 
 loop-again : tie.Need-loop-again Inv-loop μ-loop
-loop-again c = search copy-more
+loop-again c = search (copying-more, le-of-eq (sym (c .before .before .before .pre)))
 
 same-length : tie.Need-same-length Inv-loop μ-loop
 same-length c = search needs
 
 returns : tie.Need-returns Inv-loop μ-loop
-returns c = search copy-end
+returns c = search copying-whole
 
 pub copy-spec : {M : Type 1} → statement M
 copy-spec =

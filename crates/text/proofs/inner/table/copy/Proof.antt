@@ -1,7 +1,7 @@
 -- `text::inner::table::copy` meets its contract: the front of the table is copied up to the index (`Copying`). Assumes nothing.
 use Prim.Native.Nat.{_-_}
 use lib.ListN.{length}
-use Rattle.text.proofs.Tables.{Copying, copying-start, copying-more, copying-done}
+use Rattle.base.proofs.Stores.{Copying, copying-start, copying-more, copying-done}
 use borrow.Author.Needs.{needs}
 use Rattle.text.proofs.inner.table.copy.Statement.{statement}
 use Rattle.text.proofs.inner.table.copy.Tie as tie
