@@ -13,7 +13,6 @@ use Rattle.base.specs.Chains.{andThen, mapped}
 use Rattle.base.specs.Refusals.{sole, unless}
 use Rattle.base.proofs.OnSome.{OnGiven}
 use Rattle.base.proofs.Answers.{different}
-use Rattle.chart.specs.declared.charts.Head.{Head}
 use Rattle.chart.specs.declared.charts.Judged.{Judged}
 use Rattle.chart.specs.declared.charts.Judged.the-variants.{Faultless, Refused}
 use Rattle.chart.specs.Charts.{Chart, charted}
@@ -52,17 +51,6 @@ ReadAs a r table after = (toldRead r ≡ mapped heading a) × (after ≡ filled 
 pub read-refused : (a : Answer Chart) (table : List ℕ) (r : Refusal) → a ≡ refused r → ReadAs a (read.Refused r) table table
 unfolding filled toldRead
 read-refused a table r e = (rw e, rw e)
-
-module _ (h : Head) (l table : List ℕ) (j : Judged) (is : told j ≡ refusal (charted h l)) where
-  pub hand-refused : (r : Refusal) → j ≡ Refused r → ReadAs (unless (refusal (charted h l)) (charted h l)) (read.Refused r) table table
-  hand-refused r e = read-refused _ table r (rw (← is, e))
-
-  pub hand-chart : (count : ℕ) (after : List ℕ) → length l ≡ 6 * count → j ≡ Faultless → after ≡ l ++ drop (length l) table
-      → ReadAs (unless (refusal (charted h l)) (charted h l)) (read.Chart h count) table after
-  unfolding filled toldRead
-  hand-chart count after w e g =
-      let n : length l / 6 ≡ count = omega arith in
-      (rw (← is, e, n), rw (← is, e) g)
 
 pub whole-after : (text : List ℕ) (at : ℕ) (C : Chart) → at < length text → whole text at C ≡ refused (sole 14 at)
 unfolding whole

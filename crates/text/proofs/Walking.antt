@@ -17,22 +17,27 @@ use Rattle.base.specs.Refusals.{sole, unless}
 use Rattle.base.proofs.Answers.{different}
 use Rattle.base.proofs.OnSome.{OnGiven, on-given, on-then}
 use Rattle.chart.specs.declared.charts.Head.{Head}
+use Rattle.chart.specs.declared.charts.Judged.{Judged}
+use Rattle.chart.specs.declared.charts.Judged.the-variants as judged
 use Rattle.chart.specs.Charts.{Chart, size, charted}
-use Rattle.chart.specs.Faults.{refusal}
+use Rattle.chart.specs.Faults.{told, refusal}
 use Rattle.text.specs.declared.answers.Read.{Read}
 use Rattle.text.specs.declared.answers.Read.the-variants as read
+use Rattle.text.specs.declared.fields.Misfit.{Misfit}
 use Rattle.text.specs.declared.fields.Field.{Field}
 use Rattle.text.specs.declared.fields.Field.the-variants.{Number, Unfit}
 use Rattle.text.specs.declared.inner.first.First.{First}
-use Rattle.text.specs.declared.inner.first.First.the-variants.{Record, Unread}
+use Rattle.text.specs.declared.inner.first.First.the-variants as first
+use Rattle.text.specs.declared.inner.reader.Parsed.{Parsed}
+use Rattle.text.specs.declared.inner.reader.Parsed.the-variants as parse
 use Rattle.text.specs.declared.inner.table.Reach.{Reach}
-use Rattle.text.specs.declared.inner.table.Reach.the-variants.{Past, Stopped}
+use Rattle.text.specs.declared.inner.table.Reach.the-variants as reach
 use Rattle.text.specs.Fields.{itemAt}
 use Rattle.text.specs.Spans.{Span, onField, fieldsAt}
-use Rattle.text.specs.Texts.{whole, rowsAt, parsed, readText, readInto, heading, toldRead}
-use Rattle.text.specs.Walk.{onNumber, numbersAt, laid, reachOf, reachAt, reached, firstOf, firstAt, pastFirst, entriesOf, rowNumbers, answered}
+use Rattle.text.specs.Texts.{whole, rowsAt, parsed, readText, readInto, filled, heading, toldRead}
+use Rattle.text.specs.Walk.{onNumber, numbersAt, laid, reachOf, reachAt, reached, recordOf, firstAt, pastFirst, entriesOf, rowNumbers, answered, toldParsed}
 use Rattle.text.proofs.Cases.{by-field}
-use Rattle.text.proofs.Headings.{first, second, third}
+use Rattle.text.proofs.Headings as numbered
 use Rattle.text.proofs.Told.{ReadAs, read-refused, read-sized, whole-rows, whole-after, whole-end, few-counted}
 use Rattle.text.proofs.Charts.{Spells, parsed-shows}
 
@@ -47,7 +52,7 @@ fields-sole : (n k : ℕ) (text : List ℕ) (at : ℕ) (before : List ℕ) → S
 unfolding fieldsAt
 fields-sole zero k text at before = tt
 fields-sole (suc n) k text at before =
-    by-field Sole (itemAt k text at) _ (λ x p e. fields-sole n (suc k) text p (before ++ (x ∷ []))) (λ m p e. refl)
+    by-field Sole (itemAt k text at) _ (λ x p e. fields-sole n (suc k) text p (before ++ (x ∷ []))) (λ u e. refl)
 
 -- what is given are the numbers up to the first refusal, which are all
 abbrev All : ℕ → List ℕ → List ℕ → Span → Type 0
@@ -58,7 +63,7 @@ all-more : (n k : ℕ) (text before : List ℕ) → ((x p : ℕ) → OnGiven (Al
 all-more n k text before h (Number x p) =
     on-given (All n (before ++ (x ∷ [])) (numbersAt n k text p)) (All (suc n) before (x ∷ numbersAt n k text p)) (fieldsAt n k text p (before ++ (x ∷ [])))
     (λ s g. (g .0 ∙ append-assoc before (x ∷ []) (numbersAt n k text p), ap suc (g .1))) (h x p)
-all-more n k text before h (Unfit m p) = tt
+all-more n k text before h (Unfit u) = tt
 
 fields-all : (n k : ℕ) (text : List ℕ) (at : ℕ) (before : List ℕ) → OnGiven (All n before (numbersAt n k text at)) (fieldsAt n k text at before)
 unfolding fieldsAt numbersAt
@@ -76,8 +81,8 @@ module _ (n k : ℕ) (text : List ℕ) (at : ℕ) where
 -- ---- the first record
 
 abbrev OnPast : Type 0 → Reach → Type 0
-OnPast P (Past p) = P
-OnPast P (Stopped n p) = Unit
+OnPast P (reach.Past p) = P
+OnPast P (reach.Unfit u) = Unit
 
 on-past : (P : Type 0) (a : Answer Span) → OnGiven (λ (s : Span). P) a → OnPast P (reachOf a)
 unfolding reachOf
@@ -89,41 +94,41 @@ laid-whole : (l table : List ℕ) → length l ≡ length table → laid l table
 laid-whole l table e = rw (drop-of-length-le table {i = length l} (omega arith)) (append-nil l)
 
 module _ (text : List ℕ) (at : ℕ) (r : Reach) (is : r ≡ reachAt 6 0 text at) where
-  pub first-unread : (n p : ℕ) → r ≡ Stopped n p → Unread n p ≡ firstAt text at
-  unfolding firstAt firstOf
-  first-unread n p e = rw (← is, e)
+  pub first-unfit : (u : Misfit) → r ≡ reach.Unfit u → first.Unfit u ≡ firstAt text at
+  unfolding firstAt recordOf
+  first-unfit u e = rw (← is, e)
 
-  pub first-record : (p : ℕ) (numbers table : List ℕ) → r ≡ Past p → length table ≡ 6 → numbers ≡ laid (numbersAt 6 0 text at) table
-      → Record (record { places = getD numbers 0 0; alarm = getD numbers 1 0 }) (getD numbers 2 0) p ≡ firstAt text at
-  unfolding firstAt firstOf
+  pub first-record : (p : ℕ) (numbers table : List ℕ) → r ≡ reach.Past p → length table ≡ 6 → numbers ≡ laid (numbersAt 6 0 text at) table
+      → first.Record (record { places = getD numbers 0 0; alarm = getD numbers 1 0 }) (getD numbers 2 0) p ≡ firstAt text at
+  unfolding firstAt recordOf
   first-record p numbers table e w g =
       let n : length (numbersAt 6 0 text at) ≡ 6 = subst (OnPast (length (numbersAt 6 0 text at) ≡ 6)) (sym is ∙ e) (on-past _ (fieldsAt 6 0 text at []) (are-many 6 0 text at)) in
       let z : numbers ≡ numbersAt 6 0 text at = g ∙ laid-whole _ table (n ∙ sym w) in
       rw (z, ← is, e)
 
 module _ (f : First) (at : ℕ) where
-  pub past-record : (h : Head) (count p : ℕ) → f ≡ Record h count p → p ≡ pastFirst f at
+  pub past-record : (h : Head) (count p : ℕ) → f ≡ first.Record h count p → p ≡ pastFirst f at
   unfolding pastFirst
   past-record h count p e = rw e
 
-  pub past-unread : (n p : ℕ) → f ≡ Unread n p → at ≡ pastFirst f at
+  pub past-unfit : (u : Misfit) → f ≡ first.Unfit u → at ≡ pastFirst f at
   unfolding pastFirst
-  past-unread n p e = rw e
+  past-unfit u e = rw e
 
-pub entries-record : (f : First) (h : Head) (count p : ℕ) → f ≡ Record h count p → 6 * count ≡ entriesOf f
+pub entries-record : (f : First) (h : Head) (count p : ℕ) → f ≡ first.Record h count p → 6 * count ≡ entriesOf f
 unfolding entriesOf
 entries-record f h count p e = rw e
 
-pub entries-unread : (f : First) (n p : ℕ) → f ≡ Unread n p → 0 ≡ entriesOf f
+pub entries-unfit : (f : First) (u : Misfit) → f ≡ first.Unfit u → 0 ≡ entriesOf f
 unfolding entriesOf
-entries-unread f n p e = rw e
+entries-unfit f u e = rw e
 
 -- its rows fill at most 768 entries
 pub few-entries : (text : List ℕ) → entriesOf (firstAt text 0) ≤ 768
-unfolding firstAt firstOf entriesOf reachOf
+unfolding firstAt recordOf entriesOf reachOf
 few-entries text = go (fieldsAt 6 0 text 0 []) refl (are-numbers 6 0 text 0)
   where
-    go : (a : Answer Span) → fieldsAt 6 0 text 0 [] ≡ a → OnGiven (λ (s : Span). s .numbers ≡ numbersAt 6 0 text 0) a → entriesOf (firstOf (reachOf a) (numbersAt 6 0 text 0)) ≤ 768
+    go : (a : Answer Span) → fieldsAt 6 0 text 0 [] ≡ a → OnGiven (λ (s : Span). s .numbers ≡ numbersAt 6 0 text 0) a → entriesOf (recordOf (reachOf a) (numbersAt 6 0 text 0)) ≤ 768
     go (given s) e h = rw (← h) (omega (arith, few-counted text s e))
     go (refused r) e h = omega arith
 
@@ -131,24 +136,24 @@ few-entries text = go (fieldsAt 6 0 text 0 []) refl (are-numbers 6 0 text 0)
 
 -- what is answered after a first record, by the rows
 module _ (b : ℕ) (t : List ℕ) (h : Head) (count p end : ℕ) where
-  answered-stopped : (m o : ℕ) → answered (b ∷ t) (Record h count p) (Stopped m o) end ≡ read.Refused (sole m o)
+  answered-unfit : (u : Misfit) → answered (b ∷ t) (first.Record h count p) (reach.Unfit u) end ≡ parse.Unfit u
   unfolding answered
-  answered-stopped m o = refl
+  answered-unfit u = refl
 
-  answered-after : (o : ℕ) → end < length (b ∷ t) → answered (b ∷ t) (Record h count p) (Past o) end ≡ read.Refused (sole 14 end)
+  answered-after : (o : ℕ) → end < length (b ∷ t) → answered (b ∷ t) (first.Record h count p) (reach.Past o) end ≡ parse.Unfit (record { 0 = 14; 1 = end })
   unfolding answered
   answered-after o w = rw (lt-ltb end (length (b ∷ t)) w, answered)
 
-  answered-whole : (o : ℕ) → length (b ∷ t) ≤ end → answered (b ∷ t) (Record h count p) (Past o) end ≡ read.Chart h count
+  answered-whole : (o : ℕ) → length (b ∷ t) ≤ end → answered (b ∷ t) (first.Record h count p) (reach.Past o) end ≡ parse.Chart h count
   unfolding answered
   answered-whole o w = rw (le-ltb end (length (b ∷ t)) w, answered)
 
 module _ (b : ℕ) (t : List ℕ) where
   rows-told : (h : Head) (count p : ℕ) (a : Answer Span) → Sole a → OnGiven (λ (s : Span). length (s .numbers) ≡ 6 * count) a
-      → toldRead (answered (b ∷ t) (Record h count p) (reachOf a) (reached (reachOf a) p))
+      → toldParsed (answered (b ∷ t) (first.Record h count p) (reachOf a) (reached (reachOf a) p))
       ≡ mapped heading (andThen a (λ (rows : Span). whole (b ∷ t) (rows .next) (record { places = h .places; alarm = h .alarm; table = rows .numbers })))
-  unfolding reachOf reached toldRead
-  rows-told h count p (refused r) e g = rw (answered-stopped b t h count p p (r .number) (r .position)) (ap refused (sym e))
+  unfolding reachOf reached toldParsed
+  rows-told h count p (refused r) e g = rw (answered-unfit b t h count p p (record { 0 = r .number; 1 = r .position })) (ap refused (sym e))
   rows-told h count p (given s) e g =
       let n : length (s .numbers) / 6 ≡ count = omega arith in
       dite (decLt (s .next) (length (b ∷ t))) (λ w. rw (answered-after b t h count p (s .next) (s .next) w, whole-after (b ∷ t) (s .next) _ w))
@@ -162,9 +167,9 @@ module _ (b : ℕ) (t : List ℕ) where
   after s = rowsAt (b ∷ t) (s .next) (getD (s .numbers) 0 0) (getD (s .numbers) 1 0) (getD (s .numbers) 2 0)
 
   first-told : (a : Answer Span) (l : List ℕ) → Sole a → OnGiven (λ (s : Span). s .numbers ≡ l) a
-      → toldRead (answered (b ∷ t) (firstOf (reachOf a) l) (Rest (firstOf (reachOf a) l)) (reached (Rest (firstOf (reachOf a) l)) (pastFirst (firstOf (reachOf a) l) 0)))
+      → toldParsed (answered (b ∷ t) (recordOf (reachOf a) l) (Rest (recordOf (reachOf a) l)) (reached (Rest (recordOf (reachOf a) l)) (pastFirst (recordOf (reachOf a) l) 0)))
       ≡ mapped heading (andThen a after)
-  unfolding firstOf reachOf entriesOf pastFirst answered toldRead rowsAt
+  unfolding recordOf reachOf entriesOf pastFirst answered toldParsed rowsAt
   first-told (refused r) l e g = ap refused (sym e)
   first-told (given s) l e g =
       let n = 6 * getD l 2 0 in
@@ -180,8 +185,8 @@ module _ (b : ℕ) (t : List ℕ) where
   whole-keeps P at C h =
       dite (decLt at (length (b ∷ t))) (λ w. rw (whole-after (b ∷ t) at C w) tt) (λ w. rw (whole-end (b ∷ t) at C (omega arith)) h)
 
-  first-laid : (a : Answer Span) (l : List ℕ) → OnGiven (λ (s : Span). s .numbers ≡ l) a → OnGiven (Laid (firstOf (reachOf a) l)) (andThen a after)
-  unfolding firstOf reachOf entriesOf pastFirst rowsAt
+  first-laid : (a : Answer Span) (l : List ℕ) → OnGiven (λ (s : Span). s .numbers ≡ l) a → OnGiven (Laid (recordOf (reachOf a) l)) (andThen a after)
+  unfolding recordOf reachOf entriesOf pastFirst rowsAt
   first-laid (refused r) l g = tt
   first-laid (given s) l g =
       let n = 6 * getD l 2 0 in
@@ -190,9 +195,9 @@ module _ (b : ℕ) (t : List ℕ) where
       (λ r h. whole-keeps _ (r .next) (record { places = getD l 0 0; alarm = getD l 1 0; table = r .numbers }) (h .0, ap length (h .0) ∙ h .1)))
 
 pub walk-told : (text : List ℕ)
-    → toldRead (answered text (firstAt text 0) (reachAt (entriesOf (firstAt text 0)) 6 text (pastFirst (firstAt text 0) 0)) (reached (reachAt (entriesOf (firstAt text 0)) 6 text (pastFirst (firstAt text 0) 0)) (pastFirst (firstAt text 0) 0)))
+    → toldParsed (answered text (firstAt text 0) (reachAt (entriesOf (firstAt text 0)) 6 text (pastFirst (firstAt text 0) 0)) (reached (reachAt (entriesOf (firstAt text 0)) 6 text (pastFirst (firstAt text 0) 0)) (pastFirst (firstAt text 0) 0)))
     ≡ mapped heading (parsed text)
-unfolding firstAt parsed answered toldRead
+unfolding firstAt parsed answered toldParsed
 walk-told [] = refl
 walk-told (b ∷ t) = first-told b t (fieldsAt 6 0 (b ∷ t) 0 []) (numbersAt 6 0 (b ∷ t) 0) (fields-sole 6 0 (b ∷ t) 0 []) (are-numbers 6 0 (b ∷ t) 0)
 
@@ -202,52 +207,52 @@ walk-laid [] = tt
 walk-laid (b ∷ t) = first-laid b t (fieldsAt 6 0 (b ∷ t) 0 []) (numbersAt 6 0 (b ∷ t) 0) (are-numbers 6 0 (b ∷ t) 0)
 
 -- the same of answers that are known by equations
-pub walk-is : (text : List ℕ) (f : First) (n at : ℕ) (g : Reach) (end : ℕ) (a : Read) (after table : List ℕ)
+pub walk-is : (text : List ℕ) (f : First) (n at : ℕ) (g : Reach) (end : ℕ) (a : Parsed) (after table : List ℕ)
     → f ≡ firstAt text 0 → n ≡ entriesOf f → at ≡ pastFirst f 0 → g ≡ reachAt n 6 text at → end ≡ reached g at → a ≡ answered text f g end → after ≡ laid (numbersAt n 6 text at) table
-    → (toldRead a ≡ mapped heading (parsed text)) × (after ≡ laid (rowNumbers text) table)
+    → (toldParsed a ≡ mapped heading (parsed text)) × (after ≡ laid (rowNumbers text) table)
 unfolding rowNumbers
 walk-is text f n at g end a after table e₁ e₂ e₃ e₄ e₅ e₆ e₇ = (rw (e₆, e₅, e₄, e₃, e₂, e₁) (walk-told text), rw (e₇, e₃, e₂, e₁))
 
 -- ---- the judge of both answers
 
 module _ (text : List ℕ) (f : First) (g : Reach) (end : ℕ) where
-  pub judge-none : (r : Refusal) → r ≡ sole 11 0 → length text ≡ 0 → read.Refused r ≡ answered text f g end
+  pub judge-none : length text ≡ 0 → parse.Unfit (record { 0 = 11; 1 = 0 }) ≡ answered text f g end
   unfolding answered
-  judge-none r i h = go text h
+  judge-none h = go text h
     where
-      go : (l : List ℕ) → length l ≡ 0 → read.Refused r ≡ answered l f g end
-      go [] h = ap read.Refused i
+      go : (l : List ℕ) → length l ≡ 0 → parse.Unfit (record { 0 = 11; 1 = 0 }) ≡ answered l f g end
+      go [] h = refl
       go (b ∷ s) h = absurd (omega arith)
 
   module _ (some-byte : length text ≡ 0 → ⊥) where
-    pub judge-unread : (r : Refusal) (n p : ℕ) → r ≡ sole n p → f ≡ Unread n p → read.Refused r ≡ answered text f g end
+    pub judge-first : (u : Misfit) → f ≡ first.Unfit u → parse.Unfit u ≡ answered text f g end
     unfolding answered
-    judge-unread r n p i e = go text some-byte
+    judge-first u e = go text some-byte
       where
-        go : (l : List ℕ) → (length l ≡ 0 → ⊥) → read.Refused r ≡ answered l f g end
+        go : (l : List ℕ) → (length l ≡ 0 → ⊥) → parse.Unfit u ≡ answered l f g end
         go [] h = absurd (h refl)
-        go (b ∷ s) h = rw (e, i)
+        go (b ∷ s) h = rw e
 
-    module _ (h : Head) (count p : ℕ) (e : f ≡ Record h count p) where
-      pub judge-stopped : (r : Refusal) (m o : ℕ) → r ≡ sole m o → g ≡ Stopped m o → read.Refused r ≡ answered text f g end
+    module _ (h : Head) (count p : ℕ) (e : f ≡ first.Record h count p) where
+      pub judge-rows : (u : Misfit) → g ≡ reach.Unfit u → parse.Unfit u ≡ answered text f g end
       unfolding answered
-      judge-stopped r m o i d = go text some-byte
+      judge-rows u d = go text some-byte
         where
-          go : (l : List ℕ) → (length l ≡ 0 → ⊥) → read.Refused r ≡ answered l f g end
+          go : (l : List ℕ) → (length l ≡ 0 → ⊥) → parse.Unfit u ≡ answered l f g end
           go [] h = absurd (h refl)
-          go (b ∷ s) h = rw (e, d, i)
+          go (b ∷ s) h = rw (e, d)
 
-      pub judge-after : (r : Refusal) (o : ℕ) → r ≡ sole 14 end → g ≡ Past o → end < length text → read.Refused r ≡ answered text f g end
-      judge-after r o i d w = go text some-byte w
+      pub judge-after : (o : ℕ) → g ≡ reach.Past o → end < length text → parse.Unfit (record { 0 = 14; 1 = end }) ≡ answered text f g end
+      judge-after o d w = go text some-byte w
         where
-          go : (l : List ℕ) → (length l ≡ 0 → ⊥) → end < length l → read.Refused r ≡ answered l f g end
+          go : (l : List ℕ) → (length l ≡ 0 → ⊥) → end < length l → parse.Unfit (record { 0 = 14; 1 = end }) ≡ answered l f g end
           go [] k w = absurd (k refl)
-          go (b ∷ s) k w = rw (e, d, answered-after b s h count p end o w, i)
+          go (b ∷ s) k w = rw (e, d, answered-after b s h count p end o w)
 
-      pub judge-chart : (o : ℕ) → g ≡ Past o → length text ≤ end → read.Chart h count ≡ answered text f g end
+      pub judge-chart : (o : ℕ) → g ≡ reach.Past o → length text ≤ end → parse.Chart h count ≡ answered text f g end
       judge-chart o d w = go text some-byte w
         where
-          go : (l : List ℕ) → (length l ≡ 0 → ⊥) → length l ≤ end → read.Chart h count ≡ answered l f g end
+          go : (l : List ℕ) → (length l ≡ 0 → ⊥) → length l ≤ end → parse.Chart h count ≡ answered l f g end
           go [] k w = absurd (k refl)
           go (b ∷ s) k w = rw (e, d, answered-whole b s h count p end o w)
 
@@ -259,26 +264,26 @@ pub record Spelt (text : List ℕ) (h : Head) (n : ℕ) : Type 0 where
   pub rows : length (rowNumbers text) ≡ 6 * n
   pub few : length (rowNumbers text) ≤ 768
 
-module _ (text : List ℕ) (a : Read) (is : toldRead a ≡ mapped heading (parsed text)) where
-  spelt-refused : (r : Refusal) → a ≡ read.Refused r → parsed text ≡ refused r
-  unfolding toldRead
-  spelt-refused r e = go (parsed text) (sym is ∙ rw e)
+module _ (text : List ℕ) (a : Parsed) (is : toldParsed a ≡ mapped heading (parsed text)) where
+  spelt-not : (u : Misfit) → a ≡ parse.Unfit u → parsed text ≡ refused (sole (u .0) (u .1))
+  unfolding toldParsed
+  spelt-not u e = go (parsed text) (sym is ∙ rw e)
     where
-      go : (x : Answer Chart) → mapped heading x ≡ refused r → x ≡ refused r
+      go : (x : Answer Chart) → mapped heading x ≡ refused (sole (u .0) (u .1)) → x ≡ refused (sole (u .0) (u .1))
       go (given C) e = absurd (different e)
       go (refused s) e = cc
 
-  pub spelt : (h : Head) (n : ℕ) → a ≡ read.Chart h n → Spelt text h n
-  unfolding toldRead
+  pub spelt : (h : Head) (n : ℕ) → a ≡ parse.Chart h n → Spelt text h n
+  unfolding toldParsed
   spelt h n e = go (parsed text) refl (walk-laid text) (parsed-shows text) (sym is ∙ rw e)
     where
       go : (x : Answer Chart) → parsed text ≡ x → OnGiven (λ (C : Chart). (C .table ≡ rowNumbers text) × (length (C .table) ≡ entriesOf (firstAt text 0))) x → OnGiven (Spells text) x
           → mapped heading x ≡ given (record { places = h .places; alarm = h .alarm; rows = n }) → Spelt text h n
       go (refused r) i l w g = absurd (different (sym g))
       go (given C) i l w g =
-          let p : C .places ≡ h .places = ap first g in
-          let q : C .alarm ≡ h .alarm = ap second g in
-          let z : size (C .table) ≡ n = ap third g in
+          let p : C .places ≡ h .places = ap numbered.first g in
+          let q : C .alarm ≡ h .alarm = ap numbered.second g in
+          let z : size (C .table) ≡ n = ap numbered.third g in
           let m : length (rowNumbers text) ≡ length (C .table) = ap length (sym (l .0)) in
           record {
             is = i ∙ (λ i. given (record { places = p i; alarm = q i; table = l .0 i }));
@@ -286,26 +291,36 @@ module _ (text : List ℕ) (a : Read) (is : toldRead a ≡ mapped heading (parse
             few = omega (arith, m, l .1, few-entries text);
           }
 
--- what the walk leaves at the front of its table are the rows, as many as are handed over
-module _ (text table rows spare : List ℕ) (h : Head) (n : ℕ) where
-  front : Spelt text h n → rows ≡ laid (rowNumbers text) spare → take (6 * n) rows ≡ rowNumbers text
-  front s l = rw l (take-at (rowNumbers text) _ (6 * n) (s .rows))
+-- what the walk leaves at the front of its table are the rows, as many as the chart has
+module _ (text rows spare : List ℕ) (h : Head) (n : ℕ) (s : Spelt text h n) (l : rows ≡ laid (rowNumbers text) spare) where
+  front : take (6 * n) rows ≡ rowNumbers text
+  front = rw l (take-at (rowNumbers text) _ (6 * n) (s .rows))
 
-  pub handed : length table ≡ 768 → Spelt text h n → rows ≡ laid (rowNumbers text) spare → (length (take (6 * n) rows) ≡ 6 * n) × (length (take (6 * n) rows) ≤ length table)
-  handed sized s l = let t = front s l in (rw t (s .rows), rw t (omega (arith, s .few)))
+  front-long : length (take (6 * n) rows) ≡ 6 * n
+  front-long = rw front (s .rows)
 
-module _ (text table : List ℕ) (sized : length table ≡ 768) (a : Read) (is : toldRead a ≡ mapped heading (parsed text)) where
-  pub read-unspelt : (r : Refusal) → a ≡ read.Refused r → ReadAs (readInto text table) (read.Refused r) table table
+  pub front-fits : (table : List ℕ) → length table ≡ 768 → length (take (6 * n) rows) ≤ length table
+  front-fits table sized = rw front (omega (arith, s .few))
+
+module _ (text table : List ℕ) (sized : length table ≡ 768) (a : Parsed) (is : toldParsed a ≡ mapped heading (parsed text)) where
+  pub read-unfit : (u : Misfit) (s : Refusal) → a ≡ parse.Unfit u → s ≡ sole (u .0) (u .1) → ReadAs (readInto text table) (read.Refused s) table table
   unfolding readText
-  read-unspelt r e = read-refused _ table r (read-sized text table sized ∙ rw (spelt-refused text a is r e))
+  read-unfit u s e i = read-refused _ table s (read-sized text table sized ∙ rw (spelt-not text a is u e, i))
 
-  pub read-spelt : (h : Head) (n : ℕ) (spare rows : List ℕ) (b : Read) (after : List ℕ) → a ≡ read.Chart h n → rows ≡ laid (rowNumbers text) spare
-      → ReadAs (unless (refusal (charted h (take (6 * n) rows))) (charted h (take (6 * n) rows))) b table after → ReadAs (readInto text table) b table after
-  unfolding readText
-  read-spelt h n spare rows b after e l g =
-      let s = spelt text a is h n e in
-      let t = front text table rows spare h n s l in
-      let w : length (rowNumbers text) % 6 ≡ 0 = omega (arith, s .rows) in
-      let i : readInto text table ≡ unless (refusal (charted h (rowNumbers text))) (charted h (rowNumbers text)) =
-      read-sized text table sized ∙ rw (s .is, whole-rows (charted h (rowNumbers text)) w) in
-      rw i (rw t at g)
+  module _ (h : Head) (n : ℕ) (spare rows : List ℕ) (e : a ≡ parse.Chart h n) (l : rows ≡ laid (rowNumbers text) spare) (j : Judged) (k : told j ≡ refusal (charted h (take (6 * n) rows))) where
+    read-judged : readInto text table ≡ unless (told j) (charted h (take (6 * n) rows))
+    unfolding readText
+    read-judged =
+        let s = spelt text a is h n e in
+        let w : length (rowNumbers text) % 6 ≡ 0 = omega (arith, s .rows) in
+        read-sized text table sized ∙ rw (s .is, k, front text rows spare h n s l, whole-rows (charted h (rowNumbers text)) w)
+
+    pub read-faulty : (r : Refusal) → j ≡ judged.Refused r → ReadAs (readInto text table) (read.Refused r) table table
+    read-faulty r d = read-refused _ table r (read-judged ∙ rw d)
+
+    pub read-chart : (after : List ℕ) → j ≡ judged.Faultless → after ≡ laid (take (6 * n) rows) table → ReadAs (readInto text table) (read.Chart h n) table after
+    unfolding filled toldRead
+    read-chart after d g =
+        let z : length (take (6 * n) rows) / 6 ≡ n = omega (arith, front-long text rows spare h n (spelt text a is h n e) l) in
+        let i : readInto text table ≡ given (charted h (take (6 * n) rows)) = read-judged ∙ rw d in
+        (rw (i, z), rw i g)

@@ -36,6 +36,10 @@ value x [] = x
 value x (d ∷ ds) = value (x * 10 + d) ds
 
 -- ---- numbers: "a number is judged when its digits end"
+-- a refusal of a text "gives number [..] position", here the offset
+abbrev pub unfit : ℕ → ℕ → Field
+unfit n p = Unfit (record { 0 = n; 1 = p })
+
 -- "The first record is n, alarm, row count, 0, 0, 0; then the rows": what a field may hold, by its number
 unfoldable pub kind : ℕ → Kind
 kind k = getD (Plain ∷ Plain ∷ Count ∷ Spare ∷ Spare ∷ Spare ∷ []) k Plain
@@ -43,12 +47,12 @@ kind k = getD (Plain ∷ Plain ∷ Count ∷ Spare ∷ Spare ∷ Spare ∷ []) k
 -- "13 [..] a non-zero spare in the first record (offset of its first digit)"; "A row count above 128 that isn't 13 is 2, at its first digit"
 unfoldable pub judged : Kind → ℕ → ℕ → ℕ → Field
 judged Plain first next x = Number x next
-judged Count first next x = elim (leb x 128) [ true ↦ Number x next | false ↦ Unfit 2 first ]
-judged Spare first next x = elim (eqb x 0) [ true ↦ Number x next | false ↦ Unfit 13 first ]
+judged Count first next x = elim (leb x 128) [ true ↦ Number x next | false ↦ unfit 2 first ]
+judged Spare first next x = elim (eqb x 0) [ true ↦ Number x next | false ↦ unfit 13 first ]
 
 -- "13 [..] above 4294967295"
 unfoldable pub bounded : Kind → ℕ → ℕ → ℕ → Field
-bounded sort first next x = elim (leb x 4294967295) [ true ↦ judged sort first next x | false ↦ Unfit 13 first ]
+bounded sort first next x = elim (leb x 4294967295) [ true ↦ judged sort first next x | false ↦ unfit 13 first ]
 
 abbrev pub more : List ℕ → Bool
 more [] = false
@@ -57,11 +61,11 @@ more (d ∷ ds) = true
 -- "13 leading zero": the number that is x up to an offset, and has these digits from there on
 unfoldable pub ended : Kind → ℕ → ℕ → ℕ → List ℕ → Field
 ended sort first at x ds =
-    elim (eqb x 0 && more ds) [ true ↦ Unfit 13 first | false ↦ bounded sort first (at + length ds) (value x ds) ]
+    elim (eqb x 0 && more ds) [ true ↦ unfit 13 first | false ↦ bounded sort first (at + length ds) (value x ds) ]
 
 -- "a field is 1 or more digits": no digit is "12 a byte that doesn't fit, or an end within a record (its offset)"
 unfoldable pub numberOf : Kind → ℕ → List ℕ → Field
-numberOf sort first [] = Unfit 12 first
+numberOf sort first [] = unfit 12 first
 numberOf sort first (d ∷ ds) = ended sort first (first + 1) d ds
 
 unfoldable pub numberAt : Kind → List ℕ → ℕ → Field
@@ -70,8 +74,8 @@ numberAt sort text first = numberOf sort first (digits (drop first text))
 -- ---- fields
 -- the number, if the byte b follows it; another byte, or the end, is 12
 unfoldable pub followed : ℕ → List ℕ → Field → Field
-followed b text (Unfit n p) = Unfit n p
-followed b text (Number x p) = elim (eqb (byteAt text p) b) [ true ↦ Number x (p + 1) | false ↦ Unfit 12 p ]
+followed b text (Unfit u) = Unfit u
+followed b text (Number x p) = elim (eqb (byteAt text p) b) [ true ↦ Number x (p + 1) | false ↦ unfit 12 p ]
 
 -- "perhaps within double quotes"
 unfoldable pub fieldAt : Kind → List ℕ → ℕ → Field
@@ -80,7 +84,7 @@ fieldAt sort text at =
 
 -- "Records [..] end in CRLF (the last one optionally)": the number, if the text ends after it, or CRLF follows
 unfoldable pub lineEnd : List ℕ → Field → Field
-lineEnd text (Unfit n p) = Unfit n p
+lineEnd text (Unfit u) = Unfit u
 lineEnd text (Number x p) =
     elim (leb (length text) p) [ true ↦ Number x p | false ↦ followed 10 text (followed 13 text (Number x p)) ]
 
@@ -95,4 +99,4 @@ missing k text at = eqb (k % 6) 0 && leb (length text) at
 -- Field k at an offset, with what follows it; missing records are 14, at the text's "length"
 unfoldable pub itemAt : ℕ → List ℕ → ℕ → Field
 itemAt k text at =
-    elim (missing k text at) [ true ↦ Unfit 14 (length text) | false ↦ closed k text (fieldAt (kind k) text at) ]
+    elim (missing k text at) [ true ↦ unfit 14 (length text) | false ↦ closed k text (fieldAt (kind k) text at) ]

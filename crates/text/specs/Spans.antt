@@ -15,7 +15,7 @@ pub record Span : Type 0 where
 -- what follows a number and the offset after it; a refusal stays
 abbrev pub onField : {A : Type 0} → Field → (ℕ → ℕ → Answer A) → Answer A
 onField (Number x p) f = f x p
-onField (Unfit n p) f = refused (sole n p)
+onField (Unfit u) f = refused (sole (u .0) (u .1))
 
 -- So many fields, from field k at an offset on, behind the numbers read before them. "Leftmost first": a refusal ends the reading.
 unfoldable pub fieldsAt : ℕ → ℕ → List ℕ → ℕ → List ℕ → Answer Span

@@ -11,10 +11,13 @@ pub enum Kind {
     Spare,
 }
 
-// A number and the offset after it, or the refusal and its offset.
+// Where a text does not fit: the number of the rule that fails there, and the offset.
+pub struct Misfit(pub u32, pub usize);
+
 pub enum Field {
+    // A number and the offset after it.
     Number(u32, usize),
-    Unfit(u32, usize),
+    Unfit(Misfit),
 }
 
 // What a field may hold, by its number in the text: first those of the rows, which are nearly all.
@@ -66,13 +69,13 @@ fn judge(field: usize, first: usize, next: usize, x: u32) -> Field
             if x <= 128 {
                 return Field::Number(x, next);
             }
-            Field::Unfit(2, first)
+            Field::Unfit(Misfit(2, first))
         }
         Kind::Spare => {
             if x == 0 {
                 return Field::Number(x, next);
             }
-            Field::Unfit(13, first)
+            Field::Unfit(Misfit(13, first))
         }
     }
 }
@@ -83,12 +86,12 @@ fn number_at(text: &[u8], first: usize, field: usize) -> Field
 {
     let mut value = digit(text, first);
     if 9 < value {
-        return Field::Unfit(12, first);
+        return Field::Unfit(Misfit(12, first));
     }
     let mut at = first + 1;
     if value == 0 {
         if digit(text, at) <= 9 {
-            return Field::Unfit(13, first);
+            return Field::Unfit(Misfit(13, first));
         }
         return judge(field, first, at, 0);
     }
@@ -98,7 +101,7 @@ fn number_at(text: &[u8], first: usize, field: usize) -> Field
             return judge(field, first, at, value);
         }
         if !has_room(value, d) {
-            return Field::Unfit(13, first);
+            return Field::Unfit(Misfit(13, first));
         }
         value = value * 10 + d;
         at += 1;
@@ -110,15 +113,15 @@ fn follow(text: &[u8], f: Field, b: u8) -> Field
     ensures { λ r. ⌜ r ≡ followed b (now (text .entry)) f ⌝ }
 {
     match f {
-        Field::Unfit(n, p) => Field::Unfit(n, p),
+        Field::Unfit(u) => Field::Unfit(u),
         Field::Number(x, p) => {
             if text.len() <= p {
-                return Field::Unfit(12, p);
+                return Field::Unfit(Misfit(12, p));
             }
             if text[p] == b {
                 return Field::Number(x, p + 1);
             }
-            Field::Unfit(12, p)
+            Field::Unfit(Misfit(12, p))
         }
     }
 }
@@ -128,7 +131,7 @@ fn field_at(text: &[u8], at: usize, field: usize) -> Field
     ensures { λ r. ⌜ r ≡ fieldAt (kind field) (now (text .entry)) at ⌝ }
 {
     if text.len() <= at {
-        return Field::Unfit(12, at);
+        return Field::Unfit(Misfit(12, at));
     }
     if text[at] == 34 {
         let f = number_at(text, at + 1, field);
@@ -142,7 +145,7 @@ fn line_end(text: &[u8], f: Field) -> Field
     ensures { λ r. ⌜ r ≡ lineEnd (now (text .entry)) f ⌝ }
 {
     match f {
-        Field::Unfit(n, p) => Field::Unfit(n, p),
+        Field::Unfit(u) => Field::Unfit(u),
         Field::Number(x, p) => {
             if text.len() <= p {
                 return Field::Number(x, p);
@@ -158,7 +161,7 @@ fn close(text: &[u8], f: Field, field: usize) -> Field
     ensures { λ r. ⌜ r ≡ closed field (now (text .entry)) f ⌝ }
 {
     match f {
-        Field::Unfit(n, p) => Field::Unfit(n, p),
+        Field::Unfit(u) => Field::Unfit(u),
         Field::Number(x, p) => {
             if field % 6 == 5 {
                 return line_end(text, Field::Number(x, p));
@@ -183,7 +186,7 @@ pub fn item_at(text: &[u8], at: usize, field: usize) -> Field
     ensures { λ r. ⌜ r ≡ itemAt field (now (text .entry)) at ⌝ }
 {
     if is_missing(text, at, field) {
-        return Field::Unfit(14, text.len());
+        return Field::Unfit(Misfit(14, text.len()));
     }
     let f = field_at(text, at, field);
     close(text, f, field)

@@ -15,7 +15,8 @@ use answers::Wrote;
 use base::sole;
 use chart::charts::Head;
 use chart::charts::Judged;
-use inner::reader::hand_over;
+use inner::reader::Parsed;
+use inner::table::copy;
 use inner::walk::parse;
 use inner::writer::put_chart;
 
@@ -36,8 +37,17 @@ pub fn read(text: &[u8], table: &mut [u32]) -> Read
     }
     let mut rows = [0u32; 768];
     match parse(text, &mut rows) {
-        Read::Refused(r) => Read::Refused(r),
-        Read::Chart(head, count) => hand_over(head, &rows[..6 * count], count, table),
+        Parsed::Unfit(u) => Read::Refused(sole(u.0, u.1)),
+        Parsed::Chart(head, count) => {
+            let front = &rows[..6 * count];
+            match chart::judge(head, front) {
+                Judged::Refused(r) => Read::Refused(r),
+                Judged::Faultless => {
+                    copy(front, table);
+                    Read::Chart(head, count)
+                }
+            }
+        }
     }
 }
 

@@ -2,7 +2,7 @@
 use lib.ListN.{length-take}
 use Rattle.text.proofs.Told.{read-unsized}
 use Rattle.text.proofs.Filed.{read-said}
-use Rattle.text.proofs.Walking.{spelt, handed, read-unspelt, read-spelt}
+use Rattle.text.proofs.Walking.{spelt, front-fits, read-unfit, read-faulty, read-chart}
 use borrow.Author.Needs.{needs}
 use native.Mathlib.Omega.{arith}
 use Rattle.text.proofs.read.Statement.{statement}
@@ -20,8 +20,11 @@ slice-aggregate-parse c = search needs
 parse-requires : tie.Need-parse-requires
 parse-requires c κs = search needs
 
-enum-known-r : tie.Need-enum-known-r
-enum-known-r c = search needs
+enum-known-u : tie.Need-enum-known-u
+enum-known-u c = search needs
+
+sole-requires-2 : tie.Need-sole-requires-2
+sole-requires-2 c κs = search needs
 
 enum-known-head : tie.Need-enum-known-head
 enum-known-head c = search needs
@@ -32,20 +35,32 @@ mul-rows c = let s = spelt _ _ (c .before .before .before .before .parse .ensure
 array-share-prefix-rows : tie.Need-array-share-prefix-rows
 array-share-prefix-rows c = let s = spelt _ _ (c .before .before .before .before .parse .ensures .0) _ _ (c .before .head .given .1) in omega (arith, s .rows, s .few)
 
-slice-aggregate-hand-over : tie.Need-slice-aggregate-hand-over
-slice-aggregate-hand-over c = let s = spelt _ _ (c .before .before .before .before .before .parse .ensures .0) _ _ (c .before .before .head .given .1) in simp length-take (omega (arith, s .rows, s .few))
+slice-aggregate-front : tie.Need-slice-aggregate-front
+slice-aggregate-front c = let s = spelt _ _ (c .before .before .before .before .before .parse .ensures .0) _ _ (c .before .before .head .given .1) in simp length-take (omega (arith, s .rows, s .few))
 
-hand-over-requires : tie.Need-hand-over-requires
-hand-over-requires c κs = handed _ (c .before .before .before .before .before .before .before .before .before .before .before .args .table .now) _ _ _ _ (c .before .before .before .before .before .before .before .before .if1 .left) (spelt _ _ (c .before .before .before .before .before .before .parse .ensures .0) _ _ (c .before .before .before .head .given .1)) (c .before .before .before .before .before .before .parse .ensures .1)
+judge-requires : tie.Need-judge-requires
+judge-requires c κs = search needs
+
+enum-known-r : tie.Need-enum-known-r
+enum-known-r c = search needs
+
+enum-told : tie.Need-enum-told
+enum-told c = search needs
+
+copy-requires : tie.Need-copy-requires
+copy-requires c κs = front-fits _ _ _ _ _ (spelt _ _ (c .before .before .before .before .before .before .before .before .before .parse .ensures .0) _ _ (c .before .before .before .before .before .before .head .given .1)) (c .before .before .before .before .before .before .before .before .before .parse .ensures .1) (c .before .before .before .before .before .before .before .before .before .before .before .before .before .before .args .table .now) (c .before .before .before .before .before .before .before .before .before .before .before .if1 .left)
 
 returns-2 : tie.Need-returns-2
-returns-2 c = read-said _ _ _ _ (read-unspelt _ _ (c .before .before .before .before .before .before .if1 .left) _ (c .before .before .before .before .parse .ensures .0) _ (c .before .r .given .1))
+returns-2 c = read-said _ _ _ _ (read-unfit _ _ (c .before .before .before .before .before .before .before .if1 .left) _ (c .before .before .before .before .before .parse .ensures .0) _ _ (c .before .before .u .given .1) (c .sole2 .ensures))
+
+returns-3 : tie.Need-returns-3
+returns-3 c = read-said _ _ _ _ (read-faulty _ _ (c .before .before .before .before .before .before .before .before .before .before .before .if1 .left) _ (c .before .before .before .before .before .before .before .before .before .parse .ensures .0) _ _ _ _ (c .before .before .before .before .before .before .head .given .1) (c .before .before .before .before .before .before .before .before .before .parse .ensures .1) _ (c .before .before .before .judge .ensures) _ (c .before .r .given .1))
 
 same-length : tie.Need-same-length
 same-length c = search needs
 
-returns-3 : tie.Need-returns-3
-returns-3 c = read-said _ _ _ _ (read-spelt _ _ (c .before .before .before .before .before .before .before .before .before .before .before .if1 .left) _ (c .before .before .before .before .before .before .before .before .before .parse .ensures .0) _ _ _ _ _ _ (c .before .before .before .before .before .before .head .given .1) (c .before .before .before .before .before .before .before .before .before .parse .ensures .1) (c .before .before .hand-over .ensures))
+returns-4 : tie.Need-returns-4
+returns-4 c = read-said _ _ _ _ (read-chart _ _ (c .before .before .before .before .before .before .before .before .before .before .before .before .before .before .if1 .left) _ (c .before .before .before .before .before .before .before .before .before .before .before .before .parse .ensures .0) _ _ _ _ (c .before .before .before .before .before .before .before .before .before .head .given .1) (c .before .before .before .before .before .before .before .before .before .before .before .before .parse .ensures .1) _ (c .before .before .before .before .before .before .judge .ensures) _ (c .before .before .before .before .enum-told .given .1) (c .before .before .copy .ensures))
 
 pub read-spec : {M : Type 1} → statement M
 read-spec =
@@ -55,12 +70,17 @@ read-spec =
     returns
     slice-aggregate-parse
     parse-requires
-    enum-known-r
+    enum-known-u
+    sole-requires-2
     enum-known-head
     mul-rows
     array-share-prefix-rows
-    slice-aggregate-hand-over
-    hand-over-requires
+    slice-aggregate-front
+    judge-requires
+    enum-known-r
+    enum-told
+    copy-requires
     returns-2
+    returns-3
     same-length
-    returns-3)
+    returns-4)

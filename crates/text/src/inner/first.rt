@@ -1,6 +1,7 @@
 // The first record of a text: "n, alarm, row count, 0, 0, 0".
 ghost use mathlib.Core.Path.{_≡_};
 ghost use Rattle.text.specs.Walk.{firstAt, pastFirst, entriesOf};
+use crate::fields::Misfit;
 use crate::inner::table::Reach;
 use crate::inner::table::fields_into;
 use chart::charts::Head;
@@ -8,8 +9,7 @@ use chart::charts::Head;
 pub enum First {
     // The chart's head, its row count and the offset after the record.
     Record(Head, u32, usize),
-    // The number of the refusal and its offset.
-    Unread(u32, usize),
+    Unfit(Misfit),
 }
 
 // The first record, at an offset.
@@ -18,7 +18,7 @@ pub fn first_at(text: &[u8], at: usize) -> First
 {
     let mut numbers = [0u32; 6];
     match fields_into(text, at, 0, 6, &mut numbers) {
-        Reach::Stopped(number, position) => First::Unread(number, position),
+        Reach::Unfit(u) => First::Unfit(u),
         Reach::Past(next) => {
             let head = Head {
                 places: numbers[0],
@@ -35,16 +35,16 @@ pub fn after_first(f: First, at: usize) -> usize
 {
     match f {
         First::Record(_, _, p) => p,
-        First::Unread(_, _) => at,
+        First::Unfit(_) => at,
     }
 }
 
-// How many entries its rows have: none where it was refused.
+// How many entries its rows have: none where it does not fit.
 pub fn entries(f: First) -> usize
     ensures { λ r. ⌜ r ≡ entriesOf f ⌝ }
 {
     match f {
         First::Record(_, count, _) => 6 * (count as usize),
-        First::Unread(_, _) => 0,
+        First::Unfit(_) => 0,
     }
 }

@@ -5,12 +5,13 @@ ghost use Prim.Native.Nat.{_+_, _<_, _≤_};
 ghost use lib.ListN.{length, drop, set};
 ghost use Rattle.text.specs.Walk.{numbersAt, laid, reachAt, reached};
 use crate::fields::Field;
+use crate::fields::Misfit;
 use crate::fields::item_at;
 
-// The offset after the fields read, or the refusal and its offset.
 pub enum Reach {
+    // The offset after the fields read.
     Past(usize),
-    Stopped(u32, usize),
+    Unfit(Misfit),
 }
 
 // One number into a table.
@@ -21,7 +22,7 @@ fn put(table: &mut [u32], i: usize, x: u32)
     table[i] = x;
 }
 
-// So many fields of a text, from this field at an offset on, into the front of a table: up to the first refusal, and the
+// So many fields of a text, from this field at an offset on, into the front of a table: as far as they fit, and the
 // rest of the table stays.
 pub fn fields_into(text: &[u8], at: usize, field: usize, n: usize, table: &mut [u32]) -> Reach
     requires { ⌜ (n ≤ length (now table)) × (field + n ≤ 774) ⌝ }
@@ -32,8 +33,8 @@ pub fn fields_into(text: &[u8], at: usize, field: usize, n: usize, table: &mut [
     let mut i = 0;
     while i < n {
         match item_at(text, p, field + i) {
-            Field::Unfit(number, position) => {
-                return Reach::Stopped(number, position);
+            Field::Unfit(u) => {
+                return Reach::Unfit(u);
             }
             Field::Number(x, next) => {
                 put(table, i, x);
@@ -51,7 +52,7 @@ pub fn after_fields(f: Reach, at: usize) -> usize
 {
     match f {
         Reach::Past(p) => p,
-        Reach::Stopped(_, _) => at,
+        Reach::Unfit(_) => at,
     }
 }
 

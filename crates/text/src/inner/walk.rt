@@ -5,13 +5,13 @@ ghost use mathlib.Core.Path.{_≡_};
 ghost use Prim.Native.Nat.{_≤_};
 ghost use lib.ListN.{length};
 ghost use Rattle.base.specs.Chains.{mapped};
-ghost use Rattle.text.specs.Texts.{parsed, heading, toldRead};
-ghost use Rattle.text.specs.Walk.{numbersAt, laid, reachAt, reached, firstAt, pastFirst, rowNumbers};
-use crate::answers::Read;
+ghost use Rattle.text.specs.Texts.{parsed, heading};
+ghost use Rattle.text.specs.Walk.{numbersAt, laid, reachAt, reached, firstAt, pastFirst, rowNumbers, toldParsed};
 use crate::inner::first::First;
 use crate::inner::first::after_first;
 use crate::inner::first::entries;
 use crate::inner::first::first_at;
+use crate::inner::reader::Parsed;
 use crate::inner::reader::judge;
 use crate::inner::table::Reach;
 use crate::inner::table::after_fields;
@@ -53,11 +53,11 @@ pub fn rows<'s, 'a, 't>(r: &'s mut Reader<'a>, n: usize, table: &'t mut [u32]) -
     f
 }
 
-// The chart that a text spells, before its faults are judged: head and row count, or the text's refusal. The rows go to
-// the front of a table.
-pub fn parse(text: &[u8], table: &mut [u32]) -> Read
+// The chart that a text spells, before its faults are judged: head and row count, or where the text does not fit. The
+// rows go to the front of a table.
+pub fn parse(text: &[u8], table: &mut [u32]) -> Parsed
     requires { ⌜ length (now table) ≡ 768 ⌝ }
-    ensures { λ r. ⌜ (toldRead r ≡ mapped heading (parsed (now (text .entry))))
+    ensures { λ r. ⌜ (toldParsed r ≡ mapped heading (parsed (now (text .entry))))
         × (now (table .exit) ≡ laid (rowNumbers (now (text .entry))) (now (table .entry))) ⌝ }
 {
     let mut r = new(text, 0);

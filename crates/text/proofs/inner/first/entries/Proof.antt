@@ -1,5 +1,5 @@
 -- `text::inner::first::entries` meets its contract: answer by answer. Assumes nothing.
-use Rattle.text.proofs.Walking.{entries-record, entries-unread}
+use Rattle.text.proofs.Walking.{entries-record, entries-unfit}
 use borrow.Author.Needs.{needs}
 use Rattle.text.proofs.inner.first.entries.Statement.{statement}
 use Rattle.text.proofs.inner.first.entries.Tie as tie
@@ -20,7 +20,7 @@ returns : tie.Need-returns
 returns c = search entries-record
 
 returns-2 : tie.Need-returns-2
-returns-2 c = search entries-unread
+returns-2 c = search entries-unfit
 
 pub entries-spec : {M : Type 1} → statement M
 entries-spec = tie.close (tie.spec enum-known-f cast-result mul-result enum-told returns returns-2)

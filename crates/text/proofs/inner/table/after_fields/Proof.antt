@@ -1,5 +1,5 @@
 -- `text::inner::table::after_fields` meets its contract: answer by answer. Assumes nothing.
-use Rattle.text.proofs.Tables.{reached-past, reached-stopped}
+use Rattle.text.proofs.Tables.{reached-past, reached-unfit}
 use borrow.Author.Needs.{needs}
 use Rattle.text.proofs.inner.table.after_fields.Statement.{statement}
 use Rattle.text.proofs.inner.table.after_fields.Tie as tie
@@ -14,7 +14,7 @@ returns : tie.Need-returns
 returns c = search reached-past
 
 returns-2 : tie.Need-returns-2
-returns-2 c = search reached-stopped
+returns-2 c = search reached-unfit
 
 pub after-fields-spec : {M : Type 1} → statement M
 after-fields-spec = tie.close (tie.spec enum-known-f enum-told returns returns-2)

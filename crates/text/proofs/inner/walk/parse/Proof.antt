@@ -32,12 +32,12 @@ use denote.Triple.Spec.{Meets, tripleOf}
 use denote.Triple.Table.{entered, cited}
 use denote.Exit.{yes}
 use Rattle.base.specs.Chains.{mapped}
-use Rattle.text.specs.Texts.{parsed, heading, toldRead}
-use Rattle.text.specs.Walk.{numbersAt, laid, reachAt, reached, firstAt, pastFirst, entriesOf, rowNumbers, answered}
-use Rattle.text.specs.declared.answers.Read.{Read}
+use Rattle.text.specs.Texts.{parsed, heading}
+use Rattle.text.specs.Walk.{numbersAt, laid, reachAt, reached, firstAt, pastFirst, entriesOf, rowNumbers, answered, toldParsed}
 use Rattle.text.specs.declared.inner.walk.Reader.{Reader}
 use Rattle.text.specs.declared.inner.first.First.{First}
 use Rattle.text.specs.declared.inner.table.Reach.{Reach}
+use Rattle.text.specs.declared.inner.reader.Parsed.{Parsed}
 use Rattle.text.proofs.Walking.{few-entries, walk-is}
 use Rattle.text.proofs.inner.walk.Reader as T
 use Rattle.text.proofs.inner.walk.Reader.Laws as T′
@@ -45,8 +45,8 @@ use Rattle.text.proofs.inner.first.First as F
 use Rattle.text.proofs.inner.first.First.Laws as F′
 use Rattle.text.proofs.inner.table.Reach as G
 use Rattle.text.proofs.inner.table.Reach.Laws as G′
-use Rattle.text.proofs.answers.Read as Z
-use Rattle.text.proofs.answers.Read.Laws as Z′
+use Rattle.text.proofs.inner.reader.Parsed as Z
+use Rattle.text.proofs.inner.reader.Parsed.Laws as Z′
 use mir.Syntax.{named, erased, w64, tyInt}
 use base.Logic.{SProp, ent, sep, snd∗, exE, id⊢}
 use base.Fml.{GName, Lft, Share, Fml, ftrue, flft, fsep, fat, fdead, flent}
@@ -221,14 +221,14 @@ module _ {M : Type 1} (𝓤 : URA M) (H : Heap 𝓤) (A : Atoms 𝓤) (W : Given
   asked-judge : (f : First) (g : Reach) (e : ℕ) (u w : Val) → ent 𝓤 (onEntry 𝓤 H A judge.signature (κ, tt) (q, tt) (judge-args f g e) (judge-vals u w e)) (Judge 𝓤 H A at-mem run .pre (to-judge f g e u w))
   asked-judge f g e u w = qed W ((‵ (flft κ q) ⊛ ‵ ftrue) ∷ ‵ (owns (ShrSlice (named 0) κ u8 ∷ F.the-row ∷ G.the-row ∷ usize ∷ []) (judge-args f g e) (judge-vals u w e)) ∷ []) ∵ join ! $ frame ! $ done !
 
-  judge-said : (f : First) (g : Reach) (e : ℕ) (a : Read) → ent 𝓤 (ensured 𝓤 H A judge.ended (judge.clauses 𝓤 H A at-mem run) (κ, tt) (judge-args f g e) tt a) (fact 𝓤 (a ≡ answered (now s) f g e))
+  judge-said : (f : First) (g : Reach) (e : ℕ) (a : Parsed) → ent 𝓤 (ensured 𝓤 H A judge.ended (judge.clauses 𝓤 H A at-mem run) (κ, tt) (judge-args f g e) tt a) (fact 𝓤 (a ≡ answered (now s) f g e))
   judge-said f g e a = exE 𝓤 _ (λ ws. snd∗ 𝓤 (sem 𝓤 H A (lasts judge.ended (κ, tt) (judge-args f g e) ws)) (fact 𝓤 (a ≡ answered (now s) f g e)))
 
-  abbrev Parsed : Read → List ℕ → Type 0
-  Parsed a zs = (toldRead a ≡ mapped heading (parsed (now s))) × (zs ≡ laid (rowNumbers (now s)) ys)
+  abbrev Said : Parsed → List ℕ → Type 0
+  Said a zs = (toldParsed a ≡ mapped heading (parsed (now s))) × (zs ≡ laid (rowNumbers (now s)) ys)
 
   -- what the callees say together: the struct r that `new` makes, h that `first` leaves and i that `rows` leaves
-  together : (r h i : Reader) (f : First) (n : ℕ) (g : Reach) (zs : List ℕ) (a : Read) → (r .text ≡ s) × (r .at ≡ 0) → First-said r f h → n ≡ entriesOf f → Rows-said h n g i zs → a ≡ answered (now s) f g (i .at) → Parsed a zs
+  together : (r h i : Reader) (f : First) (n : ℕ) (g : Reach) (zs : List ℕ) (a : Parsed) → (r .text ≡ s) × (r .at ≡ 0) → First-said r f h → n ≡ entriesOf f → Rows-said h n g i zs → a ≡ answered (now s) f g (i .at) → Said a zs
   together r h i f n g zs a e e₁ e₂ e₃ e₄ =
       let f₁ : f ≡ firstAt (now s) 0 = e₁ .0 ∙ (ap (λ (y : RefT (List ℕ)). firstAt (now y) (r .at)) (e .0) ∙ ap (firstAt (now s)) (e .1)) in
       let p : h .at ≡ pastFirst f 0 = e₁ .1 .1 ∙ ap (pastFirst f) (e .1) in
@@ -244,7 +244,7 @@ module _ {M : Type 1} (𝓤 : URA M) (H : Heap 𝓤) (A : Atoms 𝓤) (W : Given
       let few : n ≤ 768 = rw (e₂, f₁) (few-entries (now s)) in
       (omega (arith, sized, few), few)
 
-  exits : (a : Read) (w : Val) (zs : List ℕ) → Parsed a zs → length zs ≡ length ys → ent 𝓤 (⋆ 𝓤 H A (‵ (Z.the-row .own a (w ∷ [])) ∷ (‵ (flft κ q) ⊛ ‵ (flft κ″ q″) ⊛ ‵ ftrue) ∷ ‵ Own ∷ ‵ (finally u32 γ″ zs) ∷ [])) (Post w)
+  exits : (a : Parsed) (w : Val) (zs : List ℕ) → Said a zs → length zs ≡ length ys → ent 𝓤 (⋆ 𝓤 H A (‵ (Z.the-row .own a (w ∷ [])) ∷ (‵ (flft κ q) ⊛ ‵ (flft κ″ q″) ⊛ ‵ ftrue) ∷ ‵ Own ∷ ‵ (finally u32 γ″ zs) ∷ [])) (Post w)
   exits a w zs e l =
       qed W (‵ (Z.the-row .own a (w ∷ [])) ∷ (‵ (flft κ q) ⊛ ‵ (flft κ″ q″) ⊛ ‵ ftrue) ∷ ‵ Own ∷ ‵ (finally u32 γ″ zs) ∷ []) ∵
       suffices ! _ (ends-at 𝓤 H A parse.ended stayed (parse.clauses 𝓤 H A at-mem run) W (((κ, (κ″, tt)), (q, (q″, tt)), tt, (s, (t, tt)), at), tt) w a (tt, (zs, tt)) (tt, (l, tt))) $ says ! e $
@@ -328,7 +328,7 @@ module _ {M : Type 1} (𝓤 : URA M) (H : Heap 𝓤) (A : Atoms 𝓤) (W : Given
         move ! (3 ∷ []) $ nothing ! $ move ! (1 ∷ 0 ∷ []) $ join ! $ use2 W (raw (Judge 𝓤 H A at-mem run .pre (to-judge f g (ks .0 .at) w w₂))) (asked-judge f g (ks .0 .at) w w₂) $
         -- [what `judge` asks; what text owns; what the struct owns; the table's token; _3; the last list; true; n; true; true; true; _12; …; _4; …; _3's end; _2; …; _1; …; room for _0; …]
         calls-at ! fm (Judge 𝓤 H A at-mem run) known-judge (to-judge f g (ks .0 .at) w w₂) (and-then ! (load ! (from ! (stop !)) (look ! 32 refl)) (and-then ! (load ! (from ! (stop !)) (look ! 27 refl)) (and-then ! (load ! (from ! (stop !)) (look ! 23 refl)) (and-then ! (load ! (from ! (stop !)) (look ! 11 refl)) (no-more !))))) (λ w₃.
-        use1 W (later (some (λ (a : Read). ((‵ (flft κ q) ⊛ ‵ ftrue) ⊛ ‵ (Z.the-row .own a (w₃ ∷ []))) ⊛ raw (ensured 𝓤 H A judge.ended (judge.clauses 𝓤 H A at-mem run) (κ, tt) (judge-args f g (ks .0 .at)) tt a)))) (id⊢ 𝓤 _) $ await ! tt $ pick ! (λ a.
+        use1 W (later (some (λ (a : Parsed). ((‵ (flft κ q) ⊛ ‵ ftrue) ⊛ ‵ (Z.the-row .own a (w₃ ∷ []))) ⊛ raw (ensured 𝓤 H A judge.ended (judge.clauses 𝓤 H A at-mem run) (κ, tt) (judge-args f g (ks .0 .at)) tt a)))) (id⊢ 𝓤 _) $ await ! tt $ pick ! (λ a.
         split ! $ move ! (1 ∷ []) $ use1 W (raw (fact 𝓤 (a ≡ answered (now s) f g (ks .0 .at)))) (judge-said f g (ks .0 .at) a) $ heard ! (a ≡ answered (now s) f g (ks .0 .at)) (λ e₄. split ! $ move ! (1 ∷ []) $
         -- [the answer; the token; what text owns; what the struct owns; the table's token; _3; the last list; true; n; true; true; true; _12; …; _4; …; _3's end; _2; …; _1; …; room for _0; …]
         peeks ! Z.the-row (Is Z.the-row) (shows 𝓤 H A Z.the-row) a (w₃ ∷ []) (λ isa.
