@@ -1,4 +1,5 @@
--- `text::read` meets its contract: a law for each way through it. Assumes nothing.
+-- `text::read` meets its contract: a law for each way through it. What is known where the text was parsed is p, where a
+-- chart was spelt h, where it was judged j. Assumes nothing.
 use lib.ListN.{length-take}
 use Rattle.text.proofs.Told.{read-unsized}
 use Rattle.text.proofs.Filed.{read-said}
@@ -30,13 +31,13 @@ enum-known-head : tie.Need-enum-known-head
 enum-known-head c = search needs
 
 mul-rows : tie.Need-mul-rows
-mul-rows c = let s = spelt _ _ (c .before .before .before .before .parse .ensures .0) _ _ (c .before .head .given .1) in omega (arith, s .rows, s .few)
+mul-rows c = let h = c .before in let p = h .before .before .before in let s = spelt _ _ (p .parse .ensures .0) _ _ (h .head .given .1) in omega (arith, s .rows, s .few)
 
 array-share-prefix-rows : tie.Need-array-share-prefix-rows
-array-share-prefix-rows c = let s = spelt _ _ (c .before .before .before .before .parse .ensures .0) _ _ (c .before .head .given .1) in omega (arith, s .rows, s .few)
+array-share-prefix-rows c = let h = c .before in let p = h .before .before .before in let s = spelt _ _ (p .parse .ensures .0) _ _ (h .head .given .1) in omega (arith, s .rows, s .few)
 
 slice-aggregate-front : tie.Need-slice-aggregate-front
-slice-aggregate-front c = let s = spelt _ _ (c .before .before .before .before .before .parse .ensures .0) _ _ (c .before .before .head .given .1) in simp length-take (omega (arith, s .rows, s .few))
+slice-aggregate-front c = let h = c .before .before in let p = h .before .before .before in let s = spelt _ _ (p .parse .ensures .0) _ _ (h .head .given .1) in simp length-take (omega (arith, s .rows, s .few))
 
 judge-requires : tie.Need-judge-requires
 judge-requires c κs = search needs
@@ -48,19 +49,19 @@ enum-told : tie.Need-enum-told
 enum-told c = search needs
 
 copy-requires : tie.Need-copy-requires
-copy-requires c κs = front-fits _ _ _ _ _ (spelt _ _ (c .before .before .before .before .before .before .before .before .before .parse .ensures .0) _ _ (c .before .before .before .before .before .before .head .given .1)) (c .before .before .before .before .before .before .before .before .before .parse .ensures .1) (c .before .before .before .before .before .before .before .before .before .before .before .before .before .before .args .table .now) (c .before .before .before .before .before .before .before .before .before .before .before .if1 .left)
+copy-requires c κs = let h = c .before .before .before .before .before .before in let p = h .before .before .before in front-fits _ _ _ _ _ (spelt _ _ (p .parse .ensures .0) _ _ (h .head .given .1)) (p .parse .ensures .1) (p .before .before .before .before .before .args .table .now) (p .before .before .if1 .left)
 
 returns-2 : tie.Need-returns-2
-returns-2 c = read-said _ _ _ _ (read-unfit _ _ (c .before .before .before .before .before .before .before .if1 .left) _ (c .before .before .before .before .before .parse .ensures .0) _ _ (c .before .before .u .given .1) (c .sole2 .ensures))
+returns-2 c = let p = c .before .before .before .before .before in read-said _ _ _ _ (read-unfit _ _ (p .before .before .if1 .left) _ (p .parse .ensures .0) _ _ (c .before .before .u .given .1) (c .sole2 .ensures))
 
 returns-3 : tie.Need-returns-3
-returns-3 c = read-said _ _ _ _ (read-faulty _ _ (c .before .before .before .before .before .before .before .before .before .before .before .if1 .left) _ (c .before .before .before .before .before .before .before .before .before .parse .ensures .0) _ _ _ _ (c .before .before .before .before .before .before .head .given .1) (c .before .before .before .before .before .before .before .before .before .parse .ensures .1) _ (c .before .before .before .judge .ensures) _ (c .before .r .given .1))
+returns-3 c = let j = c .before .before .before in let h = j .before .before .before in let p = h .before .before .before in read-said _ _ _ _ (read-faulty _ _ (p .before .before .if1 .left) _ (p .parse .ensures .0) _ _ _ _ (h .head .given .1) (p .parse .ensures .1) _ (j .judge .ensures) _ (c .before .r .given .1))
 
 same-length : tie.Need-same-length
 same-length c = search needs
 
 returns-4 : tie.Need-returns-4
-returns-4 c = read-said _ _ _ _ (read-chart _ _ (c .before .before .before .before .before .before .before .before .before .before .before .before .before .before .if1 .left) _ (c .before .before .before .before .before .before .before .before .before .before .before .before .parse .ensures .0) _ _ _ _ (c .before .before .before .before .before .before .before .before .before .head .given .1) (c .before .before .before .before .before .before .before .before .before .before .before .before .parse .ensures .1) _ (c .before .before .before .before .before .before .judge .ensures) _ (c .before .before .before .before .enum-told .given .1) (c .before .before .copy .ensures))
+returns-4 c = let j = c .before .before .before .before .before .before in let h = j .before .before .before in let p = h .before .before .before in read-said _ _ _ _ (read-chart _ _ (p .before .before .if1 .left) _ (p .parse .ensures .0) _ _ _ _ (h .head .given .1) (p .parse .ensures .1) _ (j .judge .ensures) _ (c .before .before .before .before .enum-told .given .1) (c .before .before .copy .ensures))
 
 pub read-spec : {M : Type 1} → statement M
 read-spec =
