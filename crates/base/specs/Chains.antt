@@ -1,4 +1,4 @@
--- Answers that lead to further ones.
+-- Answers that lead to further ones: "The reader tests this once its text has been read to the end".
 use Rattle.base.specs.Answers.{Answer, given, refused}
 
 -- what is asked of what was given; a refusal stays

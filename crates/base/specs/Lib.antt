@@ -6,7 +6,6 @@ pub mod Options
 pub mod Tests
 pub mod Says
 pub mod Refusals
-pub mod Found
 pub mod Walks
 pub mod Repeat
 pub mod inner

@@ -1,4 +1,4 @@
--- Work that goes on as long as something is found.
+-- Work that goes on as long as something is found: "Take the lowest waiting pair", again and again; Algorithm 1.
 use mathlib.Core.Option.{Option, none, some}
 use Prim.Native.Nat.{ℕ, zero, suc}
 

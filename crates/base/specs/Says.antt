@@ -1,15 +1,17 @@
--- Tests kept as they are written: what a test computes to, and what it says.
+-- Tests kept as they are written, so that a rule of the specification is read as it computes: what a test computes to,
+-- and what it says.
 use mathlib.Core.Path.{_≡_}
 use mathlib.Core.Bool.{Bool, true, _&&_, _||_, not}
 use mathlib.Core.Logic.{_≢_, _⊎_}
 use Prim.Native.Nat.{ℕ, zero, suc, _≤_, _<_}
 use lib.Dec.{T, eqb, leb}
 
--- each number below n passes
+-- each number below n passes: "For each present pair .. and each of its rows"
 unfoldable pub every : ℕ → (ℕ → Bool) → Bool
 every zero f = true
 every (suc n) f = every n f && f n
 
+-- a test as it is written, as those of "Rules for refusal 32": comparisons, others that compute, and, or, for each
 pub data Test : Type 0 where
   eq ne le : ℕ → ℕ → Test
   so : Bool → Test
@@ -18,6 +20,7 @@ pub data Test : Type 0 where
 
 infixr 35 _and_
 infixr 30 _or_
+-- "below n"
 abbrev pub below : ℕ → ℕ → Test
 below m n = le (suc m) n
 

@@ -15,7 +15,7 @@ use Rattle.base.specs.Tests.{someBelow}
 use Rattle.base.proofs.Tests.{T-true, and-true, None-since, none-here, none-left}
 use Rattle.operations.specs.declared.Operation.{Operation}
 use Rattle.operations.specs.Operations.{isKnown, isAssumption, operandsFit}
-use Rattle.operations.specs.Assumptions.{Opposed}
+use Rattle.operations.specs.inner.Opposed.{Opposed}
 use Rattle.operations.specs.Trials.{exclusive}
 use Rattle.operations.proofs.Opposed.{opposed-one}
 use Rattle.chart.specs.Charts.{Chart, size, from, to, operation}

@@ -13,7 +13,7 @@ use Rattle.chart.specs.Charts.{Chart, charted}
 use Rattle.chart.specs.Faultless.{FaultlessChart}
 use Rattle.base.specs.declared.Found.{Found}
 use Rattle.base.specs.declared.Found.the-variants as founds
-use Rattle.base.specs.Found.{toldFound}
+use Rattle.base.specs.inner.Found.{toldFound}
 use Rattle.checker.specs.Rules.{startPair}
 use Rattle.checker.specs.Records.{index}
 use Rattle.words.specs.Words.{Member, added, listed}

@@ -18,7 +18,7 @@ use Rattle.sets.specs.Sets.{bit, without}
 use Rattle.sets.proofs.Sets.{bit-none, without-kept}
 use Rattle.base.specs.declared.Found.{Found}
 use Rattle.base.specs.declared.Found.the-variants as founds
-use Rattle.base.specs.Found.{toldFound}
+use Rattle.base.specs.inner.Found.{toldFound}
 use Rattle.words.specs.Words.{Member, Listed, LowestFrom}
 use Rattle.words.proofs.Rests.{coming-start, coming-less}
 use Rattle.graph.specs.Graphs.{Lists}

@@ -10,10 +10,10 @@ use Rattle.base.specs.Refusals.{sole, unless}
 use Rattle.base.proofs.Answers.{different}
 use Rattle.base.proofs.Tests.{T-true}
 use Rattle.operations.specs.declared.Operation.{Operation}
-use Rattle.operations.specs.declared.Written.{Written}
-use Rattle.operations.specs.declared.Written.the-variants as written
-use Rattle.operations.specs.declared.Met.{Met}
-use Rattle.operations.specs.declared.Met.the-variants as met
+use Rattle.operations.specs.declared.values.Written.{Written}
+use Rattle.operations.specs.declared.values.Written.the-variants as written
+use Rattle.operations.specs.declared.values.Met.{Met}
+use Rattle.operations.specs.declared.values.Met.the-variants as met
 use Rattle.operations.specs.Operations.{operandsFit}
 use Rattle.operations.specs.Answers.{operationFault, toldWritten, toldMet}
 

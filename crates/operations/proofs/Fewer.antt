@@ -11,7 +11,8 @@ use borrow.Author.Tests.{eq-eqb, ne-eqb}
 use Rattle.operations.specs.declared.Operation.{Operation}
 use Rattle.operations.specs.declared.inner.trials.Seats.{Seats}
 use Rattle.operations.specs.Operations.{withConstant, plus, holds}
-use Rattle.operations.specs.Trials.{seats, trial, points, repeated, shown, shownBy, meets, meetsBoth, together}
+use Rattle.operations.specs.Trials.{seats, trial, points, shown, shownBy, together}
+use Rattle.operations.specs.inner.ShortWays.{repeated, meets, meetsBoth}
 use Rattle.base.specs.Lists.{any}
 use Rattle.base.proofs.Lists.{has, has-at, any-same, any-again}
 

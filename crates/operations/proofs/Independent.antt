@@ -10,7 +10,8 @@ use borrow.Author.Tests.{eq-eqb, ne-eqb, eqb-true, not-true, not-false}
 use Rattle.base.proofs.Tests.{T-and, T-both, T-or, T-or-l, T-or-r, T-true, is-true}
 use Rattle.operations.specs.declared.Operation.{Operation}
 use Rattle.operations.specs.Operations.{withConstant, order, key, relation, related, right, holds}
-use Rattle.operations.specs.Trials.{alike, partner, compares, fixed, disjoint, independent, canBeBelow, canBeAbove, together, never, implies, exclusive}
+use Rattle.operations.specs.Trials.{alike, partner, compares, together, never, implies, exclusive}
+use Rattle.operations.specs.inner.ShortWays.{fixed, disjoint, independent, canBeBelow, canBeAbove}
 use Rattle.operations.proofs.Order.{Same, related-same, same-self}
 use Rattle.operations.proofs.Trials.{holds-pair}
 use Rattle.operations.proofs.Exact.{Small, alike-self, alike-is, covered-by, found-by}

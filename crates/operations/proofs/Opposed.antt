@@ -11,7 +11,7 @@ use Rattle.base.proofs.Lists.{any-false}
 use Rattle.base.proofs.Tests.{T-true, and-true}
 use Rattle.operations.specs.declared.Operation.{Operation}
 use Rattle.operations.specs.Operations.{kind, byKind, isAssumption, relation, related, withConstant, right, holds}
-use Rattle.operations.specs.Assumptions.{OppositeCodes, Opposed}
+use Rattle.operations.specs.inner.Opposed.{OppositeCodes, Opposed}
 use Rattle.operations.specs.Trials.{alike, seats, trial, points, shown, shownBy, together, exclusive}
 use Rattle.operations.proofs.Order.{below-table, equal-table, above-table, related-lt, related-eq, related-gt}
 use Rattle.operations.proofs.Exact.{alike-is}

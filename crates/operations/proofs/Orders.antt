@@ -13,7 +13,8 @@ use Rattle.base.specs.Lists.{any}
 use Rattle.base.proofs.Lists.{has, All, any-at, any-all}
 use Rattle.operations.specs.declared.Operation.{Operation}
 use Rattle.operations.specs.Operations.{withConstant, holds}
-use Rattle.operations.specs.Trials.{inside, paired, seats, trial, points, shown, together}
+use Rattle.operations.specs.Trials.{inside, seats, trial, points, shown, together}
+use Rattle.operations.specs.inner.ShortWays.{paired}
 use Rattle.operations.proofs.Order.{Same, same-self, same-flip}
 use Rattle.operations.proofs.Trials.{joint, holds-pair}
 use Rattle.operations.proofs.Independent.{both-ways}

@@ -13,25 +13,30 @@ use Rattle.operations.specs.declared.Operand.{Operand}
 use Rattle.operations.specs.declared.Operand.the-variants.{Variable, Constant, Unused}
 
 -- ---- kinds
--- "Operation codes run 0 to 5, 16 to 21 and 32 to 37": assignments, comparisons with a constant, comparisons of two variables
+-- "Operation codes run 0 to 5, 16 to 21 and 32 to 37": assignments, comparisons with a constant, comparisons of two
+-- variables
 unfoldable pub kind : ℕ → Kind
 kind code =
-    cond (within 0 5 code) Assignment (cond (within 16 21 code) ConstantComparison (cond (within 32 37 code) VariableComparison Unknown))
+    cond (within 0 5 code) Assignment
+    (cond (within 16 21 code) ConstantComparison (cond (within 32 37 code) VariableComparison Unknown))
 
--- what is said of an assignment, of a comparison with a constant, of one of two variables, and of an unknown code
+-- what is said of each kind: "match on the code with ranges for assignments, constant and two-variable comparisons, and
+-- the unknown rest"
 abbrev pub byKind : {A : Type 0} → Kind → A → A → A → A → A
 byKind Assignment w x y z = w
 byKind ConstantComparison w x y z = x
 byKind VariableComparison w x y z = y
 byKind Unknown w x y z = z
 
+-- not "6 unknown op"
 abbrev pub isKnown : Operation → Bool
 isKnown o = byKind (kind (o .code)) true true true false
 
+-- "Assignments to va": codes 0 to 5
 abbrev pub isAssignment : Operation → Bool
 isAssignment o = byKind (kind (o .code)) true false false false
 
--- an assumption is a comparison of either kind
+-- "Assumptions: 16 + r compares va with c; 32 + r compares va with vb"
 abbrev pub isAssumption : Operation → Bool
 isAssumption o = byKind (kind (o .code)) false true true false
 
@@ -40,23 +45,25 @@ isAssumption o = byKind (kind (o .code)) false true true false
 unfoldable pub operandB : Operation → Operand
 operandB o = byKind (kind (o .code)) (cond (eqb (o .code) 0) Unused Variable) Unused Variable Unused
 
--- c in the codes 0 to 5, in order
+-- c in the codes 0 to 5, in order: "0 c; 1 vb; 2 vb + c; 3 vb + v(c); 4 vb − v(c); 5 0 − vb"
 unfoldable pub assignedC : ℕ → Operand
 assignedC code = getD (Constant ∷ Unused ∷ Constant ∷ Variable ∷ Variable ∷ Unused ∷ []) code Unused
 
+-- "c in codes 1, 5 and 32 to 37" is unused
 unfoldable pub operandC : Operation → Operand
 operandC o = byKind (kind (o .code)) (assignedC (o .code)) Constant Unused Unused
 
--- a number in an operand's place: a variable is one of v0 to v63, a constant any number, an unused operand 0
+-- a number in an operand's place: not "variable above 63 or an unused operand not 0"; a constant is any number
 abbrev pub fits : Operand → ℕ → Bool
 fits Variable x = leb x 63
 fits Constant x = true
 fits Unused x = eqb x 0
 
--- every operand is as its code wants it; a is a variable in every code
+-- not "7 variable above 63 or an unused operand not 0"; a is a variable in every code
 unfoldable pub operandsFit : Operation → Bool
 operandsFit o = leb (o .a) 63 && (fits (operandB o) (o .b) && fits (operandC o) (o .c))
 
+-- of "the variables on its right": the operand, if it is one
 abbrev pub ifVariable : Operand → ℕ → List ℕ
 ifVariable Variable x = x ∷ []
 ifVariable Constant x = []
@@ -64,14 +71,16 @@ ifVariable Unused x = []
 
 -- "An assignment writes va and reads the variables on its right; an assumption reads those it compares."
 unfoldable pub reads : Operation → List ℕ
-reads o = byKind (kind (o .code)) [] (o .a ∷ []) (o .a ∷ []) [] ++ (ifVariable (operandB o) (o .b) ++ ifVariable (operandC o) (o .c))
+reads o =
+    byKind (kind (o .code)) [] (o .a ∷ []) (o .a ∷ []) []
+    ++ (ifVariable (operandB o) (o .b) ++ ifVariable (operandC o) (o .c))
 
 -- "Two operations are equal when op, a, b, c are."
 unfoldable pub same : Operation → Operation → Bool
 same o o′ = eqb (o .code) (o′ .code) && (eqb (o .a) (o′ .a) && (eqb (o .b) (o′ .b) && eqb (o .c) (o′ .c)))
 
 -- ---- assignments
--- "sums and differences wrap at 4,294,967,296"
+-- "Here sums and differences wrap at 4,294,967,296": both
 abbrev pub plus : ℕ → ℕ → ℕ
 plus x y = (x + y) % 2 ^ 32
 
@@ -81,13 +90,21 @@ minus x y = (x + (2 ^ 32 - y)) % 2 ^ 32
 -- "Assignments to va: 0 c; 1 vb; 2 vb + c; 3 vb + v(c); 4 vb − v(c); 5 0 − vb"
 unfoldable pub value : Operation → (ℕ → ℕ) → ℕ
 value o v =
-    getD (o .c ∷ v (o .b) ∷ plus (v (o .b)) (o .c) ∷ plus (v (o .b)) (v (o .c)) ∷ minus (v (o .b)) (v (o .c)) ∷ minus 0 (v (o .b)) ∷ []) (o .code) 0
+    getD
+    (o .c
+    ∷ v (o .b)
+    ∷ plus (v (o .b)) (o .c)
+    ∷ plus (v (o .b)) (v (o .c))
+    ∷ minus (v (o .b)) (v (o .c))
+    ∷ minus 0 (v (o .b))
+    ∷ []) (o .code) 0
 
 -- ---- assumptions
--- the order in which an assumption compares: all are unsigned
+-- the order in which an assumption compares: all are "unsigned"
 pub data Order : Type 0 where
   unsigned : Order
 
+-- that of an operation
 abbrev pub order : Operation → Order
 order o = unsigned
 
@@ -99,11 +116,11 @@ key unsigned x = x
 unfoldable pub related : ℕ → ℕ → ℕ → Bool
 related r x y = getD (eqb x y ∷ not (eqb x y) ∷ ltb x y ∷ leb x y ∷ ltb y x ∷ leb y x ∷ []) r false
 
--- the r of the codes 16 + r and 32 + r, both multiples of 8
+-- the r of "16 + r" and "32 + r", both multiples of 8
 abbrev pub relation : Operation → ℕ
 relation o = o .code % 8
 
--- va is compared with c
+-- "16 + r compares va with c"
 abbrev pub withConstant : Operation → Bool
 withConstant o = byKind (kind (o .code)) false true false false
 
@@ -111,6 +128,6 @@ withConstant o = byKind (kind (o .code)) false true false false
 abbrev pub right : Operation → (ℕ → ℕ) → ℕ
 right o v = cond (withConstant o) (o .c) (v (o .b))
 
--- the values meet the assumption
+-- "an assumption must hold of the values": whether it does
 unfoldable pub holds : Operation → (ℕ → ℕ) → Bool
 holds o v = related (relation o) (key (order o) (v (o .a))) (key (order o) (right o v))

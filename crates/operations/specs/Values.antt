@@ -9,6 +9,6 @@ pub record Values (v : List ℕ) : Type 0 where
   pub count : length v ≡ 64
   pub small : (i : ℕ) → getD v i 0 < 2 ^ 32
 
--- the value of a variable, by its number
+-- the value of a variable, which is "shared by number between both charts"
 abbrev pub var : List ℕ → ℕ → ℕ
 var v i = getD v i 0

@@ -28,7 +28,8 @@ pub fn never(f: Operation) -> bool
     !possible(f, true)
 }
 
-// The test of two assumptions: the first never holds, else it implies the second or does not. What it says holds of all 64 values, both ways.
+// The test of two assumptions: the first never holds, else it implies the second or does not. What it says holds of
+// all 64 values, both ways.
 pub fn implies(f: Operation, g: Operation) -> Implication
     ensures is { λ r. ⌜ r ≡ implication f g ⌝ }
     ensures means { λ r. ⌜ (Operands f → Operands g → Means r f g) ⌝ }

@@ -1,16 +1,15 @@
-// Operations: their kinds and operands, and the two entry points that evaluate one, which refuse bad input themselves. `assumptions` has those
-// of the test of two assumptions; `inner` is what the crates above may call once an operation is known to be right.
+// Operations: their kinds and operands. `values` has the entry points that evaluate one and refuse bad input
+// themselves, `assumptions` those of the test of two assumptions; `inner` is what the crates above may call once an
+// operation is known to be right. All of these use this file, and it uses none of them.
 ghost use mathlib.Core.Path.{_≡_};
 ghost use mathlib.Core.Bool.{_&&_};
 ghost use Prim.Native.Nat.{ℕ, _^_, _<_};
 ghost use lib.Dec.{ltb};
 ghost use Rattle.operations.specs.Operations.{kind, isKnown, isAssignment, isAssumption, withConstant, operandB, assignedC, operandC, fits, operandsFit};
-ghost use Rattle.operations.specs.Answers.{writtenBy, toldWritten, metBy, toldMet};
-use base::Refusal;
-use base::sole;
 
 pub mod assumptions; // assumptions.rt: the exact test of two assumptions
 pub mod inner; // inner.rt: for the crates above
+pub mod values; // values.rt: one operation on 64 lent values
 
 // The operation of a row: its code "op" and the operands.
 pub struct Operation {
@@ -34,20 +33,8 @@ pub enum Operand {
     Unused,
 }
 
-// The value that an assignment writes, or a refusal.
-pub enum Written {
-    Value(u32),
-    Refused(Refusal),
-}
-
-// Whether the values meet an assumption, or a refusal.
-pub enum Met {
-    Yes,
-    No,
-    Refused(Refusal),
-}
-
-// Kinds of codes are told apart here and nowhere else; the tables of limit_b, limit_c and opposite (inner/opposed.rt) go by the codes themselves.
+// Kinds of codes are told apart here and nowhere else; the tables of limit_b, limit_c and opposite (inner/opposed.rt)
+// go by the codes themselves.
 pub fn kind_of(code: u32) -> Kind
     ensures { λ r. ⌜ r ≡ kind code ⌝ }
 {
@@ -171,8 +158,8 @@ pub fn operands_fit(o: Operation) -> bool
     false
 }
 
-// The least number that cannot stand in the place of b; 0 for a code that is not known. By a table of codes and not by their kinds,
-// so that judging a row takes no jump.
+// The least number that cannot stand in the place of b; 0 for a code that is not known. By a table of codes and not by
+// their kinds, so that judging a row takes no jump.
 fn limit_b(code: u32) -> u32
     ensures { λ r. ⌜ ((o : Operation) → o .code ≡ code → (b : ℕ) → ltb b r ≡ isKnown o && fits (operandB o) b) ⌝ }
 {
@@ -199,7 +186,8 @@ fn limit_b(code: u32) -> u32
     }
 }
 
-// Likewise for c, of which a constant may be any u32. No code that is known has the 0 of the others, so that the table has them all.
+// Likewise for c, of which a constant may be any u32. No code that is known has the 0 of the others, so that the table
+// has them all.
 fn limit_c(code: u32) -> u64
     ensures { λ r. ⌜ ((o : Operation) → o .code ≡ code → (c : ℕ) → c < 2 ^ 32 → ltb c r ≡ isKnown o && fits (operandC o) c) ⌝ }
 {
@@ -231,40 +219,4 @@ pub fn is_right(o: Operation) -> bool
     ensures { λ r. ⌜ r ≡ isKnown o && operandsFit o ⌝ }
 {
     (o.a <= 63) & (o.b < limit_b(o.code)) & ((o.c as u64) < limit_c(o.code))
-}
-
-// The value that an assignment writes, from 64 lent values; refused: 21 other than 64 values, 6 no assignment, 7 an operand that does not fit.
-pub fn value_written(o: Operation, values: &[u32]) -> Written
-    ensures { λ r. ⌜ toldWritten r ≡ writtenBy o (now (values .entry)) ⌝ }
-{
-    if values.len() != 64 {
-        return Written::Refused(sole(21, 0));
-    }
-    if !is_assignment(o) {
-        return Written::Refused(sole(6, 0));
-    }
-    if !operands_fit(o) {
-        return Written::Refused(sole(7, 0));
-    }
-    Written::Value(inner::meaning::value(o, values))
-}
-
-// Whether 64 lent values meet an assumption; refused: 21 other than 64 values, 6 no assumption, 7 an operand that does not fit.
-pub fn meets(o: Operation, values: &[u32]) -> Met
-    ensures { λ r. ⌜ toldMet r ≡ metBy o (now (values .entry)) ⌝ }
-{
-    if values.len() != 64 {
-        return Met::Refused(sole(21, 0));
-    }
-    if !is_assumption(o) {
-        return Met::Refused(sole(6, 0));
-    }
-    if !operands_fit(o) {
-        return Met::Refused(sole(7, 0));
-    }
-    if inner::meaning::holds(o, values) {
-        Met::Yes
-    } else {
-        Met::No
-    }
 }

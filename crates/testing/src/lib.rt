@@ -6,10 +6,10 @@ ghost use Rattle.chart.specs.Faults.{refusal};
 ghost use Rattle.testing.specs.Numbers.{operation, implicationNumber, bit, faultNumber, faultPosition, writtenNumber, metNumber};
 use chart::charts::Head;
 use chart::charts::Judged;
-use operations::Met;
 use operations::Operation;
-use operations::Written;
 use operations::assumptions::Implication;
+use operations::values::Met;
+use operations::values::Written;
 
 // 0 never, 1 implied, 2 not implied.
 #[no_mangle]
@@ -94,7 +94,7 @@ pub extern "C" fn testing_fault_position(places: u32, alarm: u32, rows: &[u32]) 
 pub extern "C" fn testing_written(code: u32, a: u32, b: u32, c: u32, values: &[u32]) -> u64
     ensures { λ r. ⌜ r ≡ writtenNumber (writtenBy (operation code a b c) (now (values .entry))) ⌝ }
 {
-    match operations::value_written(Operation { code, a, b, c }, values) {
+    match operations::values::value_written(Operation { code, a, b, c }, values) {
         Written::Value(x) => x as u64,
         Written::Refused(r) => 4294967296 + r.number as u64,
     }
@@ -105,7 +105,7 @@ pub extern "C" fn testing_written(code: u32, a: u32, b: u32, c: u32, values: &[u
 pub extern "C" fn testing_meets(code: u32, a: u32, b: u32, c: u32, values: &[u32]) -> u64
     ensures { λ r. ⌜ r ≡ metNumber (metBy (operation code a b c) (now (values .entry))) ⌝ }
 {
-    match operations::meets(Operation { code, a, b, c }, values) {
+    match operations::values::meets(Operation { code, a, b, c }, values) {
         Met::Yes => 1,
         Met::No => 0,
         Met::Refused(r) => 4294967296 + r.number as u64,

@@ -6,7 +6,7 @@ ghost use Rattle.operations.specs.Operations.{same, isAssignment, isAssumption}
 ghost use Rattle.operations.specs.Trials.{never, implication};
 ghost use Rattle.chart.specs.Charts.{size, operation};
 ghost use Rattle.align.specs.Steps.{find, isImplied, matching};
-ghost use Rattle.base.specs.Found.{toldFound};
+ghost use Rattle.base.specs.inner.Found.{toldFound};
 use base::Found;
 use chart::inner::rows::operation_at;
 use chart::inner::rows::same_operation;

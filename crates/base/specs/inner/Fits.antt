@@ -1,5 +1,5 @@
--- Refusals whose numbers are small, as those of every refusal are: whoever prints one, or makes one number of it, has to
--- know it.
+-- Refusals whose numbers are small, as those of every refusal are: whoever prints one, or makes one number of it, has
+-- to know it.
 use Prim.Native.Nat.{_^_, _≤_, _<_}
 use Rattle.base.specs.declared.Refusal.{Refusal}
 use Rattle.base.specs.Answers.{Answer, given, refused}

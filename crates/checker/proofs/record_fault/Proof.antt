@@ -2,7 +2,7 @@
 use mathlib.Core.Path.{sym, ap, _∙_}
 use borrow.Author.Tests.{not-true, not-false}
 use Rattle.chart.proofs.Faultless.{indexable}
-use Rattle.base.specs.Found.{toldFound}
+use Rattle.base.specs.inner.Found.{toldFound}
 use Rattle.checker.proofs.Answers.{shape-refused, rules-judged, judged}
 use Rattle.checker.specs.Rules.{shaped}
 use Rattle.checker.specs.Records.{recordOf}

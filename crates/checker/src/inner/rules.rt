@@ -7,7 +7,7 @@ ghost use Rattle.base.specs.Says.{bool};
 ghost use Rattle.chart.specs.Charts.{charted, leaving};
 ghost use Rattle.chart.specs.Lookup.{Indexed};
 ghost use Rattle.chart.specs.Places.{newOf};
-ghost use Rattle.base.specs.Found.{toldFound};
+ghost use Rattle.base.specs.inner.Found.{toldFound};
 ghost use Rattle.checker.specs.Records.{graphOf, recordOf};
 ghost use Rattle.checker.specs.Rules.{startFits, Admitted};
 ghost use Rattle.checker.specs.Packed.{packed};

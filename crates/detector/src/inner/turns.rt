@@ -8,7 +8,7 @@ ghost use Rattle.chart.specs.Faultless.{FaultlessChart};
 ghost use Rattle.chart.specs.Lookup.{Indexed};
 ghost use Rattle.align.specs.declared.spots.Spot.{Spot};
 ghost use Rattle.align.specs.Steps.{told};
-ghost use Rattle.base.specs.Found.{toldFound};
+ghost use Rattle.base.specs.inner.Found.{toldFound};
 ghost use Rattle.words.specs.Words.{LowestFrom};
 ghost use Rattle.graph.specs.Graphs.{graph, Sized, Lists, Tracks};
 ghost use Rattle.detector.specs.Turns.{lowest, LowestOf, setNow, arrived, processed, rowDone, taken};

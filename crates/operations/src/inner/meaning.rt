@@ -77,7 +77,8 @@ pub fn when_above(r: u32) -> bool
     }
 }
 
-// The relation r between two numbers: 0 =, 1 ≠, 2 <, 3 ≤, 4 >, 5 ≥. All of it is worked out, so that no jump depends on r.
+// The relation r between two numbers: 0 =, 1 ≠, 2 <, 3 ≤, 4 >, 5 ≥. All of it is worked out, so that no jump depends
+// on r.
 pub fn related(r: u32, x: u32, y: u32) -> bool
     ensures { λ b. ⌜ b ≡ related r x y ⌝ }
 {

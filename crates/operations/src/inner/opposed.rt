@@ -2,7 +2,7 @@
 ghost use mathlib.Core.Path.{_≡_};
 ghost use mathlib.Core.Bool.{true};
 ghost use Rattle.operations.specs.Operations.{isAssumption};
-ghost use Rattle.operations.specs.Assumptions.{OppositeCodes, Opposed};
+ghost use Rattle.operations.specs.inner.Opposed.{OppositeCodes, Opposed};
 use crate::Operation;
 
 // The code that compares in the opposite way; 6, which is no code, where there is none.
@@ -26,7 +26,8 @@ fn opposite(code: u32) -> u32
     }
 }
 
-// Whether f and g are assumptions that compare the same in opposite ways, as the two rows of most places do: no trial is needed then.
+// Whether f and g are assumptions that compare the same in opposite ways, as the two rows of most places do: no trial
+// is needed then.
 pub fn opposed(f: Operation, g: Operation) -> bool
     ensures { λ r. ⌜ (r ≡ true → (isAssumption f ≡ true) × (isAssumption g ≡ true) × Opposed f g) ⌝ }
 {

@@ -1,9 +1,11 @@
-// How two assumptions are tested: at once where they have nothing to do with each other, else by a few values that stand for all.
+// How two assumptions are tested: at once where they have nothing to do with each other, else by a few values that
+// stand for all.
 ghost use mathlib.Core.Path.{_≡_};
 ghost use mathlib.Core.Bool.{true, false};
 ghost use Rattle.base.specs.Lists.{any};
 ghost use Rattle.operations.specs.Operations.{withConstant, right, holds};
-ghost use Rattle.operations.specs.Trials.{alike, partner, compares, inside, own, paired, fixed, disjoint, independent, canBeBelow, canBeAbove, seats, trial, points, repeated, shown, shownBy, meetsBoth, together, never, implies};
+ghost use Rattle.operations.specs.Trials.{alike, partner, compares, inside, own, seats, trial, points, shown, shownBy, together, never, implies};
+ghost use Rattle.operations.specs.inner.ShortWays.{paired, fixed, disjoint, independent, canBeBelow, canBeAbove, repeated, meetsBoth};
 use crate::Operation;
 use crate::inner::meaning::related;
 use crate::inner::meaning::when_above;
@@ -203,7 +205,8 @@ fn paired(f: Operation, g: Operation) -> bool
     !with_constant(f) & !with_constant(g) & inside(f, g)
 }
 
-// The search where neither has a constant: only the order of the two variables matters, so that one is tried below, at and above the other.
+// The search where neither has a constant: only the order of the two variables matters, so that one is tried below, at
+// and above the other.
 fn by_orders(f: Operation, p: bool, g: Operation, q: bool) -> bool
     requires { ⌜ paired f g ≡ true ⌝ }
     ensures { λ r. ⌜ r ≡ together f p g q ⌝ }
@@ -279,7 +282,8 @@ fn above(f: Operation) -> bool
     }
 }
 
-// Whether some values meet f if p says so, else not: va is below, at or above what it is compared with, and no trial is needed.
+// Whether some values meet f if p says so, else not: va is below, at or above what it is compared with, and no trial
+// is needed.
 pub fn possible(f: Operation, p: bool) -> bool
     ensures { λ r. ⌜ r ≡ together f p f p ⌝ }
 {

@@ -1,7 +1,7 @@
 -- `align::inner::seek::matching` meets its contract: the equal row, else the implied one. Assumes nothing.
 use mathlib.Core.Path.{ap}
 use Rattle.align.proofs.Moves.{matching-same, matching-implied}
-use Rattle.base.specs.Found.{toldFound}
+use Rattle.base.specs.inner.Found.{toldFound}
 use borrow.Author.Needs.{needs}
 use Rattle.align.proofs.inner.seek.matching.Statement.{statement}
 use Rattle.align.proofs.inner.seek.matching.Tie as tie

@@ -1,7 +1,7 @@
 -- `align::inner::step::assigned` meets its contract: with the equal row, or alone. Assumes nothing.
 use mathlib.Core.Path.{_≡_, sym, ap, subst, _∙_}
 use Rattle.align.proofs.Moves.{assigned-equal, assigned-alone}
-use Rattle.base.specs.Found.{toldFound}
+use Rattle.base.specs.inner.Found.{toldFound}
 use Rattle.align.proofs.Seek.{found-inside}
 use Rattle.operations.specs.declared.Operation.{Operation}
 use Rattle.operations.specs.Operations.{isAssignment, operandsFit}

@@ -1,5 +1,5 @@
 -- `operations::inner::trials::independent` meets its contract: by its three tests. Assumes nothing.
-use Rattle.operations.specs.Trials.{independent}
+use Rattle.operations.specs.inner.ShortWays.{independent}
 use borrow.Author.Needs.{needs}
 use Rattle.operations.proofs.inner.trials.independent.Statement.{statement}
 use Rattle.operations.proofs.inner.trials.independent.Tie as tie

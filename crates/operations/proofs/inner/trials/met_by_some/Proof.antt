@@ -2,7 +2,7 @@
 use mathlib.Core.Path.{refl}
 use Prim.Native.Nat.{_-_}
 use lib.ListN.{length}
-use Rattle.operations.specs.Trials.{meetsBoth}
+use Rattle.operations.specs.inner.ShortWays.{meetsBoth}
 use Rattle.base.proofs.Lists.{None-yet, some-here, none-here, none-at-all}
 use borrow.Author.Needs.{needs}
 use native.Mathlib.Omega.{arith}

@@ -1,6 +1,6 @@
 -- `operations::inner::trials::repeated` meets its contract: by its tests. Assumes nothing.
 use borrow.Author.Tests.{eq-eqb, ne-eqb}
-use Rattle.operations.specs.Trials.{repeated}
+use Rattle.operations.specs.inner.ShortWays.{repeated}
 use Rattle.operations.proofs.inner.trials.repeated.Statement.{statement}
 use Rattle.operations.proofs.inner.trials.repeated.Tie as tie
 

@@ -1,4 +1,4 @@
--- An index that is sought, as the code answers it.
+-- An index that is sought, as inner functions answer it.
 use mathlib.Core.Option.{Option, none, some}
 use Prim.Native.Nat.{ℕ}
 use Rattle.base.specs.declared.Found.{Found}

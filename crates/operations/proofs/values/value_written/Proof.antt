@@ -1,4 +1,4 @@
--- `operations::value_written` meets its contract: refusal by refusal. Assumes nothing.
+-- `operations::values::value_written` meets its contract: refusal by refusal. Assumes nothing.
 use borrow.Author.Tests.{not-true, not-false}
 use mathlib.Core.Path.{sym, ap, _∙_}
 use Prim.Native.Nat.{ℕ}
@@ -6,8 +6,8 @@ use Rattle.base.specs.Answers.{given, refused}
 use Rattle.operations.specs.Answers.{writtenBy}
 use Rattle.operations.proofs.Answers.{other-length, other-sort, unfit, answered}
 use borrow.Author.Needs.{needs}
-use Rattle.operations.proofs.value_written.Statement.{statement}
-use Rattle.operations.proofs.value_written.Tie as tie
+use Rattle.operations.proofs.values.value_written.Statement.{statement}
+use Rattle.operations.proofs.values.value_written.Tie as tie
 
 sole-requires : tie.Need-sole-requires
 sole-requires c κs = search needs

@@ -1,4 +1,4 @@
--- `operations::meets` meets its contract: refusal by refusal. Assumes nothing.
+-- `operations::values::meets` meets its contract: refusal by refusal. Assumes nothing.
 use borrow.Author.Tests.{not-true, not-false}
 use mathlib.Core.Path.{sym, ap, _∙_}
 use mathlib.Core.Bool.{Bool}
@@ -6,8 +6,8 @@ use Rattle.base.specs.Answers.{given, refused}
 use Rattle.operations.specs.Answers.{metBy}
 use Rattle.operations.proofs.Answers.{other-length, other-sort, unfit, answered}
 use borrow.Author.Needs.{needs}
-use Rattle.operations.proofs.meets.Statement.{statement}
-use Rattle.operations.proofs.meets.Tie as tie
+use Rattle.operations.proofs.values.meets.Statement.{statement}
+use Rattle.operations.proofs.values.meets.Tie as tie
 
 sole-requires : tie.Need-sole-requires
 sole-requires c κs = search needs
