@@ -20,19 +20,18 @@ use Rattle.base.proofs.Tests.{T-true}
 use Rattle.chart.specs.declared.charts.Head.{Head}
 use Rattle.chart.specs.declared.charts.Judged.{Judged}
 use Rattle.chart.specs.declared.charts.Judged.the-variants.{Faultless, Refused}
-use Rattle.chart.specs.Charts.{Chart, charted}
+use Rattle.chart.specs.Charts.{Chart, charted, Words}
 use Rattle.chart.specs.Faults.{fault, told as chartTold}
 use Rattle.chart.specs.Faultless.{FaultlessChart}
 use Rattle.chart.proofs.Faultless.{faultless}
-use Rattle.checker.specs.Records.{recordOf}
+use Rattle.records.specs.Records.{recordOf}
 use Rattle.checker.specs.Checks.{sized, inChart, refusal as checkRefusal}
-use Rattle.checker.specs.Promise.{Words}
 use Rattle.checker.proofs.Passed.{no-fault, unrefused}
 use Rattle.graph.specs.Graphs.{Graph, graph, Sized}
 use Rattle.detector.specs.Turns.{explored}
 use Rattle.condition.specs.declared.Summary.{Summary}
 use Rattle.condition.specs.Builds.{finished, startOf, built, recorded, summary}
-use Rattle.condition.proofs.Demand3.{record-passes}
+use Rattle.builder.proofs.Passing.{record-passes}
 use Rattle.paper.specs.Returned.{Returned}
 use Rattle.paper.proofs.Theorem.{demand-2}
 use Rattle.builder.specs.declared.answers.Built.{Built}

@@ -8,16 +8,16 @@ use Rattle.base.specs.Answers.{given}
 use Rattle.base.specs.Says.{Test, bool}
 use Rattle.base.proofs.Says.{said}
 use Rattle.base.proofs.Tests.{is-true}
-use Rattle.chart.specs.Charts.{Chart}
+use Rattle.chart.specs.Charts.{Chart, Words}
 use Rattle.chart.specs.Faultless.{FaultlessChart}
-use Rattle.checker.specs.Records.{Record, recordOf}
+use Rattle.records.specs.Records.{Record, recordOf}
 use Rattle.checker.specs.Checks.{sized, refusal as checkRefusal}
-use Rattle.checker.specs.Promise.{Words, Promise}
+use Rattle.checker.specs.Promise.{Promise}
 use Rattle.checker.proofs.Demand3.{demand-3-first}
 use Rattle.graph.specs.Graphs.{Graph, Sized}
 use Rattle.condition.specs.declared.Summary.{Summary}
 use Rattle.condition.specs.Builds.{recorded, summary}
-use Rattle.condition.proofs.Demand3.{sound, record-passes}
+use Rattle.builder.proofs.Passing.{sound, record-passes}
 use Rattle.builder.specs.Answers.{lent, refusal, answered, left}
 use Rattle.builder.proofs.Answering.{accepted}
 

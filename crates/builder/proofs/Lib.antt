@@ -1,3 +1,4 @@
 -- Laws of builds.
+pub mod Passing
 pub mod Answering
 pub mod Demands

@@ -11,7 +11,7 @@ use Rattle.base.specs.Refusals.{due, unless}
 use Rattle.base.specs.Says.{Test, eq, _and_, bool}
 use Rattle.chart.specs.Charts.{Chart}
 use Rattle.chart.specs.Faults.{fault}
-use Rattle.checker.specs.Records.{graphOf}
+use Rattle.records.specs.Records.{graphOf}
 use Rattle.checker.specs.Checks.{sized, inChart}
 use Rattle.condition.specs.declared.Summary.{Summary}
 use Rattle.condition.specs.Builds.{built, recorded, summary}

@@ -5,7 +5,7 @@ ghost use Rattle.base.specs.Says.{bool};
 ghost use Rattle.chart.specs.Charts.{charted};
 ghost use Rattle.chart.specs.Faults.{told as chartTold};
 ghost use Rattle.chart.specs.Faultless.{FaultlessChart};
-ghost use Rattle.checker.specs.Records.{recordOf};
+ghost use Rattle.records.specs.Records.{recordOf};
 ghost use Rattle.checker.specs.Checks.{inChart, refusal as checkRefusal};
 ghost use Rattle.builder.specs.declared.answers.Built.the-variants.{Done};
 ghost use Rattle.condition.specs.declared.Summary.{Summary};
@@ -24,8 +24,6 @@ use chart::inner::rows;
 use condition::Summary;
 use condition::inner::finish::finish;
 use detector::inner::explore::explore;
-use detector::inner::explore::first_pair;
-use words::inner::members;
 
 pub mod answers; // answers.rt: what a build answers
 
@@ -127,7 +125,6 @@ fn complete<'a>(
         waiting,
         &mut seen,
     );
-    members::add(&mut seen, first_pair(old, new));
     finish(old, new, marks, targets, sets, waiting, &seen)
 }
 

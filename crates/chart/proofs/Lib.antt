@@ -6,3 +6,4 @@ pub mod Faultless
 pub mod Conflicts
 pub mod Bounds
 pub mod Told
+pub mod Starts

@@ -17,7 +17,7 @@ use Rattle.base.proofs.Tests.{T-and, T-or, T-true, is-true}
 use Rattle.operations.specs.declared.Operation.{Operation}
 use Rattle.operations.specs.Values.{Values}
 use Rattle.chart.specs.declared.places.NewPlace.{NewPlace}
-use Rattle.chart.specs.Charts.{Chart, size, from, to, operation, row}
+use Rattle.chart.specs.Charts.{Chart, size, from, to, operation, row, Words}
 use Rattle.chart.specs.Places.{oldOf, newOf}
 use Rattle.chart.specs.Runs.{State, lets, after, taken, begin, ready}
 use Rattle.align.specs.declared.spots.Spot.{Spot}
@@ -27,10 +27,11 @@ use Rattle.align.proofs.Onto.{Onto, step-onto}
 use Rattle.chart.proofs.Conflicts.{operands}
 use Rattle.align.proofs.Parts.{before, stands, same-row, two-at-most}
 use Rattle.align.proofs.Reach.{reachesFrom, from-begin, reaches-nil, reaches-cons, Hits, hits-here}
-use Rattle.checker.specs.Records.{Graph, Record, mark, setAt, spot, target, rank, targetOf, goesOn, nodes, covered}
-use Rattle.checker.specs.Rules.{startFits, keeps, joins, joinsStep, ranked, leads, rowFits}
+use Rattle.records.specs.Records.{Graph, Record, mark, setAt, target, rank, targetOf}
+use Rattle.checker.specs.Following.{goesOn, nodes, covered}
+use Rattle.checker.specs.Rules.{startFits, keeps, joins, joinsStep, ranked, leads, rowFits, spot}
 use Rattle.checker.specs.Checks.{refusal}
-use Rattle.checker.specs.Promise.{Words, Promise}
+use Rattle.checker.specs.Promise.{Promise}
 use Rattle.checker.proofs.Passed.{Passed, passed}
 
 -- ---- covered from here on

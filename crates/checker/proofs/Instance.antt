@@ -20,20 +20,20 @@ use Rattle.base.proofs.Walks.{zeros-at}
 use Rattle.operations.specs.Values.{Values}
 use Rattle.operations.specs.Operations as operations
 use Rattle.operations.specs.Trials as trials
-use Rattle.chart.specs.Charts.{Chart, size, leaving}
+use Rattle.chart.specs.Charts.{Chart, size, leaving, Words}
 use Rattle.chart.specs.Charts as charts
 use Rattle.chart.specs.Faults.{fault}
 use Rattle.chart.specs.Faults as faults
-use Rattle.chart.specs.Places.{newOf}
+use Rattle.chart.specs.Places.{newOf, headOf}
 use Rattle.chart.specs.Runs.{begin, run, reaches}
 use Rattle.chart.specs.Runs as runs
 use Rattle.sets.specs.Sets as sets
 use Rattle.align.specs.Reads as reads
 use Rattle.align.specs.Steps as steps
-use Rattle.checker.specs.Records.{Record, recordOf, mark, nodes, covered}
-use Rattle.checker.specs.Rules.{headOf, markFits, marksFit, targetFits, targetsFit, shaped, startFits, keeps, joins, joinsStep, ranked, leads, rowFits}
+use Rattle.records.specs.Records.{Record, recordOf, mark}
+use Rattle.checker.specs.Following.{nodes, covered}
+use Rattle.checker.specs.Rules.{markFits, marksFit, targetFits, targetsFit, shaped, startFits, keeps, joins, joinsStep, ranked, leads, rowFits}
 use Rattle.checker.specs.Checks.{sized, refusal}
-use Rattle.checker.specs.Promise.{Words}
 use Rattle.checker.proofs.Demand3.{demand-3-first}
 use Rattle.checker.proofs.Passes.{Rules, passes}
 

@@ -5,5 +5,5 @@ pub mod Demand3
 pub mod Shapes
 pub mod Targets
 pub mod Absent
-pub mod Answers
+pub mod Answering
 pub mod Instance

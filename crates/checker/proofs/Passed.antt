@@ -20,10 +20,10 @@ use Rattle.base.proofs.Tests.{T-true, not-both}
 use Rattle.chart.specs.Charts.{Chart, size, leaving}
 use Rattle.chart.specs.Faults.{fault, refusal as chartRefusal}
 use Rattle.chart.specs.Faultless.{FaultlessChart}
-use Rattle.chart.specs.Places.{newOf}
+use Rattle.chart.specs.Places.{newOf, headOf}
 use Rattle.chart.proofs.Faultless.{faultless}
-use Rattle.checker.specs.Records.{Record, mark}
-use Rattle.checker.specs.Rules.{headOf, markFits, marksFit, shaped, startFits, rowFits}
+use Rattle.records.specs.Records.{Record, mark}
+use Rattle.checker.specs.Rules.{markFits, marksFit, shaped, startFits, rowFits}
 use Rattle.checker.specs.Checks.{sized, inChart, ruleAt, targetFault, rowsFault, pairFault, broken, ruleFault, recordFault, refusal}
 
 pub record Passed (old new : Chart) (R : Record) : Type 0 where

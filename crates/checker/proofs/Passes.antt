@@ -13,9 +13,9 @@ use Rattle.base.proofs.Says.{said}
 use Rattle.base.proofs.Tests.{is-true}
 use Rattle.chart.specs.Charts.{Chart, size, leaving}
 use Rattle.chart.specs.Faults.{fault}
-use Rattle.chart.specs.Places.{newOf}
-use Rattle.checker.specs.Records.{Graph, Record, mark}
-use Rattle.checker.specs.Rules.{headOf, shaped, startFits, rowFits}
+use Rattle.chart.specs.Places.{newOf, headOf}
+use Rattle.records.specs.Records.{Graph, Record, mark}
+use Rattle.checker.specs.Rules.{shaped, startFits, rowFits}
 use Rattle.checker.specs.Checks.{sized, targetFault, rowsFault, pairFault, broken, ruleFault, recordFault, refusal}
 
 -- a test passes where what it says is so

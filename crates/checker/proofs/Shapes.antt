@@ -6,10 +6,8 @@ use mathlib.Core.Logic.{dite}
 use Prim.Native.Nat.{ℕ, zero, suc, _+_, _-_, _*_, _/_, _%_, _≤_, _<_}
 use native.Mathlib.Nat.{add-zero, add-suc, add-assoc}
 use native.Mathlib.Decide.{ℕ-discrete, decLe, decLt}
-use native.Mathlib.Numerals.{add-one}
 use native.Mathlib.Omega.{arith}
 use borrow.Author.Tests.{eq-eqb, ne-eqb, lt-ltb, le-ltb, le-leb, lt-leb}
-use lib.Bits.{bitOr, or-zero-l, or-add-and, and-le-r}
 use lib.Dec.{eqb, leb, ltb, leb·zero, eqb→eq}
 use lib.ListN.{getD}
 use Rattle.base.specs.Says.{every, bool, Says}
@@ -18,7 +16,7 @@ use Rattle.base.proofs.Tests.{and-false, or-none, T-true}
 use Rattle.chart.specs.declared.charts.Head.{Head}
 use Rattle.chart.specs.declared.places.OldPlace.{OldPlace}
 use Rattle.chart.specs.declared.places.NewPlace.{NewPlace}
-use Rattle.chart.specs.Places.{oldOf, newOf}
+use Rattle.chart.specs.Places.{oldOf, newOf, startPair, startKept}
 use Rattle.align.specs.Steps.{fair}
 use Rattle.checker.specs.Rules.{markFits, targetFits, targetsFit, startFits}
 
@@ -37,15 +35,6 @@ first-larger a b l k = go (decLe a k)
     go : Dec (a ≤ k) → leb a k ≡ leb a k && leb b k
     go (yes u) = rw (le-leb a k u, le-leb b k (omega arith))
     go (no n) = rw (lt-leb a k (omega arith))
-
--- the loop that takes the largest: the bound on it is the test of each
-module _ (f : ℕ → Bool) where
-  pub all-next : (i : ℕ) {a b c : Bool} → a ≡ every i f → b ≡ f i → c ≡ a && b → c ≡ every (i + 1) f
-  unfolding every
-  all-next i e h g = g ∙ rw (e, h, add-one)
-
-  pub all-taken : (n i : ℕ) {a : Bool} → i ≤ n → n ≤ i → a ≡ every i f → a ≡ every n f
-  all-taken n i l u e = let q : i ≡ n = omega arith in rw q at e
 
 -- ---- a test of each number, part by part
 module _ (f : ℕ → Bool) where
@@ -75,14 +64,6 @@ rated-never x never e k l = rw (lt-leb 255 k l, eq-eqb x never e)
 
 pub rated-else : (x never : ℕ) → (x ≡ never → ⊥) → (k : ℕ) → k < 255 → leb x k ≡ not (eqb x never) && leb x k
 rated-else x never n k l = rw (ne-eqb x never n)
-
--- two joined are 0 exactly where both are
-pub joined-0 : (a b : ℕ) → eqb (bitOr a b) 0 ≡ eqb a 0 && eqb b 0
-joined-0 a b = go (ℕ-discrete a 0)
-  where
-    go : Dec (a ≡ 0) → eqb (bitOr a b) 0 ≡ eqb a 0 && eqb b 0
-    go (yes e) = rw (e, or-zero-l b)
-    go (no n) = rw (ne-eqb a 0 n, ne-eqb (bitOr a b) 0 (λ e. n (omega (arith, or-add-and a b, and-le-r a b))))
 
 module _ (marks : List ℕ) (from : ℕ) where
   -- 64 marks: the first n, and the others
@@ -217,23 +198,23 @@ pub fits-at : (targets : List ℕ) (i : ℕ) → Says (targetsFit targets) → i
 unfolding targetsFit
 fits-at targets i h l = h i l
 
--- ---- the start
+-- ---- the start: n is the pair of both starts, k the kept new start
 module _ (old new : Head) (marks : List ℕ) where
-  pub start-unmarked : (s : ℕ) → s ≡ 0 → (getD marks 0 0 ≡ 1 → ⊥) → false ≡ bool (startFits old new s marks)
+  pub start-unmarked : (s : ℕ) {n : ℕ} → n ≡ startPair old new → s ≡ n → (getD marks n 0 ≡ 1 → ⊥) → false ≡ bool (startFits old new s marks)
   unfolding startFits
-  start-unmarked s e n = rw (e, ne-eqb (getD marks 0 0) 1 n)
+  start-unmarked s z e m = rw (e ∙ z, ne-eqb (getD marks 0 0) 1 (λ y. m (rw z y)))
 
-  pub start-pair : (s : ℕ) {r : Bool} {p : OldPlace} {q : NewPlace} → s ≡ 0 → getD marks 0 0 ≡ 1 → p ≡ oldOf 0 → q ≡ newOf 0
+  pub start-pair : (s : ℕ) {n : ℕ} {r : Bool} {p : OldPlace} {q : NewPlace} → n ≡ startPair old new → s ≡ n → getD marks n 0 ≡ 1 → p ≡ oldOf n → q ≡ newOf n
       → r ≡ bool (fair (old .alarm) (new .alarm) p q) → r ≡ bool (startFits old new s marks)
   unfolding startFits
-  start-pair s {q = q} e m a b h =
-      h ∙ ap (λ (p : OldPlace). bool (fair (old .alarm) (new .alarm) p q)) a ∙ ap (λ (q : NewPlace). bool (fair (old .alarm) (new .alarm) (oldOf 0) q)) b
-      ∙ sym (rw (e, eq-eqb (getD marks 0 0) 1 m) (or-none (bool (fair (old .alarm) (new .alarm) (oldOf 0) (newOf 0)))))
+  start-pair s {q = q} z e m a b h =
+      h ∙ ap (λ (p : OldPlace). bool (fair (old .alarm) (new .alarm) p q)) (rw z at a) ∙ ap (λ (q : NewPlace). bool (fair (old .alarm) (new .alarm) (oldOf 0) q)) (rw z at b)
+      ∙ sym (rw (e ∙ z, eq-eqb (getD marks 0 0) 1 (rw z at m)) (or-none (bool (fair (old .alarm) (new .alarm) (oldOf 0) (newOf 0)))))
 
-  pub start-kept : (s : ℕ) {r : Bool} → s ≡ 4096 → r ≡ eqb (getD marks 4096 0) 2 → r ≡ bool (startFits old new s marks)
+  pub start-kept : (s : ℕ) {k : ℕ} {r : Bool} → k ≡ startKept new → s ≡ k → r ≡ eqb (getD marks k 0) 2 → r ≡ bool (startFits old new s marks)
   unfolding startFits
-  start-kept s e h = rw e h
+  start-kept s z e h = rw (e ∙ z) (rw z at h)
 
-  pub start-none : (s : ℕ) → (s ≡ 0 → ⊥) → (s ≡ 4096 → ⊥) → false ≡ bool (startFits old new s marks)
+  pub start-none : (s : ℕ) {n k : ℕ} → n ≡ startPair old new → k ≡ startKept new → (s ≡ n → ⊥) → (s ≡ k → ⊥) → false ≡ bool (startFits old new s marks)
   unfolding startFits
-  start-none s m n = rw (ne-eqb s 0 m, ne-eqb s 4096 n)
+  start-none s y z m n = rw (ne-eqb s 0 (λ e. m (e ∙ sym y)), ne-eqb s 4096 (λ e. n (e ∙ sym z)))

@@ -11,11 +11,11 @@ use Rattle.base.specs.Refusals.{sole, due}
 use Rattle.base.specs.Says.{Test, eq, _and_, bool}
 use Rattle.chart.specs.Charts.{Chart, size, leaving}
 use Rattle.chart.specs.Faults.{fault}
-use Rattle.chart.specs.Places.{newOf}
-use Rattle.checker.specs.declared.records.Checked.{Checked}
-use Rattle.checker.specs.declared.records.Checked.the-variants.{Passed, Refused}
-use Rattle.checker.specs.Records.{Graph, Record, mark, index}
-use Rattle.checker.specs.Rules.{headOf, shaped, startFits, rowFits}
+use Rattle.chart.specs.Places.{newOf, headOf}
+use Rattle.checker.specs.declared.answers.Checked.{Checked}
+use Rattle.checker.specs.declared.answers.Checked.the-variants.{Passed, Refused}
+use Rattle.records.specs.Records.{Graph, Record, mark, index}
+use Rattle.checker.specs.Rules.{shaped, startFits, rowFits}
 
 -- what each of the code's answers says
 abbrev pub told : Checked → Option Refusal

@@ -1,19 +1,15 @@
 -- What a record that the check passes promises: demand 3, first half. Believing it takes the definitions of a run that reaches the alarm
--- (`reaches` of Rattle.chart.specs.Runs), of a covered run (`covered` of Records.antt) and of the refusal that is due (`refusal` of
+-- (`reaches` of Rattle.chart.specs.Runs), of a covered run (`covered` of Following.antt) and of the refusal that is due (`refusal` of
 -- Checks.antt).
 use mathlib.Core.Path.{_≡_}
 use mathlib.Core.Bool.{true}
 use mathlib.Core.List.{List}
-use Prim.Native.Nat.{ℕ, _^_, _<_}
-use lib.ListN.{getD}
+use Prim.Native.Nat.{ℕ}
 use Rattle.operations.specs.Values.{Values}
 use Rattle.chart.specs.Charts.{Chart}
 use Rattle.chart.specs.Runs.{reaches}
-use Rattle.checker.specs.Records.{Record, covered}
-
--- the entries of a lent table are u32
-pub record Words (t : List ℕ) : Type 0 where
-  pub small : (k : ℕ) → getD t k 0 < 2 ^ 32
+use Rattle.records.specs.Records.{Record}
+use Rattle.checker.specs.Following.{covered}
 
 -- a run of the new chart, from any 64 values, that reaches the new alarm and is covered by the record: some list of the old chart's rows is
 -- a run from the same values that reaches the old alarm

@@ -1,40 +1,25 @@
 -- What a record must be like: its shape (refusal 31) and the rules of refusal 32 ("The checker", "Who can cause a refusal").
 use mathlib.Core.Path.{_≡_}
 use mathlib.Core.Bool.{Bool, false}
-use mathlib.Core.List.{List, []}
+use mathlib.Core.List.{List}
 use mathlib.Core.Option.{Option, none, some}
 use Prim.Native.Nat.{ℕ}
 use lib.ListN.{length, getD}
 use Rattle.base.specs.Says.{Test, eq, ne, le, so, _and_, _or_, each, below, bool, Says}
 use Rattle.operations.specs.declared.Operation.{Operation}
 use Rattle.chart.specs.declared.charts.Head.{Head}
-use Rattle.chart.specs.declared.places.OldPlace.{OldPlace}
 use Rattle.chart.specs.declared.places.NewPlace.{NewPlace}
-use Rattle.chart.specs.Charts.{Chart, charted, start, to, operation}
+use Rattle.chart.specs.Charts.{Chart, to, operation}
 use Rattle.chart.specs.Faultless.{FaultlessChart}
-use Rattle.chart.specs.Places.{pairNumber, keptNumber, oldOf, newOf}
+use Rattle.chart.specs.Places.{pairNumber, keptNumber, oldOf, newOf, oldStart, newStart, startPair, startKept}
 use Rattle.align.specs.declared.spots.Spot.{Spot}
 use Rattle.sets.specs.Sets.{holdsAll}
 use Rattle.align.specs.Steps.{fair, step}
-use Rattle.checker.specs.Records.{Graph, spot, target}
+use Rattle.records.specs.Records.{Graph, setAt, target}
 
--- ---- the start
--- a chart's head, and the start place of a chart with that head
-abbrev pub headOf : Chart → Head
-headOf C = record { places = C .places; alarm = C .alarm }
-
-abbrev pub oldStart : Head → OldPlace
-oldStart old = record { 0 = start (charted old []) }
-
-abbrev pub newStart : Head → NewPlace
-newStart new = record { 0 = start (charted new []) }
-
--- the two nodes that a record can start from: the pair of both starts, and the kept new start
-abbrev pub startPair : Head → Head → ℕ
-startPair old new = pairNumber (oldStart old) (newStart new)
-
-abbrev pub startKept : Head → ℕ
-startKept new = keptNumber (newStart new)
+-- the old place of a pair, with the pair's set
+abbrev pub spot : Graph → ℕ → Spot
+spot G m = record { place = oldOf m; set = setAt G m }
 
 -- ---- refusal 31
 -- "start neither 0 nor 4,096"

@@ -9,9 +9,10 @@ ghost use Rattle.base.specs.Says.{bool};
 ghost use Rattle.chart.specs.Charts.{charted};
 ghost use Rattle.chart.specs.Faultless.{FaultlessChart};
 ghost use Rattle.chart.specs.Faults.{told as chartTold};
-ghost use Rattle.checker.specs.Records.{graphOf, recordOf};
+ghost use Rattle.records.specs.Records.{graphOf, recordOf};
 ghost use Rattle.checker.specs.Checks.{told, sized, inChart, recordFault, refusal};
 ghost use Rattle.checker.specs.Promise.{Promise};
+use answers::Checked;
 use base::Found;
 use base::Refusal;
 use base::sole;
@@ -21,9 +22,8 @@ use chart::inner::faults::fault;
 use chart::inner::rows;
 use inner::rules::broken;
 use inner::shape::shaped;
-use records::Checked;
 
-pub mod records; // records.rt: what the check answers
+pub mod answers; // answers.rt: what the check answers
 pub mod inner; // inner.rt: for the crates above
 
 fn is_passed(c: Checked) -> bool

@@ -20,11 +20,10 @@ use Rattle.base.proofs.Walks.{zeros-at}
 use Rattle.chart.specs.declared.charts.Head.{Head}
 use Rattle.chart.specs.declared.places.OldPlace.{OldPlace}
 use Rattle.chart.specs.declared.places.NewPlace.{NewPlace}
-use Rattle.chart.specs.Places.{keptNumber, oldOf, newOf}
+use Rattle.chart.specs.Places.{keptNumber, oldOf, newOf, startPair, startKept}
 use Rattle.sets.specs.Sets.{bit, without}
 use Rattle.align.specs.Steps.{fair}
-use Rattle.checker.specs.Records.{index}
-use Rattle.checker.specs.Rules.{startPair, startKept}
+use Rattle.records.specs.Records.{index}
 use Rattle.words.specs.Words.{Member, LowestFrom}
 use Rattle.words.proofs.Words.{none-in}
 use Rattle.words.proofs.Rests.{Coming, coming-start, coming-next, coming-more, coming-less, coming-end}

@@ -1,4 +1,4 @@
--- Laws of what a build leaves: that the check passes it is in Demand3, that it is right in Right.
-pub mod Demand3
+-- Laws of what a build leaves: how it ends is in Finishing and Left, that it is right in Right.
+pub mod Left
 pub mod Finishing
 pub mod Right

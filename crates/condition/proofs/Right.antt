@@ -8,11 +8,10 @@ use native.Mathlib.Omega.{arith}
 use native.Mathlib.Decide.{ℕ-discrete}
 use Rattle.chart.specs.Charts.{Chart, size}
 use Rattle.chart.specs.Faultless.{FaultlessChart}
-use Rattle.chart.specs.Places.{pairNumber, keptNumber, oldOf, newOf}
+use Rattle.chart.specs.Places.{pairNumber, keptNumber, oldOf, newOf, headOf}
 use Rattle.align.specs.declared.spots.Spot.{Spot}
-use Rattle.checker.specs.Records.{mark, target}
-use Rattle.checker.specs.Rules.{headOf}
-use Rattle.graph.specs.Graphs.{firstPair}
+use Rattle.records.specs.Records.{mark, target}
+use Rattle.chart.proofs.Starts.{firstPair}
 use Rattle.detector.specs.Turns.{rowsOf, leadsTo, stepOf, explored}
 use Rattle.condition.specs.Builds.{finalTargets, alone}
 use Rattle.graph.proofs.Graphs.{markAt, setAt}
@@ -20,7 +19,7 @@ use Rattle.detector.proofs.Invariant.{ToStep, explored-inv}
 use Rattle.detector.proofs.Turns.{leads-below}
 use Rattle.marker.proofs.Marks.{rank-there, Final}
 use Rattle.marker.proofs.Least.{Closed, least-open, Reached, covered-reached}
-use Rattle.condition.proofs.Demand3.{starts, targets-length, marks, left, final, steps}
+use Rattle.condition.proofs.Left.{starts, targets-length, marks, left, final, steps}
 
 -- unless the start is the lone kept node
 module _ (old new : Chart) (F : FaultlessChart old) (H : FaultlessChart new) (joint : alone (headOf old) (headOf new) (explored old new .marks) ≡ false) where

@@ -8,10 +8,9 @@ use Rattle.base.specs.Says.{bool}
 use Rattle.base.specs.Walks.{count}
 use Rattle.chart.specs.declared.charts.Head.{Head}
 use Rattle.chart.specs.Charts.{Chart}
-use Rattle.chart.specs.Places.{keptNumber, newOf}
+use Rattle.chart.specs.Places.{keptNumber, newOf, headOf, oldStart, newStart, startPair, startKept}
 use Rattle.align.specs.Steps.{fair}
-use Rattle.checker.specs.Records.{Record, recordOf}
-use Rattle.checker.specs.Rules.{headOf, oldStart, newStart, startPair, startKept}
+use Rattle.records.specs.Records.{Record, recordOf}
 use Rattle.graph.specs.Graphs.{Graph, graph, marked}
 use Rattle.detector.specs.Turns.{explored}
 use Rattle.marker.specs.Marks.{finalMarks}

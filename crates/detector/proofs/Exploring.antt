@@ -14,11 +14,12 @@ use Rattle.chart.specs.Faultless.{FaultlessChart}
 use Rattle.base.specs.declared.Found.{Found}
 use Rattle.base.specs.declared.Found.the-variants as founds
 use Rattle.base.specs.inner.Found.{toldFound}
-use Rattle.checker.specs.Rules.{startPair}
-use Rattle.checker.specs.Records.{index}
+use Rattle.chart.specs.Places.{startPair}
+use Rattle.records.specs.Records.{index}
 use Rattle.words.specs.Words.{Member, added, listed}
 use Rattle.words.proofs.Words.{length-added, added-here, length-listed, listed-here}
-use Rattle.graph.specs.Graphs.{Graph, graph, Sized, Covers, Lists, Tracks, firstPair}
+use Rattle.graph.specs.Graphs.{Graph, graph, Sized, Covers, Lists, Tracks}
+use Rattle.chart.proofs.Starts.{firstPair}
 use Rattle.detector.specs.Turns.{lowest, next, begun, taken, explored}
 use Rattle.graph.proofs.Graphs.{Shaped}
 use Rattle.graph.proofs.Parts.{graph-eq}

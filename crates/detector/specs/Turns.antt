@@ -9,11 +9,11 @@ use lib.ListN.{getD, set, replicate}
 use Rattle.base.specs.Walks.{firstFrom}
 use Rattle.base.specs.Repeat.{repeated}
 use Rattle.chart.specs.declared.places.NewPlace.{NewPlace}
-use Rattle.chart.specs.Places.{pairNumber, keptNumber, oldOf, newOf}
+use Rattle.chart.specs.Places.{pairNumber, keptNumber, oldOf, newOf, headOf, startPair}
 use Rattle.chart.specs.Charts.{Chart, size, to, operation, leaving}
 use Rattle.align.specs.declared.spots.Spot.{Spot}
 use Rattle.align.specs.Steps.{step}
-use Rattle.graph.specs.Graphs.{Graph, graph, firstPair, marked, keep, aim, join, unwait}
+use Rattle.graph.specs.Graphs.{Graph, graph, marked, keep, aim, join, unwait}
 
 -- the new rows that leave the new place of pair n (line 4), and where the r-th of them leads
 abbrev pub rowsOf : Chart → ℕ → List ℕ
@@ -57,8 +57,8 @@ module _ (old new : Chart) where
   -- line 1: "Waiting: node 0, set empty, in the graph, even where place 0 is the old alarm." "What these held before has no effect."
   unfoldable pub begun : Graph
   begun =
-      graph (set (replicate 4160 0) (firstPair old new) 1) (replicate 8192 65535) (replicate 4096 0)
-      (set (replicate 4096 0) (firstPair old new) 1)
+      graph (set (replicate 4160 0) (startPair (headOf old) (headOf new)) 1) (replicate 8192 65535) (replicate 4096 0)
+      (set (replicate 4096 0) (startPair (headOf old) (headOf new)) 1)
 
   -- the aligned step from pair n under the set v by the r-th row of its new place (lines 5 to 18 and 27)
   unfoldable pub stepOf : ℕ → ℕ → ℕ → Option Spot

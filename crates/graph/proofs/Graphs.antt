@@ -15,7 +15,7 @@ use Rattle.base.proofs.Walks.{length-pass, pass-at, small-pass, small-set}
 use Rattle.base.proofs.Tests.{T-true, and-true}
 use Rattle.chart.specs.declared.places.NewPlace.{NewPlace}
 use Rattle.chart.specs.Places.{keptNumber, oldOf}
-use Rattle.checker.specs.Records.{index}
+use Rattle.records.specs.Records.{index}
 use Rattle.sets.specs.Sets.{joined, holdsAll}
 use Rattle.graph.specs.Graphs.{Graph, graph, Sized, marked, gone, cleared, untargeted, keep, aim, due, waits, join, unwait}
 

@@ -13,7 +13,7 @@ use Rattle.base.proofs.Tests.{T-true}
 use Rattle.base.proofs.Walks.{pass-is}
 use Rattle.chart.specs.declared.places.NewPlace.{NewPlace}
 use Rattle.chart.specs.Places.{keptNumber}
-use Rattle.checker.specs.Records.{index}
+use Rattle.records.specs.Records.{index}
 use Rattle.sets.specs.Sets.{alone, meets}
 use Rattle.sets.proofs.Sets.{alone-here, meet-none}
 use Rattle.words.specs.Words.{Member, gathered}

@@ -10,7 +10,7 @@ use lib.Seq.{set-getD}
 use Rattle.base.proofs.Tests.{T-true, and-true, and-false}
 use Rattle.chart.specs.declared.places.OldPlace.{OldPlace}
 use Rattle.chart.specs.Places.{oldOf}
-use Rattle.checker.specs.Records.{index}
+use Rattle.records.specs.Records.{index}
 use Rattle.sets.specs.Sets.{joined, holdsAll}
 use Rattle.words.specs.Words.{Member, added, listed}
 use Rattle.words.proofs.Words.{added-had}

@@ -1,15 +1,14 @@
 -- Each part of a turn keeps up who waits and who was seen. Assumes nothing.
-use mathlib.Core.Path.{_≡_, refl, ap, subst, _∙_}
+use mathlib.Core.Path.{_≡_, refl, _∙_}
 use mathlib.Core.Bool.{Bool, true, false}
 use mathlib.Core.Logic.{dite}
 use mathlib.Core.List.{List}
 use Prim.Native.Nat.{ℕ, _%_, _<_}
 use native.Mathlib.Omega.{arith}
 use native.Mathlib.Decide.{ℕ-discrete}
-use lib.ListN.{length}
 use lib.Seq.{getD-set-same, getD-set-other}
 use Rattle.chart.specs.declared.places.NewPlace.{NewPlace}
-use Rattle.checker.specs.Records.{index}
+use Rattle.records.specs.Records.{index}
 use Rattle.words.specs.Words.{Member, Listed, added, removed, listed}
 use Rattle.words.proofs.Words.{length-added, added-here, added-old, length-removed, length-listed, listed-here, listed-old, unlisted-other}
 use Rattle.graph.specs.Graphs.{Graph, Sized, Covers, Lists, Tracks, keep, aim, due, join, unwait, listedIf}
@@ -95,24 +94,6 @@ module _ (alarm : ℕ) (g : Graph) (n v : ℕ) (S : Sized g) (b : n < 4096) {l s
   pub join-tracks : {l′ seen′ : List ℕ} → l′ ≡ listedIf (due alarm (g .marks) (g .sets) n v) l n → seen′ ≡ added seen n
       → Tracks l′ seen′ (join alarm g n v)
   join-tracks e f = rw (e, f) (record { lists = join-lists (due alarm (g .marks) (g .sets) n v) refl; covers = join-covers })
-
--- ---- pair n more among those seen
-module _ {seen seen′ : List ℕ} {n : ℕ} {g : Graph} (C : Covers seen g) (b : n < 4096) (e : seen′ ≡ added seen n) where
-  seen-still : (i : ℕ) → Member seen i → Member seen′ i
-  seen-still i m = rw e (added-old seen n (omega (arith, C .long)) b i m)
-
-  pub covers-added : Covers seen′ g
-  covers-added =
-      record {
-        long = ap length e ∙ length-added seen n ∙ C .long;
-        marks = λ i c p. seen-still i (C .marks i c p);
-        targets = λ i r c d u. seen-still i (C .targets i r c d u);
-        sets = λ i c p. seen-still i (C .sets i c p);
-        waiting = λ i c p. seen-still i (C .waiting i c p);
-      }
-
-  pub added-seen : {k : ℕ} → n ≡ k → Member seen′ k
-  added-seen q = subst (Member seen′) q (rw e (added-here seen n (omega (arith, C .long)) b))
 
 -- ---- a pair waits no more, and leaves its word of the list
 module _ (g : Graph) (n : ℕ) (S : Sized g) (b : n < 4096) {l seen : List ℕ} (T : Tracks l seen g) where

@@ -9,10 +9,8 @@ use lib.ListN.{length, getD, set}
 use Rattle.base.specs.Walks.{pass}
 use Rattle.chart.specs.declared.places.NewPlace.{NewPlace}
 use Rattle.chart.specs.Places.{keptNumber, oldOf, newOf}
-use Rattle.chart.specs.Charts.{Chart}
 use Rattle.sets.specs.Sets.{joined, holdsAll}
-use Rattle.checker.specs.Records.{index}
-use Rattle.checker.specs.Rules.{headOf, startPair, startKept}
+use Rattle.records.specs.Records.{index}
 use Rattle.words.specs.Words.{Member, Listed, listed}
 
 -- "Lent: marks (4,160 bytes), targets (8,192 u16 [..]), sets (4,096 u64 [..]), waiting (4,096 bytes)"
@@ -32,13 +30,6 @@ pub record Sized (g : Graph) : Type 0 where
   pub waiting : length (g .waiting) ≡ 4096
 
 -- ---- nodes
--- the pair of both starts, and the new start kept: nodes 0 and 4,096
-abbrev pub firstPair : Chart → Chart → ℕ
-firstPair old new = startPair (headOf old) (headOf new)
-
-abbrev pub firstKept : Chart → ℕ
-firstKept new = startKept (headOf new)
-
 -- a node that is in the graph, or kept: between turns its mark is 1, else 0
 unfoldable pub marked : List ℕ → ℕ → Bool
 marked m n = not (eqb (getD m n 0) 0)

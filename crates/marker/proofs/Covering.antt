@@ -14,7 +14,7 @@ use lib.Seq.{drop-cons, getD-drop, getD-set-same, getD-set-other}
 use Rattle.base.specs.Walks.{count}
 use Rattle.base.proofs.Counts.{count-set}
 use Rattle.base.proofs.Walks.{up-to}
-use Rattle.checker.specs.Records.{index}
+use Rattle.records.specs.Records.{index}
 use Rattle.sets.specs.Sets.{without}
 use Rattle.words.specs.Words.{Member, LowestFrom}
 use Rattle.words.proofs.Rests.{coming-next, coming-end, none-up}

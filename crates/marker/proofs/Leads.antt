@@ -8,7 +8,7 @@ use native.Mathlib.Decide.{ℕ-discrete, decLt}
 use borrow.Author.Tests.{ne-eqb, lt-ltb, le-ltb}
 use lib.ListN.{length, getD, set, length-set}
 use Rattle.sets.specs.Sets.{with, without}
-use Rattle.checker.specs.Records.{index}
+use Rattle.records.specs.Records.{index}
 use Rattle.words.specs.Words.{Member, LowestFrom}
 use Rattle.marker.specs.Seen.{HoldsBeyond}
 use Rattle.marker.specs.Spreads.{ledTo, ledFrom}

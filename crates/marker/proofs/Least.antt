@@ -16,7 +16,7 @@ use lib.Seq.{getD-set-other}
 use Rattle.base.proofs.Lists.{has}
 use Rattle.base.proofs.Repeat.{repeated-keeps}
 use Rattle.base.proofs.Tests.{T-or, T-or-l, T-or-r, T-true, is-true}
-use Rattle.checker.specs.Records.{index}
+use Rattle.records.specs.Records.{index}
 use Rattle.marker.specs.Marks.{plainMarks, inQ, opening, nextOpening, opened, allOpened, transitions, cover, covered, allCovered, finalMarks}
 use Rattle.marker.proofs.Marks.{Ranks, rank-there, rank-node, rank-set, plain-ranks, plain-pair, plain-node, opening-why, first-opens, all-opens, covered-ranks, covered-same, covered-not, cover-here, cover-not, cover-same}
 

@@ -16,7 +16,7 @@ use Rattle.base.proofs.Tests.{T-or, T-or-l, T-or-r, and-true, or-false}
 use Rattle.base.proofs.Repeat.{Falls, rests, repeated-keeps}
 use Rattle.base.proofs.Sums.{sum, sum-lt, sum-most}
 use Rattle.base.proofs.Walks.{length-pass, pass-at, first-is, none-passes}
-use Rattle.checker.specs.Records.{index}
+use Rattle.records.specs.Records.{index}
 use Rattle.marker.specs.Marks.{plainMark, plainMarks, inQ, opening, nextOpening, opened, allOpened, transitions, cover, covered, allCovered, finalMarks}
 
 -- the marks x of nodes whose marks between turns are m: a pair of the graph is open, covered or beyond, a kept place is kept

@@ -15,7 +15,7 @@ use lib.Seq.{getD-set-same, getD-set-other, getD-take, length-take-le, ext-getD}
 use Rattle.base.specs.Walks.{firstFrom}
 use Rattle.base.proofs.Repeat.{repeated-keeps}
 use Rattle.base.proofs.Tests.{T-or, T-true, and-true}
-use Rattle.checker.specs.Records.{index}
+use Rattle.records.specs.Records.{index}
 use Rattle.marker.specs.Marks.{inQ, opening, nextOpening, opened, allOpened, Opened, none-yet, one-more, Tried, Swept}
 use Rattle.marker.proofs.Marks.{opening-why, fours, open-less, left-beyond, all-rest}
 

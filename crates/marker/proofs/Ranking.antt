@@ -12,7 +12,7 @@ use lib.ListN.{length, getD, set, drop, drop-of-length-le, List·getD-eq-default
 use Rattle.base.specs.Walks.{count}
 use Rattle.base.proofs.Counts.{count-gap, count-none}
 use Rattle.base.proofs.Stores.{Passing, passing-none, passing-all, passing-gap}
-use Rattle.checker.specs.Records.{index}
+use Rattle.records.specs.Records.{index}
 use Rattle.marker.specs.declared.inner.marks.Counts.{Counts}
 use Rattle.marker.specs.Spans.{remade}
 use Rattle.marker.specs.Seen.{Holds}

@@ -8,7 +8,7 @@ use lib.Dec.{eqb, ltb}
 use lib.ListN.{length, getD, set, take}
 use Rattle.base.specs.Walks.{pass, firstFrom}
 use Rattle.base.specs.Repeat.{repeated}
-use Rattle.checker.specs.Records.{index}
+use Rattle.records.specs.Records.{index}
 
 -- "2 kept", and at first "4 beyond" for every pair
 unfoldable pub plainMark : ℕ → ℕ → ℕ

@@ -7,7 +7,7 @@ use Prim.Native.Nat.{ℕ, _%_, _<_}
 use lib.Dec.{eqb, ltb}
 use lib.ListN.{length, getD, set}
 use Rattle.sets.specs.Sets.{with}
-use Rattle.checker.specs.Records.{index}
+use Rattle.records.specs.Records.{index}
 use Rattle.marker.specs.Marks.{nextOpening, Opened}
 
 -- pairs were opened, one after another: y is what x has become. There was one at least, if r is not 0

@@ -10,8 +10,8 @@ use Rattle.base.proofs.Tests.{T-true}
 use Rattle.base.proofs.Walks.{zeros-at, same-at}
 use Rattle.chart.specs.Places.{keptNumber}
 use Rattle.chart.specs.Charts.{Chart}
-use Rattle.checker.specs.Records.{Record, recordOf, mark, index}
-use Rattle.graph.specs.Graphs.{firstKept}
+use Rattle.records.specs.Records.{Record, recordOf, mark, index}
+use Rattle.chart.proofs.Starts.{firstKept}
 use Rattle.paper.specs.Nodes.{SetOf, _isIn_, Pair, Node, aligned, indicator, Edge, onlyNode, number, nodeNumber, NodeNumbered}
 use Rattle.paper.specs.Algorithm2.{lone}
 use Rattle.paper.specs.Algorithm1.{Search}

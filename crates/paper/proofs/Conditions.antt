@@ -8,20 +8,18 @@ use native.Mathlib.Omega.{arith}
 use native.Mathlib.Decide.{decLt}
 use lib.ListN.{List·getD-eq-default}
 use Rattle.base.proofs.Tests.{T-true}
-use Rattle.chart.specs.Places.{keptNumber, newOf}
-use Rattle.chart.specs.Charts.{Chart}
+use Rattle.chart.specs.Places.{keptNumber, newOf, headOf}
+use Rattle.chart.specs.Charts.{Chart, Words}
 use Rattle.chart.specs.Faultless.{FaultlessChart}
-use Rattle.checker.specs.Records.{mark, target}
-use Rattle.checker.specs.Rules.{headOf}
-use Rattle.checker.specs.Promise.{Words}
-use Rattle.graph.specs.Graphs.{firstPair}
+use Rattle.records.specs.Records.{mark, target}
+use Rattle.chart.proofs.Starts.{firstPair}
 use Rattle.detector.specs.Turns.{explored}
 use Rattle.condition.specs.Builds.{finalTargets, alone}
 use Rattle.graph.proofs.Graphs.{markAt}
 use Rattle.detector.proofs.Invariant.{explored-inv}
 use Rattle.marker.proofs.Least.{Closed}
 use Rattle.marker.proofs.Marks.{rank-pair}
-use Rattle.condition.proofs.Demand3.{marks, left, final}
+use Rattle.condition.proofs.Left.{marks, left, final}
 use Rattle.condition.proofs.Right.{open-closed, open-least, covered-only, covered-all}
 use Rattle.paper.specs.Nodes.{SetOf, _isIn_, _isNotIn_, Pair, Node, aligned, indicator, Edge, edge, onlyNode, number, nodeNumber, pairOf, Numbered, NodeNumbered}
 use Rattle.paper.specs.Algorithm2.{State, DifferenceGraph, nodes, indicators, whole}

@@ -7,10 +7,9 @@ use native.Mathlib.Omega.{arith}
 use native.Mathlib.Decide.{ℕ-discrete, decLt}
 use lib.ListN.{getD}
 use lib.Seq.{ext-getD}
-use Rattle.chart.specs.Charts.{Chart}
+use Rattle.chart.specs.Charts.{Chart, Words}
 use Rattle.chart.specs.Faultless.{FaultlessChart}
-use Rattle.checker.specs.Records.{Record, recordOf, mark, setAt, target, index}
-use Rattle.checker.specs.Promise.{Words}
+use Rattle.records.specs.Records.{Record, recordOf, mark, setAt, target, index}
 use Rattle.condition.specs.Builds.{recorded}
 use Rattle.paper.specs.Nodes.{SetOf, Pair, Node, aligned, edge, nodeNumber, pairOf, NodeNumbered}
 use Rattle.paper.specs.Algorithm2.{DifferenceGraph}

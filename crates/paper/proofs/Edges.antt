@@ -15,7 +15,7 @@ use Rattle.base.proofs.Tests.{or-false}
 use Rattle.chart.specs.declared.places.NewPlace.{NewPlace}
 use Rattle.chart.specs.Places.{keptNumber, newOf}
 use Rattle.chart.specs.Charts.{Chart, size, to, operation, leaving}
-use Rattle.checker.specs.Records.{index}
+use Rattle.records.specs.Records.{index}
 use Rattle.graph.specs.Graphs.{Graph, Sized, keep, aim}
 use Rattle.detector.specs.Turns.{leadsTo}
 use Rattle.graph.proofs.Graphs.{markAt, keep-target-other, by-aim}

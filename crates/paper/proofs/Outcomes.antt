@@ -12,7 +12,7 @@ use Rattle.operations.specs.declared.Operation.{Operation}
 use Rattle.operations.specs.Assumptions.{Operands}
 use Rattle.operations.specs.Operations.{isAssignment, same}
 use Rattle.chart.specs.declared.places.OldPlace.{OldPlace}
-use Rattle.chart.specs.Charts.{Chart, operation}
+use Rattle.chart.specs.Charts.{Chart, operation, Words}
 use Rattle.chart.specs.Faultless.{FaultlessChart}
 use Rattle.align.specs.declared.spots.Spot.{Spot}
 use Rattle.sets.specs.Sets.{alone, with, without, meets}
@@ -21,7 +21,6 @@ use Rattle.align.specs.Steps.{find, oldTo, matching, matched, rewritten, rowsAt
 use Rattle.sets.proofs.Sets.{In, alone-here, alone-only, with-here, with-old, with-only, meet-some, meet-none}
 use Rattle.align.proofs.Onto.{same→eq}
 use Rattle.align.proofs.Moves.{follow-ends, follow-twice, follow-on, moved-assigned, moved-twice, moved-assumed}
-use Rattle.checker.specs.Promise.{Words}
 use Rattle.paper.specs.Nodes.{SetOf, _isIn_, _isNotIn_, _plus_}
 use Rattle.paper.specs.Lines5to18.{IsWith, onlyOld, InG, Line13, Loop, line12, line14, Lines5and6, Lines11to14, Line15, Line16, Lines5to18, line7, line8, line10, line16, line17, line18, line13-cut}
 use Rattle.paper.proofs.Members.{in-either, in-first, in-second, not-in, in-or-not}

@@ -13,20 +13,19 @@ use lib.ListN.{getD, List·getD-map}
 use Rattle.base.proofs.Tests.{T-true, or-false}
 use Rattle.chart.specs.declared.places.NewPlace.{NewPlace}
 use Rattle.chart.specs.declared.places.OldPlace.{OldPlace}
-use Rattle.chart.specs.Places.{keptNumber, newOf}
-use Rattle.chart.specs.Charts.{Chart, size}
+use Rattle.chart.specs.Places.{keptNumber, newOf, headOf}
+use Rattle.chart.specs.Charts.{Chart, size, Words}
 use Rattle.chart.specs.Faultless.{FaultlessChart}
 use Rattle.align.proofs.Parts.{two-at-most}
-use Rattle.checker.specs.Records.{Record, recordOf, mark, target, index}
-use Rattle.checker.specs.Rules.{headOf}
-use Rattle.checker.specs.Promise.{Words}
-use Rattle.graph.specs.Graphs.{firstPair, firstKept, marked}
+use Rattle.records.specs.Records.{Record, recordOf, mark, target, index}
+use Rattle.graph.specs.Graphs.{marked}
+use Rattle.chart.proofs.Starts.{firstPair, firstKept}
 use Rattle.detector.specs.Turns.{rowsOf, leadsTo, explored}
 use Rattle.condition.specs.Builds.{redirected, finalTargets, alone}
 use Rattle.graph.proofs.Graphs.{markAt, targetAt, marked-yes, marked-no, is-marked, not-marked}
 use Rattle.detector.proofs.Invariant.{Inv, Every, ToKept, ToPair, explored-inv}
 use Rattle.marker.proofs.Marks.{rank-there}
-use Rattle.condition.proofs.Demand3.{marks, left, final}
+use Rattle.condition.proofs.Left.{marks, left, final}
 use Rattle.paper.specs.Nodes.{_isIn_, _isNotIn_, Pair, pair, Node, aligned, indicator, Edge, edge, number, nodeNumber, pairOf, Numbered, NodeNumbered}
 use Rattle.paper.specs.Algorithm2.{State, nodes, indicators, Replaced, Line20, whole}
 use Rattle.paper.specs.Returned.{Marked, Targeted, Aimed, IsGraph}

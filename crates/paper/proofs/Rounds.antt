@@ -15,12 +15,11 @@ use Rattle.base.proofs.Tests.{T-true}
 use Rattle.base.proofs.Repeat.{Going, repeated-keeps, again-by, done-by}
 use Rattle.base.proofs.Walks.{zeros-at, same-at, first-is}
 use Rattle.chart.specs.Places.{keptNumber, oldOf, newOf}
-use Rattle.chart.specs.Charts.{Chart, size, operation}
+use Rattle.chart.specs.Charts.{Chart, size, operation, Words}
 use Rattle.chart.specs.Faultless.{FaultlessChart}
 use Rattle.align.specs.declared.spots.Spot.{Spot}
 use Rattle.align.proofs.Parts.{two-at-most}
-use Rattle.checker.specs.Records.{index}
-use Rattle.checker.specs.Promise.{Words}
+use Rattle.records.specs.Records.{index}
 use Rattle.graph.specs.Graphs.{Graph, marked, unwait}
 use Rattle.detector.specs.Turns.{rowsOf, next, lowest, setNow, begun, rowDone, secondDone, taken, explored}
 use Rattle.graph.proofs.Graphs.{markAt, setAt, Shaped, marked-yes, marked-no, is-marked, unwait-shaped}

@@ -15,13 +15,12 @@ use Rattle.base.proofs.OnSome.{on-at}
 use Rattle.operations.specs.Assumptions.{Operands}
 use Rattle.chart.specs.declared.places.NewPlace.{NewPlace}
 use Rattle.chart.specs.Places.{pairNumber, keptNumber, oldOf, newOf}
-use Rattle.chart.specs.Charts.{Chart, size, operation}
+use Rattle.chart.specs.Charts.{Chart, size, operation, Words}
 use Rattle.chart.specs.Faultless.{FaultlessChart}
 use Rattle.align.specs.declared.spots.Spot.{Spot}
 use Rattle.align.specs.Steps.{moved, arrived, step}
 use Rattle.chart.proofs.Conflicts.{operands}
 use Rattle.align.proofs.Parts.{row-of, row-same}
-use Rattle.checker.specs.Promise.{Words}
 use Rattle.graph.specs.Graphs.{Graph, marked, keep, aim, join, unwait}
 use Rattle.detector.specs.Turns.{rowsOf, leadsTo, stepOf, processed, rowDone}
 use Rattle.detector.specs.Turns as turns

@@ -16,7 +16,7 @@ use Rattle.base.proofs.Repeat.{Falls, rests, repeated-keeps}
 use Rattle.base.proofs.Sums.{sum, sum-lt, sum-most}
 use Rattle.base.proofs.Tests.{T-true, is-true, and-true}
 use Rattle.chart.specs.Places.{newOf}
-use Rattle.checker.specs.Records.{Record, target}
+use Rattle.records.specs.Records.{Record, target}
 use Rattle.paper.specs.Nodes.{SetOf, _isIn_, _isNotIn_, _plus_, _minus_, Pair, Node, aligned, indicator, Edge, edge, onlyNode, number, nodeNumber, pairOf, Numbered, NodeNumbered}
 use Rattle.paper.specs.Algorithm2.{DifferenceGraph}
 use Rattle.paper.specs.Algorithm1.{Precedes, Turn, Search, line1, lines3to5}

@@ -16,7 +16,7 @@ use Rattle.operations.specs.declared.Operation.{Operation}
 use Rattle.operations.specs.Assumptions.{NeverHolds, Implies, Meets}
 use Rattle.operations.specs.Operations.{isAssignment}
 use Rattle.chart.specs.declared.places.OldPlace.{OldPlace}
-use Rattle.chart.specs.Charts.{Chart, operation}
+use Rattle.chart.specs.Charts.{Chart, operation, Words}
 use Rattle.chart.specs.Charts as charts
 use Rattle.chart.specs.Conflicts.{Opposite}
 use Rattle.chart.specs.Faultless.{FaultlessChart}
@@ -26,7 +26,6 @@ use Rattle.sets.specs.Sets.{bit, with, without, meets}
 use Rattle.align.specs.Steps.{find, oldTo, along, rowsAt, atAlarm, onward}
 use Rattle.sets.proofs.Sets.{same-set}
 use Rattle.align.proofs.Agree.{not-assignment}
-use Rattle.checker.specs.Promise.{Words}
 use Rattle.paper.specs.Lines5to18.{Has, Meet, IsWith, IsWithout, InG, Line13, Line15}
 use Rattle.paper.proofs.Members.{in-or-not}
 use Rattle.paper.proofs.Stepping.{is-with, is-without, meeting, not-meeting, row-edge, no-edge, an-edge}

@@ -26,7 +26,7 @@ use Rattle.operations.specs.Operations.{kind, byKind, isKnown, isAssignment, is
 use Rattle.operations.specs.Trials.{implication}
 use Rattle.operations.proofs.Exact.{implication-means}
 use Rattle.chart.specs.declared.places.OldPlace.{OldPlace}
-use Rattle.chart.specs.Charts.{Chart, size, from, to, operation}
+use Rattle.chart.specs.Charts.{Chart, size, from, to, operation, Words}
 use Rattle.chart.specs.Faultless.{FaultlessChart}
 use Rattle.align.specs.declared.spots.Spot.{Spot}
 use Rattle.sets.specs.Sets.{bit, alone, joined, with, without, meets}
@@ -37,7 +37,6 @@ use Rattle.align.proofs.Onto.{same→eq, found}
 use Rattle.align.proofs.Moves.{onward-below}
 use Rattle.chart.proofs.Conflicts.{operands}
 use Rattle.align.proofs.Parts.{before, stands, same-row, row-of, row-same}
-use Rattle.checker.specs.Promise.{Words}
 use Rattle.detector.proofs.Steps.{row-a}
 use Rattle.graph.proofs.Graphs.{join-small}
 use Rattle.paper.specs.Nodes.{SetOf, _isIn_, emptySet, _plus_}

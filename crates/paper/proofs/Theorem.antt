@@ -10,12 +10,12 @@ use Prim.Native.Nat.{ℕ}
 use native.Mathlib.Omega.{arith}
 use lib.Dec.{eqb}
 use lib.ListN.{length-map}
-use Rattle.chart.specs.Charts.{Chart}
+use Rattle.chart.specs.Charts.{Chart, Words}
 use Rattle.chart.specs.Faultless.{FaultlessChart}
-use Rattle.checker.specs.Records.{Record, recordOf}
-use Rattle.checker.specs.Rules.{headOf}
-use Rattle.checker.specs.Promise.{Words}
-use Rattle.graph.specs.Graphs.{Graph, graph, firstPair, firstKept, marked}
+use Rattle.records.specs.Records.{Record, recordOf}
+use Rattle.chart.specs.Places.{headOf}
+use Rattle.graph.specs.Graphs.{Graph, graph, marked}
+use Rattle.chart.proofs.Starts.{firstPair, firstKept}
 use Rattle.detector.specs.Turns.{explored}
 use Rattle.marker.specs.Marks.{finalMarks}
 use Rattle.condition.specs.Builds.{redirected, finalTargets, alone, finished, built, startOf, recorded}
@@ -23,7 +23,7 @@ use Rattle.condition.specs.Builds as builds
 use Rattle.graph.proofs.Graphs.{marked-no}
 use Rattle.detector.proofs.Measure.{nothing-waits}
 use Rattle.detector.proofs.Invariant.{explored-inv}
-use Rattle.condition.proofs.Demand3.{final}
+use Rattle.condition.proofs.Left.{final}
 use Rattle.paper.specs.Nodes.{SetOf, _isNotIn_, Pair, Node, edge, number, NodeNumbered}
 use Rattle.paper.specs.Algorithm2.{State, DifferenceGraph, Ended, line19, lone, whole, returned}
 use Rattle.paper.specs.Algorithm1.{Search}

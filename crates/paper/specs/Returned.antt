@@ -6,7 +6,7 @@ use mathlib.Core.Logic.{_⊎_, _≢_, _↔_}
 use Prim.Native.Nat.{ℕ, _≤_, _<_}
 use lib.ListN.{length}
 use Rattle.chart.specs.Charts.{Chart}
-use Rattle.checker.specs.Records.{Record, mark, setAt, target}
+use Rattle.records.specs.Records.{Record, mark, setAt, target}
 use Rattle.paper.specs.Nodes.{SetOf, _isIn_, _isNotIn_, Pair, Node, aligned, Edge, edge, number, nodeNumber, pairOf, Numbered, NodeNumbered}
 use Rattle.paper.specs.Lines5to18.{Lines5to18}
 use Rattle.paper.specs.Algorithm2.{State, DifferenceGraph, Lowest, Run, Ended, returned}

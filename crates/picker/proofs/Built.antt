@@ -23,7 +23,7 @@ use Rattle.base.proofs.Tests.{T-true}
 use Rattle.chart.specs.Charts.{Chart}
 use Rattle.chart.specs.Faults.{fault}
 use Rattle.chart.proofs.Bounds.{fault-slight}
-use Rattle.checker.specs.Records.{Record, recordOf}
+use Rattle.records.specs.Records.{Record, recordOf}
 use Rattle.checker.specs.Rules.{startFits}
 use Rattle.checker.specs.Checks.{sized, inChart, recordFault, refusal as checkRefusal}
 use Rattle.checker.proofs.Passed.{passed}
@@ -32,7 +32,7 @@ use Rattle.builder.specs.declared.answers.Built.{Built}
 use Rattle.builder.specs.declared.answers.Built.the-variants as builts
 use Rattle.graph.specs.Graphs.{Graph}
 use Rattle.condition.specs.Builds.{recorded, summary}
-use Rattle.condition.proofs.Demand3.{record-passes}
+use Rattle.builder.proofs.Passing.{record-passes}
 use Rattle.paper.specs.Returned.{Returned}
 use Rattle.builder.specs.Answers.{told, lent, refusal, answered}
 use Rattle.builder.proofs.Answering.{accepted}

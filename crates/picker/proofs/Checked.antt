@@ -14,11 +14,11 @@ use Rattle.base.specs.Says.{bool}
 use Rattle.base.proofs.OnSome.{OnSome, when-on, or-on, first-on}
 use Rattle.chart.specs.Charts.{Chart, size, leaving}
 use Rattle.chart.specs.Faults.{fault}
-use Rattle.chart.specs.Places.{newOf}
+use Rattle.chart.specs.Places.{newOf, headOf}
 use Rattle.chart.proofs.Bounds.{fault-slight}
-use Rattle.checker.specs.declared.records.Checked.{Checked}
-use Rattle.checker.specs.Records.{Graph, Record, mark, index}
-use Rattle.checker.specs.Rules.{headOf, shaped, startFits, rowFits}
+use Rattle.checker.specs.declared.answers.Checked.{Checked}
+use Rattle.records.specs.Records.{Graph, Record, mark, index}
+use Rattle.checker.specs.Rules.{shaped, startFits, rowFits}
 use Rattle.checker.specs.Checks.{told, sized, inChart, ruleAt, targetFault, rowsFault, pairFault, broken, ruleFault, recordFault, refusal}
 use Rattle.checker.specs.Promise.{Promise}
 use Rattle.picker.specs.Numbers.{number, zeros}

@@ -20,7 +20,7 @@ use Rattle.chart.specs.Charts.{Chart}
 use Rattle.chart.specs.Faults.{fault}
 use Rattle.chart.proofs.Bounds.{Slight, fault-slight}
 use Rattle.checker.specs.Checks.{inChart}
-use Rattle.checker.specs.Rules.{headOf, startPair, startKept}
+use Rattle.chart.specs.Places.{headOf, startPair, startKept}
 use Rattle.condition.specs.declared.Summary.{Summary}
 use Rattle.builder.specs.declared.answers.Built.{Built}
 use Rattle.builder.specs.declared.answers.Built.the-variants as builts

@@ -10,7 +10,7 @@ use lib.Seq.{sets-eq, take-at}
 use Rattle.base.specs.declared.Refusal.{Refusal}
 use Rattle.text.specs.Written.{fieldsText, Put}
 use Rattle.text.proofs.Puts.{put-then, put-length}
-use Rattle.checker.specs.Records.{Graph, target}
+use Rattle.records.specs.Records.{Graph, target}
 use Rattle.report.specs.Lines.{line, refusalLine}
 use Rattle.report.specs.Transitions.{firstRow, transition, ofPair}
 use Rattle.condition.specs.declared.Summary.{Summary}

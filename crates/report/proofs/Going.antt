@@ -11,7 +11,7 @@ use lib.ListN.{length, take}
 use lib.Seq.{take-all, slice, slice-cons}
 use Rattle.text.specs.Written.{Put}
 use Rattle.text.proofs.Puts.{put-then, put-length}
-use Rattle.checker.specs.Records.{Graph, mark}
+use Rattle.records.specs.Records.{Graph, mark}
 use Rattle.report.specs.Transitions.{ofPair, ofPairs, remaining}
 use Rattle.report.specs.Portions.{Portioned}
 use Rattle.report.proofs.Fronts.{put-none, front-put}

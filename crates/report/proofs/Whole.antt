@@ -14,7 +14,7 @@ use Rattle.base.specs.declared.Refusal.{Refusal}
 use Rattle.text.specs.Texts.{readText}
 use Rattle.text.proofs.Theorems.{cut-text}
 use Rattle.condition.specs.Builds.{recorded, summary}
-use Rattle.checker.specs.Records.{Graph, graphOf}
+use Rattle.records.specs.Records.{Graph, graphOf}
 use Rattle.report.specs.Lines.{refusalLine}
 use Rattle.report.specs.Transitions.{ofPair, ofPairs, remaining}
 use Rattle.report.specs.Printed.{Pair, bothRead, summaryLine, transitions, condition, conditionOf, printed}

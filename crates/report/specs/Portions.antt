@@ -4,7 +4,7 @@ use mathlib.Core.List.{List, [], _++_}
 use Prim.Native.Nat.{ℕ, _≤_, _<_}
 use lib.ListN.{length, take}
 use Rattle.text.specs.Written.{Put}
-use Rattle.checker.specs.Records.{Graph}
+use Rattle.records.specs.Records.{Graph}
 use Rattle.report.specs.Transitions.{remaining}
 
 -- the bytes, and no others, are put at the front of a buffer, and r is their count. All is said by `put`; the rest follows from it, and is what

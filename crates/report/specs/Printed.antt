@@ -6,7 +6,7 @@ use Rattle.base.specs.declared.Refusal.{Refusal}
 use Rattle.base.specs.Chains.{andThen, mapped}
 use Rattle.chart.specs.Charts.{Chart}
 use Rattle.text.specs.Texts.{readText}
-use Rattle.checker.specs.Records.{Record}
+use Rattle.records.specs.Records.{Record}
 use Rattle.condition.specs.declared.Summary.{Summary}
 use Rattle.condition.specs.Builds.{recorded, summary}
 use Rattle.report.specs.Lines.{line, refusalLine}

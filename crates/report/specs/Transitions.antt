@@ -8,7 +8,7 @@ use lib.ListN.{getD}
 use lib.Seq.{slice}
 use Rattle.chart.specs.Charts.{size, from}
 use Rattle.chart.specs.Places.{newOf}
-use Rattle.checker.specs.Records.{Graph, target}
+use Rattle.records.specs.Records.{Graph, target}
 use Rattle.report.specs.Lines.{line}
 
 -- ---- "row of the new table from 0"

@@ -1,7 +1,7 @@
 // What the program prints, in portions of at most 1,024 bytes. Together they are `printed` of specs/Printed.antt.
 ghost use mathlib.Core.List.{[]};
 ghost use lib.ListN.{take};
-ghost use Rattle.checker.specs.Records.{graphOf};
+ghost use Rattle.records.specs.Records.{graphOf};
 ghost use Rattle.report.specs.Lines.{refusalLine};
 ghost use Rattle.report.specs.Printed.{summaryLine};
 ghost use Rattle.report.specs.Portions.{Front, Portioned};

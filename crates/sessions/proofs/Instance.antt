@@ -10,12 +10,13 @@ use Rattle.chart.specs.Charts.{Chart}
 use Rattle.chart.specs.Faults.{refusal as chartRefusal}
 use Rattle.chart.specs.Runs.{begin, run, reaches}
 use Rattle.chart.proofs.Faultless.{faultless}
-use Rattle.checker.specs.Records.{Record, recordOf, nodes, covered}
+use Rattle.records.specs.Records.{Record, recordOf}
+use Rattle.checker.specs.Following.{nodes, covered}
 use Rattle.checker.specs.Checks.{refusal}
 use Rattle.checker.proofs.Demand3.{demand-3-first}
 use Rattle.checker.proofs.Instance.{zeros, zeros-values, words-of}
 use Rattle.condition.specs.Builds.{recorded}
-use Rattle.condition.proofs.Demand3.{record-passes}
+use Rattle.builder.proofs.Passing.{record-passes}
 use Rattle.base.specs.Options as base-options
 use Rattle.base.specs.Repeat as base-repeat
 use Rattle.base.specs.Walks as base-walks
@@ -27,7 +28,7 @@ use Rattle.chart.specs.Runs as chart-runs
 use Rattle.sets.specs.Sets as sets-sets
 use Rattle.align.specs.Reads as align-reads
 use Rattle.align.specs.Steps as align-steps
-use Rattle.checker.specs.Records as checker-records
+use Rattle.checker.specs.Following as checker-following
 use Rattle.graph.specs.Graphs as builder-graphs
 use Rattle.detector.specs.Turns as builder-turns
 use Rattle.marker.specs.Marks as builder-marks
@@ -60,11 +61,11 @@ unfolding zeros operations-operations.kind operations-operations.operandB operat
 reached-alarm = refl
 
 pub met : nodes C (recorded C C .graph) (recorded C C .start) (0 ∷ 1 ∷ []) ≡ 0 ∷ 65 ∷ []
-unfolding R chart-charts.leavingOf checker-records.nodes
+unfolding R chart-charts.leavingOf checker-following.nodes
 met = ap (λ (R : Record). nodes C (R .graph) (R .start) (0 ∷ 1 ∷ [])) is-built
 
 pub is-covered : covered C (recorded C C) (0 ∷ 1 ∷ []) ≡ true
-unfolding R chart-charts.leavingOf checker-records.nodes checker-records.covered
+unfolding R chart-charts.leavingOf checker-following.nodes checker-following.covered
 is-covered = ap (λ (R : Record). covered C R (0 ∷ 1 ∷ [])) is-built
 
 -- so there is an old run that reaches the old alarm
@@ -75,7 +76,7 @@ old-run =
 
 -- the run of no rows stays at the start, which is open: it is not covered
 pub not-covered : covered C (recorded C C) [] ≡ false
-unfolding R chart-charts.leavingOf checker-records.nodes checker-records.covered
+unfolding R chart-charts.leavingOf checker-following.nodes checker-following.covered
 not-covered = ap (λ (R : Record). covered C R []) is-built
 
 -- row 1 does not leave the start: the list is no run

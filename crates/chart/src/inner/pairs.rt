@@ -1,7 +1,8 @@
 // The numbers of nodes: a pair, where alone an old and a new place are joined, and a kept new place; and sets of old places.
 ghost use mathlib.Core.Path.{_≡_};
 ghost use Prim.Native.Nat.{_^_, _<_};
-ghost use Rattle.chart.specs.Places.{pairNumber, keptNumber, oldOf, newOf};
+ghost use Rattle.chart.specs.Places.{pairNumber, keptNumber, oldOf, newOf, startPair, startKept};
+use crate::charts::Head;
 use crate::places::NewPlace;
 use crate::places::OldPlace;
 
@@ -30,6 +31,20 @@ pub fn new_of(pair: usize) -> NewPlace
     ensures { λ r. ⌜ r ≡ newOf pair ⌝ }
 {
     NewPlace((pair % 64) as u32)
+}
+
+// The pair of both starts.
+pub fn start_pair(old: Head, new: Head) -> usize
+    ensures { λ r. ⌜ r ≡ startPair old new ⌝ }
+{
+    0
+}
+
+// The new start, kept.
+pub fn start_kept(new: Head) -> usize
+    ensures { λ r. ⌜ r ≡ startKept new ⌝ }
+{
+    4096
 }
 
 // The set of an old place alone, as a bit of a set of old places. Its pair with the new place 0 is 64 × p.

@@ -2,8 +2,8 @@
 use mathlib.Core.Path.{_∙_}
 use Rattle.chart.specs.Charts.{charted}
 use borrow.Author.Tests.{not-true, not-false}
-use Rattle.checker.proofs.Answers.{lengths-refused, marks-sized, targets-sized, sets-sized, old-refused, old-sound, new-refused, new-sound, record-judged, promised}
-use Rattle.checker.specs.Records.{recordOf}
+use Rattle.checker.proofs.Answering.{lengths-refused, marks-sized, targets-sized, sets-sized, old-refused, old-sound, new-refused, new-sound, record-judged, promised}
+use Rattle.records.specs.Records.{recordOf}
 use Rattle.checker.specs.Checks.{sized}
 use native.Mathlib.Omega.{arith}
 use borrow.Author.Needs.{needs}

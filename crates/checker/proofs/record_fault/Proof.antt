@@ -3,9 +3,9 @@ use mathlib.Core.Path.{sym, ap, _∙_}
 use borrow.Author.Tests.{not-true, not-false}
 use Rattle.chart.proofs.Faultless.{indexable}
 use Rattle.base.specs.inner.Found.{toldFound}
-use Rattle.checker.proofs.Answers.{shape-refused, rules-judged, judged}
+use Rattle.checker.proofs.Answering.{shape-refused, rules-judged, judged}
 use Rattle.checker.specs.Rules.{shaped}
-use Rattle.checker.specs.Records.{recordOf}
+use Rattle.records.specs.Records.{recordOf}
 use borrow.Author.Needs.{needs}
 use Rattle.checker.proofs.record_fault.Statement.{statement}
 use Rattle.checker.proofs.record_fault.Tie as tie

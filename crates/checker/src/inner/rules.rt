@@ -8,19 +8,21 @@ ghost use Rattle.chart.specs.Charts.{charted, leaving};
 ghost use Rattle.chart.specs.Lookup.{Indexed};
 ghost use Rattle.chart.specs.Places.{newOf};
 ghost use Rattle.base.specs.inner.Found.{toldFound};
-ghost use Rattle.checker.specs.Records.{graphOf, recordOf};
+ghost use Rattle.records.specs.Records.{graphOf, recordOf};
 ghost use Rattle.checker.specs.Rules.{startFits, Admitted};
 ghost use Rattle.checker.specs.Packed.{packed};
 ghost use Rattle.checker.specs.Checks.{targetFault, rowsFault, pairFault, broken};
-use crate::inner::shape::blank;
 use crate::inner::targets::row_fits;
 use align::inner::step::fair;
 use base::Found;
 use chart::charts::Head;
 use chart::inner::pairs::new_of;
 use chart::inner::pairs::old_of;
+use chart::inner::pairs::start_kept;
+use chart::inner::pairs::start_pair;
 use chart::inner::rows::rows_of;
 use chart::places::Place;
+use records::inner::marks::blank;
 
 fn is_nothing(f: Found) -> bool
     ensures { λ r. ⌜ r ≡ missing (toldFound f) ⌝ }
@@ -36,14 +38,17 @@ fn start_fits(old: Head, new: Head, start: u32, marks: &[u8]) -> bool
     requires { ⌜ length (now marks) ≡ 4160 ⌝ }
     ensures { λ r. ⌜ r ≡ bool (startFits old new start (now (marks .entry))) ⌝ }
 {
-    if start == 0 {
-        if marks[0] != 1 {
+    let n = start as usize;
+    let pair = start_pair(old, new);
+    if n == pair {
+        if marks[pair] != 1 {
             return false;
         }
-        return fair(old, new, old_of(0), new_of(0));
+        return fair(old, new, old_of(pair), new_of(pair));
     }
-    if start == 4096 {
-        return marks[4096] == 2;
+    let kept = start_kept(new);
+    if n == kept {
+        return marks[kept] == 2;
     }
     false
 }

@@ -1,21 +1,25 @@
 // What every record of two charts is like: a start, marks and targets that can be (refusal 31).
 ghost use mathlib.Core.Path.{_≡_};
-ghost use mathlib.Core.Bool.{_&&_, _||_};
+ghost use mathlib.Core.Bool.{_&&_};
 ghost use Prim.Native.Nat.{ℕ, _+_, _*_, _≤_, _<_};
-ghost use lib.Dec.{eqb, leb, ltb};
+ghost use lib.Dec.{leb, ltb};
 ghost use lib.ListN.{length, getD};
 ghost use Rattle.base.specs.Says.{eq, ne, le, _and_, _or_, each, below, bool};
-ghost use Rattle.checker.specs.Rules.{markFits, marksFit, targetFits, targetsFit, shaped};
+ghost use Rattle.checker.specs.Rules.{startNamed, markFits, marksFit, targetFits, targetsFit, shaped};
 use chart::charts::Head;
+use chart::inner::pairs::start_kept;
+use chart::inner::pairs::start_pair;
+use records::inner::marks::blank;
 
 // Whether the start is one of the two nodes that a record can start from.
-fn start_named(start: u32) -> bool
-    ensures { λ r. ⌜ r ≡ eqb start 0 || eqb start 4096 ⌝ }
+fn start_named(old: Head, new: Head, start: u32) -> bool
+    ensures { λ r. ⌜ r ≡ bool (startNamed old new start) ⌝ }
 {
-    if start == 0 {
+    let n = start as usize;
+    if n == start_pair(old, new) {
         return true;
     }
-    start == 4096
+    n == start_kept(new)
 }
 
 // The larger of two marks: at most k exactly where both are.
@@ -51,20 +55,6 @@ fn worst(marks: &[u8], from: usize, n: usize, never: u8) -> u8
         j += 1;
     }
     w
-}
-
-// Whether n marks are all 0. They are joined, which the compiler tests at once; the largest of them would cost it far more.
-pub fn blank(marks: &[u8], from: usize, n: usize) -> bool
-    requires { ⌜ from + n ≤ length (now marks) ⌝ }
-    ensures { λ r. ⌜ r ≡ bool (each n (λ j. eq (getD (now (marks .entry)) (from + j) 0) 0)) ⌝ }
-{
-    let mut all = 0;
-    let mut j = 0;
-    while j < n {
-        all = all | marks[from + j];
-        j += 1;
-    }
-    all == 0
 }
 
 // Of 64 marks, whether the first n are at most `most` and not `never`, and the others 0.
@@ -153,7 +143,7 @@ pub fn shaped(old: Head, new: Head, start: u32, marks: &[u8], targets: &[u16]) -
     requires { ⌜ (length (now marks) ≡ 4160) × (length (now targets) ≡ 8192) ⌝ }
     ensures { λ r. ⌜ r ≡ bool (shaped old new start (now (marks .entry)) (now (targets .entry))) ⌝ }
 {
-    if !start_named(start) {
+    if !start_named(old, new, start) {
         return false;
     }
     if !marks_fit(old, new, marks) {

@@ -1,12 +1,13 @@
 // The end of a build: targets of kept places, the lone kept start, and the marks of Algorithm 1.
 ghost use mathlib.Core.Path.{_≡_};
+ghost use mathlib.Core.Bool.{false};
 ghost use mathlib.Core.List.{map};
 ghost use Prim.Native.Nat.{ℕ, _+_, _*_, _≤_, _<_};
 ghost use lib.ListN.{length, getD, take, drop};
 ghost use Rattle.base.specs.Walks.{count};
 ghost use Rattle.sets.specs.Sets.{bit};
-ghost use Rattle.checker.specs.Records.{index};
-ghost use Rattle.checker.specs.Rules.{startPair};
+ghost use Rattle.records.specs.Records.{index};
+ghost use Rattle.chart.specs.Places.{startPair};
 ghost use Rattle.words.specs.Words.{Member};
 ghost use Rattle.graph.specs.Graphs.{graph, Sized, Covers};
 ghost use Rattle.marker.specs.Spans.{remade};
@@ -17,12 +18,12 @@ use chart::charts::Head;
 use chart::inner::pairs::kept;
 use chart::inner::pairs::new_of;
 use chart::inner::pairs::old_of;
-use checker::inner::shape::blank;
-use detector::inner::explore::first_kept;
-use detector::inner::explore::first_pair;
+use chart::inner::pairs::start_kept;
+use chart::inner::pairs::start_pair;
 use graph::inner::buffers;
 use graph::inner::graphs::is_marked;
 use marker::inner::marks::rank;
+use records::inner::marks::blank;
 use sets::inner::bits::without;
 use words::inner::members;
 
@@ -100,10 +101,10 @@ fn is_alone(old: Head, new: Head, marks: &[u8]) -> bool
     requires { ⌜ length (now marks) ≡ 4160 ⌝ }
     ensures { λ r. ⌜ r ≡ alone old new (now (marks .entry)) ⌝ }
 {
-    if is_marked(marks, first_kept(new)) {
+    if is_marked(marks, start_kept(new)) {
         return true;
     }
-    let first = first_pair(old, new);
+    let first = start_pair(old, new);
     !fair(old, new, old_of(first), new_of(first))
 }
 
@@ -119,7 +120,7 @@ fn leave_alone(
     ensures { λ _. ⌜ graph (now (marks .exit)) (now (targets .exit)) (now (sets .exit)) (now (waiting .exit)) ≡ lone new ⌝ }
 {
     buffers::fill8(marks, 0);
-    buffers::put8(marks, first_kept(new), 2);
+    buffers::put8(marks, start_kept(new), 2);
     buffers::fill16(targets, 65535);
     buffers::fill64(sets, 0);
     buffers::fill8(waiting, 0);
@@ -150,7 +151,7 @@ fn count_row(marks: &[u8], i: usize, v: u8) -> usize
 }
 
 // The final contents of the buffers, where no pair waits, and the start with the counts of marks 1, 2 and 3. Only pairs that were seen are looked
-// at, up to the last word that has one: the start pair and all that have something in a buffer. Whoever has buffers as found hands over a set
+// at, up to the last word that has one: all that have something in a buffer, the start pair unless its new place is left alone. Whoever has buffers as found hands over a set
 // with all pairs.
 pub fn finish(
     old: Head,
@@ -162,7 +163,7 @@ pub fn finish(
     seen: &[u64],
 ) -> Summary
     requires { ⌜ Sized (graph (now marks) (now targets) (now sets) (now waiting)) ⌝ }
-    requires { ⌜ Covers (now seen) (graph (now marks) (now targets) (now sets) (now waiting)) × Member (now seen) (startPair old new) ⌝ }
+    requires { ⌜ Covers (now seen) (graph (now marks) (now targets) (now sets) (now waiting)) × (alone old new (now marks) ≡ false → Member (now seen) (startPair old new)) ⌝ }
     ensures { λ r. ⌜ (graph (now (marks .exit)) (now (targets .exit)) (now (sets .exit)) (now (waiting .exit))
         ≡ finished old new (graph (now (marks .entry)) (now (targets .entry)) (now (sets .entry)) (now (waiting .entry))))
         × (r ≡ summary (startOf old new (now (marks .entry))) (now (marks .exit))) ⌝ }
@@ -170,13 +171,13 @@ pub fn finish(
     if is_alone(old, new, &*marks) {
         leave_alone(new, marks, targets, sets, waiting);
         return Summary {
-            start: first_kept(new),
+            start: start_kept(new),
             opened: 0,
             kept: 1,
             covered: 0,
         };
     }
-    let first = first_pair(old, new);
+    let first = start_pair(old, new);
     let top = used(seen);
     let cut = &seen[..top];
     redirect_kept(&*marks, targets, cut);

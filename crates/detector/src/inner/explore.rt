@@ -6,28 +6,15 @@ ghost use lib.ListN.{length};
 ghost use Rattle.chart.specs.Charts.{charted};
 ghost use Rattle.chart.specs.Faultless.{FaultlessChart};
 ghost use Rattle.chart.specs.Lookup.{Indexed};
-ghost use Rattle.checker.specs.Rules.{startPair, startKept};
+ghost use Rattle.chart.specs.Places.{startPair, startKept};
 ghost use Rattle.graph.specs.Graphs.{graph, Sized, Covers};
 ghost use Rattle.detector.specs.Turns.{begun, explored};
 use crate::inner::turns;
 use base::Found;
 use chart::charts::Head;
+use chart::inner::pairs::start_pair;
 use graph::inner::buffers;
 use words::inner::members;
-
-// The pair of both starts.
-pub fn first_pair(old: Head, new: Head) -> usize
-    ensures { λ r. ⌜ r ≡ startPair old new ⌝ }
-{
-    0
-}
-
-// The new start, kept.
-pub fn first_kept(new: Head) -> usize
-    ensures { λ r. ⌜ r ≡ startKept new ⌝ }
-{
-    4096
-}
 
 // The start pair alone is in the graph, and waits.
 fn begin(
@@ -41,7 +28,7 @@ fn begin(
     requires { ⌜ Sized (graph (now marks) (now targets) (now sets) (now waiting)) ⌝ }
     ensures { λ _. ⌜ ((o n : List ℕ) → graph (now (marks .exit)) (now (targets .exit)) (now (sets .exit)) (now (waiting .exit)) ≡ begun (charted old o) (charted new n)) ⌝ }
 {
-    let first = first_pair(old, new);
+    let first = start_pair(old, new);
     buffers::fill8(marks, 0);
     buffers::put8(marks, first, 1);
     buffers::fill16(targets, 65535);
@@ -74,8 +61,8 @@ pub fn explore<'a>(
 {
     begin(old, new, marks, targets, sets, waiting);
     let mut waits = [0u64; 65];
-    members::list(&mut waits, first_pair(old, new));
-    members::add(seen, first_pair(old, new));
+    members::list(&mut waits, start_pair(old, new));
+    members::add(seen, start_pair(old, new));
     loop {
         match turns::lowest(&mut waits, &*waiting) {
             Found::At(n) => {

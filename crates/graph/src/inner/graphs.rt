@@ -4,7 +4,7 @@ ghost use mathlib.Core.List.{List};
 ghost use Prim.Native.Nat.{ℕ, _<_};
 ghost use lib.ListN.{length, set, getD};
 ghost use Rattle.sets.specs.Sets.{joined};
-ghost use Rattle.checker.specs.Records.{index};
+ghost use Rattle.records.specs.Records.{index};
 ghost use Rattle.words.specs.Words.{Member, added};
 ghost use Rattle.graph.specs.Graphs.{graph, Sized, Covers, marked, cleared, untargeted, keep, aim, due, join, listedIf};
 use crate::inner::buffers;

@@ -4,7 +4,7 @@ ghost use mathlib.Core.List.{[]};
 ghost use Prim.Native.Nat.{_+_, _<_, _≤_};
 ghost use lib.ListN.{length, getD};
 ghost use Rattle.text.specs.Written.{Put};
-ghost use Rattle.checker.specs.Records.{graphOf};
+ghost use Rattle.records.specs.Records.{graphOf};
 ghost use Rattle.report.specs.Transitions.{firstRow, transition, ofPair};
 ghost use Rattle.report.specs.Portions.{Portioned};
 use crate::inner::lines::put_line;

@@ -1,7 +1,7 @@
 -- `checker::inner::rules::broken` meets its contract: the start, then the targets. Assumes nothing.
 use borrow.Author.Tests.{not-true, not-false}
-use Rattle.checker.proofs.Answers.{start-broken, targets-judged}
-use Rattle.checker.specs.Records.{recordOf}
+use Rattle.checker.proofs.Answering.{start-broken, targets-judged}
+use Rattle.records.specs.Records.{recordOf}
 use borrow.Author.Needs.{needs}
 use Rattle.checker.proofs.inner.rules.broken.Statement.{statement}
 use Rattle.checker.proofs.inner.rules.broken.Tie as tie

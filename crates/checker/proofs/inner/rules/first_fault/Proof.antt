@@ -1,7 +1,7 @@
 -- `checker::inner::rules::first_fault` meets its contract. The invariant: no pair passed has a fault. Assumes nothing.
 use mathlib.Core.Path.{_≡_, refl, sym, ap, _∙_}
 use borrow.Author.Tests.{not-true, not-false}
-use Rattle.checker.specs.Records.{graphOf}
+use Rattle.records.specs.Records.{graphOf}
 use Rattle.checker.specs.Checks.{pairFault}
 use Rattle.base.specs.Options.{firstOf, missing}
 use Rattle.base.proofs.Options.{first-at, none-all}

@@ -3,7 +3,7 @@ use mathlib.Core.Path.{ap}
 use Rattle.chart.specs.declared.places.NewPlace.{NewPlace}
 use native.Mathlib.Omega.{arith}
 use Rattle.checker.proofs.Targets.{absent, part-of, present}
-use Rattle.checker.specs.Records.{graphOf}
+use Rattle.records.specs.Records.{graphOf}
 use Rattle.chart.proofs.Faultless.{ascends, no-refusal}
 use borrow.Author.Needs.{needs}
 use Rattle.checker.proofs.inner.rules.pair_fault.Statement.{statement}

@@ -8,7 +8,7 @@ use native.Mathlib.Omega.{arith}
 use Rattle.base.specs.Options.{firstOf, missing}
 use Rattle.base.proofs.Options.{first-at, none-at, none-all}
 use Rattle.chart.specs.Charts.{charted}
-use Rattle.checker.specs.Records.{graphOf}
+use Rattle.records.specs.Records.{graphOf}
 use Rattle.checker.specs.Checks.{targetFault}
 use Rattle.checker.proofs.Targets.{both-rows}
 use Rattle.checker.proofs.inner.rules.rows_fault.Statement.{statement}

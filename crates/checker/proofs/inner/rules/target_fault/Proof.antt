@@ -1,6 +1,6 @@
 -- `checker::inner::rules::target_fault` meets its contract: no row, one that fits, or one at fault. Assumes nothing.
 use Rattle.checker.proofs.Targets.{no-row, row-fine, row-fails}
-use Rattle.checker.specs.Records.{graphOf}
+use Rattle.records.specs.Records.{graphOf}
 use borrow.Author.Needs.{needs}
 use Rattle.checker.proofs.inner.rules.target_fault.Statement.{statement}
 use Rattle.checker.proofs.inner.rules.target_fault.Tie as tie

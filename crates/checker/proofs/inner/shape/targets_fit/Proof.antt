@@ -6,7 +6,7 @@ use lib.Dec.{leb}
 use lib.ListN.{getD}
 use Rattle.base.specs.Says.{bool, every}
 use Rattle.checker.specs.Rules.{targetFits, targetsFit}
-use Rattle.checker.proofs.Shapes.{all-next, all-taken}
+use Rattle.records.proofs.Marks.{all-next, all-taken}
 use borrow.Author.Needs.{needs}
 use native.Mathlib.Omega.{arith}
 use Rattle.checker.proofs.inner.shape.targets_fit.Statement.{statement}

@@ -5,7 +5,7 @@ use Prim.Native.Nat.{ℕ, _+_, _-_, _≤_, _<_}
 use lib.Dec.{leb, leb·zero}
 use lib.ListN.{getD}
 use Rattle.base.specs.Says.{ne, le, _and_, bool, every}
-use Rattle.checker.proofs.Shapes.{all-next, all-taken}
+use Rattle.records.proofs.Marks.{all-next, all-taken}
 use borrow.Author.Needs.{needs}
 use native.Mathlib.Omega.{arith}
 use Rattle.checker.proofs.inner.shape.worst.Statement.{statement}

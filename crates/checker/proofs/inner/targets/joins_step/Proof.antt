@@ -1,7 +1,7 @@
 -- `checker::inner::targets::joins_step` meets its contract: by what the step comes to. Assumes nothing.
 use mathlib.Core.Path.{ap}
 use Rattle.checker.proofs.Targets.{row-right, row-below, pair-below, stepped-below, joins-failed, joins-stepped}
-use Rattle.checker.specs.Records.{graphOf}
+use Rattle.records.specs.Records.{graphOf}
 use Rattle.align.specs.Steps.{told as stepTold}
 use borrow.Author.Needs.{needs}
 use Rattle.checker.proofs.inner.targets.joins_step.Statement.{statement}

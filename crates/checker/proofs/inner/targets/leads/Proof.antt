@@ -1,6 +1,6 @@
 -- `checker::inner::targets::leads` meets its contract: at the old alarm, kept, or by the step. Assumes nothing.
 use Rattle.checker.proofs.Targets.{row-below, leads-resting, leads-kept, leads-stepped}
-use Rattle.checker.specs.Records.{graphOf}
+use Rattle.records.specs.Records.{graphOf}
 use borrow.Author.Needs.{needs}
 use Rattle.checker.proofs.inner.targets.leads.Statement.{statement}
 use Rattle.checker.proofs.inner.targets.leads.Tie as tie

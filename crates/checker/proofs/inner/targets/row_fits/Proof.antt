@@ -3,7 +3,7 @@ use Prim.Native.Nat.{_+_, _*_}
 use borrow.Author.Tests.{not-true, not-false}
 use Rattle.checker.proofs.Shapes.{fits-at}
 use Rattle.checker.proofs.Targets.{row-astray, row-ranked}
-use Rattle.checker.specs.Records.{graphOf}
+use Rattle.records.specs.Records.{graphOf}
 use native.Mathlib.Omega.{arith}
 use borrow.Author.Needs.{needs}
 use Rattle.checker.proofs.inner.targets.row_fits.Statement.{statement}

@@ -12,8 +12,8 @@ is-alone-requires c κs = search needs
 leave-alone-requires : tie.Need-leave-alone-requires
 leave-alone-requires c κs = search needs
 
-first-kept-requires : tie.Need-first-kept-requires
-first-kept-requires c κs = search needs
+start-kept-requires : tie.Need-start-kept-requires
+start-kept-requires c κs = search needs
 
 same-length : tie.Need-same-length
 same-length c = search needs
@@ -28,10 +28,10 @@ same-length-4 : tie.Need-same-length-4
 same-length-4 c = search needs
 
 returns : tie.Need-returns
-returns c = (search finish-alone, summed-alone _ _ _ (c .before .before .before .before .before .before .before .before .before .before .before .before .before .before .before .is-alone .ensures) (c .before .before .before .before .before .before .before .before .before .before .before .before .before .before .if1 .taken) (c .first-kept .ensures) (c .before .before .before .before .before .before .before .before .before .leave-alone .ensures))
+returns c = (search finish-alone, summed-alone _ _ _ (c .before .before .before .before .before .before .before .before .before .before .before .before .before .before .before .is-alone .ensures) (c .before .before .before .before .before .before .before .before .before .before .before .before .before .before .if1 .taken) (c .start-kept .ensures) (c .before .before .before .before .before .before .before .before .before .leave-alone .ensures))
 
-first-pair-requires : tie.Need-first-pair-requires
-first-pair-requires c κs = search needs
+start-pair-requires : tie.Need-start-pair-requires
+start-pair-requires c κs = search needs
 
 used-requires : tie.Need-used-requires
 used-requires c κs = search needs
@@ -49,7 +49,7 @@ rank-requires : tie.Need-rank-requires
 rank-requires c κs =
     let p = c .before .before .before .before .before .before .before .before .before .before .before .before .before .before .before .before .before .before .pre .1 in
     let U = c .before .before .before .before .before .before .before .before .used .ensures in
-    (search needs, search needs, search needs, used-holds (p .0) U, used-here (p .0) U (c .before .before .before .before .before .before .before .before .before .first-pair .ensures) (p .1))
+    (search needs, search needs, search needs, used-holds (p .0) U, used-here (p .0) U (c .before .before .before .before .before .before .before .before .before .start-pair .ensures) (p .1 (sym (c .before .before .before .before .before .before .before .before .before .before .before .is-alone .ensures) ∙ c .before .before .before .before .before .before .before .before .before .before .if1 .left)))
 
 count-row-requires : tie.Need-count-row-requires
 count-row-requires c κs = search needs
@@ -61,7 +61,7 @@ same-length-6 : tie.Need-same-length-6
 same-length-6 c = search needs
 
 returns-2 : tie.Need-returns-2
-returns-2 c = (search finish-joint, summed-joint _ _ _ (c .before .before .before .before .before .before .before .before .before .before .before .before .before .before .before .before .is-alone .ensures) _ _ (c .before .before .before .before .before .before .before .before .before .before .before .before .before .before .before .if1 .left) (c .before .before .before .before .before .before .before .before .before .before .before .before .before .before .first-pair .ensures) (c .before .before .before .before .before .before .before .before .before .before .before .before .before .before .before .before .before .before .before .before .before .before .before .pre .0 .marks) (c .before .before .before .before .before .before .before .before .before .redirect-kept .kept .1 .0 ∙ c .before .before .before .before .before .before .before .before .before .before .before .before .before .before .before .before .before .before .before .before .before .before .before .pre .0 .targets) (c .before .before .before .before .rank .ensures) (c .count-row .ensures))
+returns-2 c = (search finish-joint, summed-joint _ _ _ (c .before .before .before .before .before .before .before .before .before .before .before .before .before .before .before .before .is-alone .ensures) _ _ (c .before .before .before .before .before .before .before .before .before .before .before .before .before .before .before .if1 .left) (c .before .before .before .before .before .before .before .before .before .before .before .before .before .before .start-pair .ensures) (c .before .before .before .before .before .before .before .before .before .before .before .before .before .before .before .before .before .before .before .before .before .before .before .pre .0 .marks) (c .before .before .before .before .before .before .before .before .before .redirect-kept .kept .1 .0 ∙ c .before .before .before .before .before .before .before .before .before .before .before .before .before .before .before .before .before .before .before .before .before .before .before .pre .0 .targets) (c .before .before .before .before .rank .ensures) (c .count-row .ensures))
 
 pub finish-spec : {M : Type 1} → statement M
 finish-spec =
@@ -69,13 +69,13 @@ finish-spec =
     (tie.spec
     is-alone-requires
     leave-alone-requires
-    first-kept-requires
+    start-kept-requires
     same-length
     same-length-2
     same-length-3
     same-length-4
     returns
-    first-pair-requires
+    start-pair-requires
     used-requires
     slice-aggregate-cut
     redirect-kept-requires

@@ -4,8 +4,8 @@ use borrow.Author.Needs.{needs}
 use Rattle.condition.proofs.inner.finish.is_alone.Statement.{statement}
 use Rattle.condition.proofs.inner.finish.is_alone.Tie as tie
 
-first-kept-requires : tie.Need-first-kept-requires
-first-kept-requires c κs = search needs
+start-kept-requires : tie.Need-start-kept-requires
+start-kept-requires c κs = search needs
 
 is-marked-requires : tie.Need-is-marked-requires
 is-marked-requires c κs = search needs
@@ -13,8 +13,8 @@ is-marked-requires c κs = search needs
 returns : tie.Need-returns
 returns c = search alone-kept
 
-first-pair-requires : tie.Need-first-pair-requires
-first-pair-requires c κs = search needs
+start-pair-requires : tie.Need-start-pair-requires
+start-pair-requires c κs = search needs
 
 old-of-requires : tie.Need-old-of-requires
 old-of-requires c κs = search needs
@@ -32,10 +32,10 @@ pub is-alone-spec : {M : Type 1} → statement M
 is-alone-spec =
     tie.close
     (tie.spec
-    first-kept-requires
+    start-kept-requires
     is-marked-requires
     returns
-    first-pair-requires
+    start-pair-requires
     old-of-requires
     new-of-requires
     fair-requires

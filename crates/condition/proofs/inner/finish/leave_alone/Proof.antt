@@ -7,8 +7,8 @@ use Rattle.condition.proofs.inner.finish.leave_alone.Tie as tie
 fill8-requires : tie.Need-fill8-requires
 fill8-requires c κs = search needs
 
-first-kept-requires : tie.Need-first-kept-requires
-first-kept-requires c κs = search needs
+start-kept-requires : tie.Need-start-kept-requires
+start-kept-requires c κs = search needs
 
 put8-requires : tie.Need-put8-requires
 put8-requires c κs = search needs
@@ -42,7 +42,7 @@ leave-alone-spec =
     tie.close
     (tie.spec
     fill8-requires
-    first-kept-requires
+    start-kept-requires
     put8-requires
     fill16-requires
     fill64-requires

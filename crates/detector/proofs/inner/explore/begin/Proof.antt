@@ -4,8 +4,8 @@ use borrow.Author.Needs.{needs}
 use Rattle.detector.proofs.inner.explore.begin.Statement.{statement}
 use Rattle.detector.proofs.inner.explore.begin.Tie as tie
 
-first-pair-requires : tie.Need-first-pair-requires
-first-pair-requires c κs = search needs
+start-pair-requires : tie.Need-start-pair-requires
+start-pair-requires c κs = search needs
 
 fill8-requires : tie.Need-fill8-requires
 fill8-requires c κs = search needs
@@ -44,7 +44,7 @@ pub begin-spec : {M : Type 1} → statement M
 begin-spec =
     tie.close
     (tie.spec
-    first-pair-requires
+    start-pair-requires
     fill8-requires
     put8-requires
     fill16-requires

@@ -23,20 +23,20 @@ begin-requires c κs = search needs
 slice-aggregate-list : tie.Need-slice-aggregate-list Inv-loop μ-loop
 slice-aggregate-list c = search needs
 
-first-pair-requires : tie.Need-first-pair-requires Inv-loop μ-loop
-first-pair-requires c κs = search needs
+start-pair-requires : tie.Need-start-pair-requires Inv-loop μ-loop
+start-pair-requires c κs = search needs
 
 list-requires : tie.Need-list-requires Inv-loop μ-loop
 list-requires c κs = search needs
 
-first-pair-requires-2 : tie.Need-first-pair-requires-2 Inv-loop μ-loop
-first-pair-requires-2 c κs = search needs
+start-pair-requires-2 : tie.Need-start-pair-requires-2 Inv-loop μ-loop
+start-pair-requires-2 c κs = search needs
 
 add-requires : tie.Need-add-requires Inv-loop μ-loop
 add-requires c κs = (omega (arith, c .before .before .before .before .before .before .before .before .before .before .before .before .before .before .before .before .before .before .before .before .before .before .before .before .before .before .pre .1 .1 .1 .1), search needs)
 
 loop-holds : tie.Need-loop-holds Inv-loop μ-loop
-loop-holds c = build-begun _ _ _ _ (c .before .before .before .before .before .before .before .before .before .before .before .before .before .before .before .before .before .before .before .before .before .before .before .before .before .before .before .before .before .pre .0) (c .before .before .before .before .before .before .before .before .before .before .before .before .before .before .before .before .before .before .before .before .before .before .before .before .before .before .before .before .before .pre .1 .0) (c .before .before .before .before .before .before .before .before .before .before .before .before .before .before .before .before .before .begin .ensures _ _) refl (c .before .before .before .before .before .before .before .first-pair .ensures) (c .before .before .before .before .before .before .list .ensures) (c .before .before .before .before .before .before .before .before .before .before .before .before .before .before .before .before .before .before .before .before .before .before .before .before .before .before .before .before .before .pre .1 .1 .1 .1) (c .before .before .before .first-pair2 .ensures) (c .before .before .add .ensures)
+loop-holds c = build-begun _ _ _ _ (c .before .before .before .before .before .before .before .before .before .before .before .before .before .before .before .before .before .before .before .before .before .before .before .before .before .before .before .before .before .pre .0) (c .before .before .before .before .before .before .before .before .before .before .before .before .before .before .before .before .before .before .before .before .before .before .before .before .before .before .before .before .before .pre .1 .0) (c .before .before .before .before .before .before .before .before .before .before .before .before .before .before .before .before .before .begin .ensures _ _) refl (c .before .before .before .before .before .before .before .start-pair .ensures) (c .before .before .before .before .before .before .list .ensures) (c .before .before .before .before .before .before .before .before .before .before .before .before .before .before .before .before .before .before .before .before .before .before .before .before .before .before .before .before .before .pre .1 .1 .1 .1) (c .before .before .before .start-pair2 .ensures) (c .before .before .add .ensures)
 
 slice-aggregate-lowest : tie.Need-slice-aggregate-lowest Inv-loop μ-loop
 slice-aggregate-lowest c = sym (c .before .loop .inv .tracks .lists .long)
@@ -88,9 +88,9 @@ explore-spec =
     μ-loop
     begin-requires
     slice-aggregate-list
-    first-pair-requires
+    start-pair-requires
     list-requires
-    first-pair-requires-2
+    start-pair-requires-2
     add-requires
     loop-holds
     slice-aggregate-lowest

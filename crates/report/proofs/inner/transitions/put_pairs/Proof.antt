@@ -1,7 +1,7 @@
 -- The loop has put the transitions of the pairs that it passed. Assumes nothing.
 use mathlib.Core.List.{[]}
 use Prim.Native.Nat.{_-_}
-use Rattle.checker.specs.Records.{graphOf}
+use Rattle.records.specs.Records.{graphOf}
 use Rattle.report.proofs.Going.{Going, going-start, going-more, going-moved, going-done}
 use borrow.Author.Needs.{needs}
 use native.Mathlib.Omega.{arith}

@@ -1,14 +1,14 @@
--- `checker::inner::shape::blank` meets its contract. The invariant: what is joined is 0 exactly where each one passed is. Assumes nothing.
+-- `records::inner::marks::blank` meets its contract. The invariant: what is joined is 0 exactly where each one passed is. Assumes nothing.
 use mathlib.Core.Path.{_≡_, refl}
 use Prim.Native.Nat.{_+_, _-_, _≤_}
 use lib.Dec.{eqb}
 use lib.ListN.{getD}
 use Rattle.base.specs.Says.{every}
-use Rattle.checker.proofs.Shapes.{all-next, all-taken, joined-0}
+use Rattle.records.proofs.Marks.{all-next, all-taken, joined-0}
 use borrow.Author.Needs.{needs}
 use native.Mathlib.Omega.{arith}
-use Rattle.checker.proofs.inner.shape.blank.Statement.{statement}
-use Rattle.checker.proofs.inner.shape.blank.Tie as tie
+use Rattle.records.proofs.inner.marks.blank.Statement.{statement}
+use Rattle.records.proofs.inner.marks.blank.Tie as tie
 
 abbrev Inv-loop : tie.InvT-loop
 Inv-loop marks from n all₀ j₀ all j = (j ≤ n) × (eqb all 0 ≡ every j (λ j. eqb (getD marks (from + j) 0) 0))

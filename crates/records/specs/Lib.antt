@@ -1,0 +1,2 @@
+-- The definitions of a record.
+pub mod Records
