@@ -18,7 +18,7 @@ use Rattle.chart.specs.Places.{keptNumber, oldOf, newOf, headOf, oldStart, newS
 use Rattle.align.specs.Steps.{fair}
 use Rattle.records.specs.Records.{Graph, recordOf, graphOf, mark, index, target}
 use Rattle.words.specs.Words.{Member}
-use Rattle.graph.specs.Graphs.{marked, Covers}
+use Rattle.graph.specs.Graphs.{Graph as Buffers, marked, Covers}
 use Rattle.chart.proofs.Starts.{firstPair, firstKept}
 use Rattle.detector.specs.Turns.{rowsOf, leadsTo, explored}
 use Rattle.marker.specs.Marks.{finalMarks}
@@ -91,10 +91,6 @@ module _ (old new : Chart) (F : FaultlessChart old) (H : FaultlessChart new) (jo
       let k = not-marked (explored old new .marks) (firstKept new) (z .0) in
       (⊎-elim (λ p. p) (λ p. absurd (omega arith)) (explored-inv old new F H .home), says (Fair old new) (T-true (not-false (bool (Fair old new)) (z .1))))
 
-  -- a set of pairs that covers what Algorithm 2 leaves has the start pair
-  pub start-seen : {seen : List ℕ} → Covers seen (explored old new) → Member seen (firstPair old new)
-  start-seen C = C .marks (firstPair old new) (omega arith) (starts .0)
-
   pub targets-length : length (finalTargets (explored old new)) ≡ 8192
   unfolding finalTargets
   targets-length = length-map (explored old new .targets) (redirected (explored old new .marks)) ∙ explored-inv old new F H .shaped .sized .targets
@@ -136,6 +132,13 @@ module _ (old new : Chart) (F : FaultlessChart old) (H : FaultlessChart new) (jo
 
     pub is-there : {t : ℕ} → ToPair old new (explored old new .marks) i r t → mark left t ≢ 0
     is-there {t} P e = ⊎-elim (λ z. omega arith) (λ z. ⊎-elim (λ y. omega arith) (λ y. omega arith) z) (final .ranks .pair t (P .below) (P .there))
+
+-- a set of pairs that covers what Algorithm 2 leaves has the start pair, unless its new place is left alone
+pub start-seen : (old new : Chart) → FaultlessChart old → FaultlessChart new → {g : Buffers} {seen : List ℕ} → g ≡ explored old new
+    → Covers seen g → alone (headOf old) (headOf new) (g .marks) ≡ false → Member seen (firstPair old new)
+start-seen old new F H {seen = seen} e C j =
+    subst (Covers seen) e C .marks (firstPair old new) (omega arith)
+    (starts old new F H (subst (λ (g : Buffers). alone (headOf old) (headOf new) (g .marks) ≡ false) e j) .0)
 
 -- ---- what a build leaves
 module _ (old new : Chart) where

@@ -1,7 +1,6 @@
 -- `builder::complete` meets its contract. Assumes nothing.
-use native.Mathlib.Omega.{arith}
 use Rattle.chart.proofs.Faultless.{indexable}
-use Rattle.graph.proofs.Tracking.{covers-added, added-seen}
+use Rattle.condition.proofs.Left.{start-seen}
 use Rattle.builder.proofs.Answering.{both-left, both-summed}
 use borrow.Author.Needs.{needs}
 use Rattle.builder.proofs.complete.Statement.{statement}
@@ -16,25 +15,15 @@ slice-aggregate-explore c = search needs
 explore-requires : tie.Need-explore-requires
 explore-requires c κs = (c .before .before .before .before .before .before .before .before .before .before .before .before .before .pre .0, (c .before .before .before .before .before .before .before .before .before .before .before .before .before .pre .1 .0, (c .before .before .before .before .before .before .index .ensures, (c .before .before .before .before .before .before .before .before .before .before .before .before .before .pre .1 .1, search needs))))
 
-slice-aggregate-add : tie.Need-slice-aggregate-add
-slice-aggregate-add c = search needs
-
-first-pair-requires : tie.Need-first-pair-requires
-first-pair-requires c κs = search needs
-
-add-requires : tie.Need-add-requires
-add-requires c κs = search needs
-
 slice-aggregate-finish : tie.Need-slice-aggregate-finish
 slice-aggregate-finish c = search needs
 
 finish-requires : tie.Need-finish-requires
 finish-requires c κs =
-    let S = c .before .before .before .before .before .before .before .before .before .before .before .before .before .before .before .before .before .before .before .before .before .before .before .before .before .before .before .before .before .before .before .before .pre .1 .1 in
-    let C = c .before .before .before .before .before .before .before .before .before .before .before .before .before .before .before .before .before .before .explore .ensures .0 in
-    let f = c .before .before .before .before .before .before .before .first-pair .ensures in
-    let e = c .before .before .before .before .before .before .add .ensures in
-    (record { marks = search (needs, S .marks); targets = search (needs, S .targets); sets = search (needs, S .sets); waiting = search (needs, S .waiting) }, (covers-added C (omega (arith, f)) e, added-seen C (omega (arith, f)) e f))
+    let P = c .before .before .before .before .before .before .before .before .before .before .before .before .before .before .before .before .before .before .before .before .before .before .before .before .before .before .before .before .pre in
+    let S = P .1 .1 in
+    let E = c .before .before .before .before .before .before .before .before .before .before .before .before .before .before .explore .ensures in
+    (record { marks = search (needs, S .marks); targets = search (needs, S .targets); sets = search (needs, S .sets); waiting = search (needs, S .waiting) }, (E .0, start-seen _ _ (P .0) (P .1 .0) (E .1) (E .0)))
 
 same-length : tie.Need-same-length
 same-length c = search needs
@@ -50,7 +39,7 @@ same-length-4 c = search needs
 
 returns : tie.Need-returns
 returns c =
-    let e = c .before .before .before .before .before .before .before .before .before .before .before .before .before .before .before .before .before .before .before .before .before .before .before .before .before .before .before .explore .ensures .1 in
+    let e = c .before .before .before .before .before .before .before .before .before .before .before .before .before .before .before .before .before .before .before .before .before .before .before .explore .ensures .1 in
     let f = c .before .before .before .before .before .before .before .before .finish .ensures in
     (both-left _ _ _ _ e (f .0), both-summed _ _ _ _ e _ (f .1))
 
@@ -61,9 +50,6 @@ complete-spec =
     index-requires
     slice-aggregate-explore
     explore-requires
-    slice-aggregate-add
-    first-pair-requires
-    add-requires
     slice-aggregate-finish
     finish-requires
     same-length
