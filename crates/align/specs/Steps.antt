@@ -1,4 +1,5 @@
--- One aligned step ("One aligned step"): lines 5 to 18 and 27 of the source's Algorithm 2, for a pair, a set V and a new row.
+-- One aligned step ("One aligned step"): lines 5 to 18 and 27 of the source's Algorithm 2, for a pair, a set V and a
+-- new row.
 use mathlib.Core.Bool.{Bool, true, false, _&&_, _||_, not}
 use mathlib.Core.List.{List}
 use mathlib.Core.Option.{Option, none, some}
@@ -15,38 +16,20 @@ use Rattle.chart.specs.declared.places.OldPlace.{OldPlace}
 use Rattle.chart.specs.declared.places.NewPlace.{NewPlace}
 use Rattle.chart.specs.Charts.{Chart, size, to, operation, leaving}
 use Rattle.align.specs.declared.spots.Spot.{Spot}
-use Rattle.align.specs.declared.spots.Onward.{Onward}
-use Rattle.align.specs.declared.spots.Onward.the-variants as onwards
-use Rattle.align.specs.declared.spots.Followed.{Followed}
-use Rattle.align.specs.declared.spots.Followed.the-variants as followeds
-use Rattle.align.specs.declared.spots.Aligned.{Aligned}
-use Rattle.align.specs.declared.spots.Aligned.the-variants as aligneds
 use Rattle.sets.specs.Sets.{alone, with, without, meets}
 use Rattle.align.specs.Reads.{readSet}
-
--- what the code's answers say: a spot come to or not
-abbrev pub toldOnward : Onward → Option Spot
-toldOnward (onwards.To h) = some h
-toldOnward onwards.Ends = none
-
-abbrev pub toldFollowed : Followed → Option Spot
-toldFollowed (followeds.At h) = some h
-toldFollowed followeds.Twice = none
-
-abbrev pub told : Aligned → Option Spot
-told (aligneds.To h) = some h
-told aligneds.Failed = none
 
 -- ---- rows of a place
 -- the first row, in table order, whose operation passes
 unfoldable pub find : List ℕ → (Operation → Bool) → Option ℕ
 find rows f = firstOf (size rows) (λ k. when (f (operation rows k)) k)
 
+-- where row k of old rows leads: "p2"
 abbrev pub oldTo : List ℕ → ℕ → OldPlace
 oldTo rows k = record { 0 = to rows k }
 
--- the answer that lets an assumption match by implication: "only if some values meet the new assumption, the old assumption [..] that
--- it implies"
+-- the answer that lets an assumption match by implication: "only if some values meet the new assumption, the old
+-- assumption [..] that it implies"
 abbrev pub isImplied : Implication → Bool
 isImplied Never = false
 isImplied Implied = true
@@ -57,12 +40,14 @@ unfoldable pub along : ℕ → List ℕ → Option ℕ → Option Spot
 along s rows none = none
 along s rows (some k) = some (record { place = oldTo rows k; set = with s (operation rows k .a) })
 
--- "seek the old row at p whose operation is equal; failing that, and only if some values meet the new assumption, the old assumption at p
--- that it implies" (line 15)
+-- "seek the old row at p whose operation is equal; failing that, and only if some values meet the new assumption, the
+-- old assumption at p that it implies" (line 15)
 unfoldable pub matching : List ℕ → Operation → Option ℕ
-matching rows o = orElse (find rows (λ o′. same o′ o)) (find rows (λ o′. isAssumption o′ && isImplied (implication o o′)))
+matching rows o =
+    orElse (find rows (λ o′. same o′ o)) (find rows (λ o′. isAssumption o′ && isImplied (implication o o′)))
 
--- "If found and V meets the variables read by either row, the step fails. If found otherwise, go to (p2, q2)." (lines 16 and 17)
+-- "If found and V meets the variables read by either row, the step fails. If found otherwise, go to (p2, q2)." (lines
+-- 16 and 17)
 unfoldable pub matched : ℕ → List ℕ → ℕ → Operation → Option Spot
 matched s rows k o =
     when (not (meets s (readSet o) || meets s (readSet (operation rows k)))) (record { place = oldTo rows k; set = s })
@@ -76,6 +61,7 @@ module _ (old : Chart) where
   abbrev pub rowsAt : OldPlace → List ℕ
   rowsAt p = leaving (old .table) (p .0)
 
+  -- "p is the old alarm"
   abbrev pub atAlarm : OldPlace → Bool
   atAlarm p = eqb (p .0) (old .alarm)
 
@@ -87,9 +73,14 @@ module _ (old : Chart) where
   assigned h o (some k) = record { place = oldTo (rowsAt (h .place)) k; set = rewritten (h .set) o }
 
   -- ---- lines 12 to 14, what comes before an assumption
-  -- "while p isn't the old alarm and an assignment leaves it, follow that and add what it writes to V" (lines 13 and 14)
+  -- "while p isn't the old alarm and an assignment leaves it, follow that and add what it writes to V" (lines 13 and
+  -- 14)
   unfoldable pub onward : Spot → Option Spot
-  onward h = elim (atAlarm (h .place)) [ true ↦ none | false ↦ along (h .set) (rowsAt (h .place)) (find (rowsAt (h .place)) isAssignment) ]
+  onward h =
+      elim (atAlarm (h .place)) [
+        | true ↦ none
+        | false ↦ along (h .set) (rowsAt (h .place)) (find (rowsAt (h .place)) isAssignment)
+      ]
 
   -- "Coming to a place twice here is a failed step": the places come to are a set too. A walk of n rows at most
   unfoldable pub follow : ℕ → ℕ → Spot → Option Spot
@@ -97,10 +88,12 @@ module _ (old : Chart) where
   follow (suc n) met h =
       elim (onward h) [
         | none ↦ some h
-        | some h′ ↦ elim (meets met (alone (h′ .place .0))) [ true ↦ none | false ↦ follow n (with met (h′ .place .0)) h′ ]
+        | some h′ ↦
+            elim (meets met (alone (h′ .place .0))) [ true ↦ none | false ↦ follow n (with met (h′ .place .0)) h′ ]
       ]
 
-  -- from a place, which counts as come to: no more than 64 rows can be followed without coming to one of 64 places twice
+  -- from a place, which counts as come to: no more than 64 rows can be followed without coming to one of 64 places
+  -- twice
   unfoldable pub followed : Spot → Option Spot
   followed h = follow 64 (alone (h .place .0)) h
 
@@ -122,7 +115,8 @@ module _ (old : Chart) where
         | false ↦ elim (followed h) [ none ↦ none | some h′ ↦ assumed h′ o (counterpart (h′ .place) o) ]
       ]
 
--- an old and a new place, and the alarms of both charts: where the new place is the new alarm, the old one is the old alarm
+-- an old and a new place, and the alarms of both charts: where the new place is the new alarm, the old one is the old
+-- alarm
 abbrev pub fair : ℕ → ℕ → OldPlace → NewPlace → Test
 fair oldAlarm newAlarm p q = ne (q .0) newAlarm or eq (p .0) oldAlarm
 
@@ -131,7 +125,7 @@ unfoldable pub arrived : ℕ → ℕ → NewPlace → Option Spot → Option Spo
 arrived oldAlarm newAlarm q none = none
 arrived oldAlarm newAlarm q (some h) = when (bool (fair oldAlarm newAlarm (h .place) q)) h
 
--- the aligned step from an old place and its set by a new row with operation o that leads to q: none where it fails, else the old place
--- it comes to and the set there
+-- the aligned step from an old place and its set by a new row with operation o that leads to q: none where it fails,
+-- else the old place it comes to and the set there
 unfoldable pub step : Chart → Chart → Spot → Operation → NewPlace → Option Spot
 step old new h o q = arrived (old .alarm) (new .alarm) q (moved old h o)

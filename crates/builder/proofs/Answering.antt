@@ -20,14 +20,16 @@ use Rattle.base.proofs.Tests.{T-true}
 use Rattle.chart.specs.declared.charts.Head.{Head}
 use Rattle.chart.specs.declared.charts.Judged.{Judged}
 use Rattle.chart.specs.declared.charts.Judged.the-variants.{Faultless, Refused}
-use Rattle.chart.specs.Charts.{Chart, charted, Words}
+use Rattle.chart.specs.Charts.{Chart, charted}
+use Rattle.chart.proofs.Words.{Words}
 use Rattle.chart.specs.Faults.{fault, told as chartTold}
 use Rattle.chart.specs.Faultless.{FaultlessChart}
 use Rattle.chart.proofs.Faultless.{faultless}
 use Rattle.records.specs.Records.{recordOf}
 use Rattle.checker.specs.Checks.{sized, inChart, refusal as checkRefusal}
 use Rattle.checker.proofs.Passed.{no-fault, unrefused}
-use Rattle.graph.specs.Graphs.{Graph, graph, Sized}
+use Rattle.graph.specs.Buffers.{Buffers, buffers}
+use Rattle.graph.specs.inner.Sized.{Sized}
 use Rattle.detector.specs.Turns.{explored}
 use Rattle.condition.specs.declared.Summary.{Summary}
 use Rattle.condition.specs.Builds.{finished, startOf, built, recorded, summary}
@@ -48,34 +50,34 @@ told-one (builts.Refused r) (builts.Refused q) e = let z : r ≡ q = cc in ap bu
 -- ---- the lengths
 module _ (o n m t s w : List ℕ) where
   abbrev test : Bool
-  test = bool (lent o n (graph m t s w))
+  test = bool (lent o n (buffers m t s w))
 
-  pub lent-1 : (length w ≡ 4096 → ⊥) → false ≡ bool (lent o n (graph m t s w))
+  pub lent-1 : (length w ≡ 4096 → ⊥) → false ≡ bool (lent o n (buffers m t s w))
   unfolding lent
   lent-1 a = rw (ne-eqb (length w) 4096 a)
 
-  pub lent-2 : length w ≡ 4096 → (length m ≡ 4160 → ⊥) → false ≡ bool (lent o n (graph m t s w))
+  pub lent-2 : length w ≡ 4096 → (length m ≡ 4160 → ⊥) → false ≡ bool (lent o n (buffers m t s w))
   unfolding lent sized
   lent-2 a b = rw (a, ne-eqb (length m) 4160 b)
 
-  pub lent-3 : length w ≡ 4096 → length m ≡ 4160 → (length t ≡ 8192 → ⊥) → false ≡ bool (lent o n (graph m t s w))
+  pub lent-3 : length w ≡ 4096 → length m ≡ 4160 → (length t ≡ 8192 → ⊥) → false ≡ bool (lent o n (buffers m t s w))
   unfolding lent sized
   lent-3 a b c = rw (a, b, ne-eqb (length t) 8192 c)
 
-  pub lent-4 : length w ≡ 4096 → length m ≡ 4160 → length t ≡ 8192 → (length s ≡ 4096 → ⊥) → false ≡ bool (lent o n (graph m t s w))
+  pub lent-4 : length w ≡ 4096 → length m ≡ 4160 → length t ≡ 8192 → (length s ≡ 4096 → ⊥) → false ≡ bool (lent o n (buffers m t s w))
   unfolding lent sized
   lent-4 a b c d = rw (a, b, c, ne-eqb (length s) 4096 d)
 
-  pub lent-5 : length w ≡ 4096 → length m ≡ 4160 → length t ≡ 8192 → length s ≡ 4096 → (length o % 6 ≡ 0 → ⊥) → false ≡ bool (lent o n (graph m t s w))
+  pub lent-5 : length w ≡ 4096 → length m ≡ 4160 → length t ≡ 8192 → length s ≡ 4096 → (length o % 6 ≡ 0 → ⊥) → false ≡ bool (lent o n (buffers m t s w))
   unfolding lent sized
   lent-5 a b c d e = rw (a, b, c, d, ne-eqb (length o % 6) 0 e)
 
-  pub lent-6 : length w ≡ 4096 → length m ≡ 4160 → length t ≡ 8192 → length s ≡ 4096 → length o % 6 ≡ 0 → eqb (length n % 6) 0 ≡ bool (lent o n (graph m t s w))
+  pub lent-6 : length w ≡ 4096 → length m ≡ 4160 → length t ≡ 8192 → length s ≡ 4096 → length o % 6 ≡ 0 → eqb (length n % 6) 0 ≡ bool (lent o n (buffers m t s w))
   unfolding lent sized
   lent-6 a b c d e = rw (a, b, c, d, e)
 
 -- ---- the refusal that is due
-module _ (old new : Chart) (g : Graph) {b : Bool} (l : b ≡ bool (lent (old .table) (new .table) g)) where
+module _ (old new : Chart) (g : Buffers) {b : Bool} (l : b ≡ bool (lent (old .table) (new .table) g)) where
   pub judge-lengths : b ≡ false → some (sole 21 0) ≡ refusal old new g
   unfolding refusal
   judge-lengths e = rw (sym l ∙ e)
@@ -95,13 +97,13 @@ module _ (old new : Chart) (g : Graph) {b : Bool} (l : b ≡ bool (lent (old .ta
     judge-new e c h = picked-second in-old d e (c ∙ ap (inChart 1) h) ∙ sym after-lengths
 
 -- ---- what is not refused
-pub record Accepted (old new : Chart) (g : Graph) : Type 0 where
+pub record Accepted (old new : Chart) (g : Buffers) : Type 0 where
   pub sized : Sized g
   pub old-faultless : FaultlessChart old
   pub new-faultless : FaultlessChart new
   pub none-due : refusal old new g ≡ none
 
-module _ (old new : Chart) (g : Graph) where
+module _ (old new : Chart) (g : Buffers) where
   abbrev lengths : Test
   lengths = lent (old .table) (new .table) g
 
@@ -122,8 +124,8 @@ module _ (old new : Chart) (g : Graph) where
   judged-faultless e q = accepted (sym e ∙ ap chartTold q)
 
 -- ---- both algorithms
-module _ (ho hn : Head) (to tn : List ℕ) {m t s w : List ℕ} (a : graph m t s w ≡ explored (charted ho to) (charted hn tn)) where
-  pub both-left : {m₁ t₁ s₁ w₁ : List ℕ} → graph m₁ t₁ s₁ w₁ ≡ finished ho hn (graph m t s w) → graph m₁ t₁ s₁ w₁ ≡ built (charted ho to) (charted hn tn)
+module _ (ho hn : Head) (to tn : List ℕ) {m t s w : List ℕ} (a : buffers m t s w ≡ explored (charted ho to) (charted hn tn)) where
+  pub both-left : {m₁ t₁ s₁ w₁ : List ℕ} → buffers m₁ t₁ s₁ w₁ ≡ finished ho hn (buffers m t s w) → buffers m₁ t₁ s₁ w₁ ≡ built (charted ho to) (charted hn tn)
   unfolding built
   both-left b = b ∙ ap (finished ho hn) a
 
@@ -132,13 +134,13 @@ module _ (ho hn : Head) (to tn : List ℕ) {m t s w : List ℕ} (a : graph m t s
   both-summed m₁ d = d ∙ (λ i. summary (startOf ho hn (a i .marks)) m₁)
 
 -- ---- a build
-module _ (old new : Chart) (g : Graph) (A : Accepted old new g) {m₁ t₁ s₁ w₁ : List ℕ} {sm : Summary}
-    (b : graph m₁ t₁ s₁ w₁ ≡ built old new) (d : sm ≡ summary (recorded old new .start) m₁) where
+module _ (old new : Chart) (g : Buffers) (A : Accepted old new g) {m₁ t₁ s₁ w₁ : List ℕ} {sm : Summary}
+    (b : buffers m₁ t₁ s₁ w₁ ≡ built old new) (d : sm ≡ summary (recorded old new .start) m₁) where
   pub done-answers : given sm ≡ answered old new g
   unfolding answered recorded
   done-answers = ap given d ∙ (λ i. given (summary (recorded old new .start) (b i .marks))) ∙ rw (A .none-due)
 
-  pub done-leaves : graph m₁ t₁ s₁ w₁ ≡ left old new g
+  pub done-leaves : buffers m₁ t₁ s₁ w₁ ≡ left old new g
   unfolding left
   done-leaves = b ∙ rw (A .none-due, left)
 
@@ -158,7 +160,7 @@ module _ (old new : Chart) (g : Graph) (A : Accepted old new g) {m₁ t₁ s₁ 
     done-returned wo wn = subst (Returned old new) (sym record-is) (demand-2 old new (A .old-faultless) (A .new-faultless) wo wn)
 
 -- ---- a refusal
-module _ (old new : Chart) (g : Graph) {v : Judged} {r : Refusal} (e : chartTold v ≡ refusal old new g) (q : v ≡ Refused r) where
+module _ (old new : Chart) (g : Buffers) {v : Judged} {r : Refusal} (e : chartTold v ≡ refusal old new g) (q : v ≡ Refused r) where
   pub refused-answers : refused r ≡ answered old new g
   unfolding answered
   refused-answers = rw (sym e ∙ ap chartTold q)

@@ -8,13 +8,15 @@ use Rattle.base.specs.Answers.{given}
 use Rattle.base.specs.Says.{Test, bool}
 use Rattle.base.proofs.Says.{said}
 use Rattle.base.proofs.Tests.{is-true}
-use Rattle.chart.specs.Charts.{Chart, Words}
+use Rattle.chart.specs.Charts.{Chart}
+use Rattle.chart.proofs.Words.{Words}
 use Rattle.chart.specs.Faultless.{FaultlessChart}
 use Rattle.records.specs.Records.{Record, recordOf}
 use Rattle.checker.specs.Checks.{sized, refusal as checkRefusal}
 use Rattle.checker.specs.Promise.{Promise}
 use Rattle.checker.proofs.Demand3.{demand-3-first}
-use Rattle.graph.specs.Graphs.{Graph, Sized}
+use Rattle.graph.specs.Buffers.{Buffers}
+use Rattle.graph.specs.inner.Sized.{Sized}
 use Rattle.condition.specs.declared.Summary.{Summary}
 use Rattle.condition.specs.Builds.{recorded, summary}
 use Rattle.builder.proofs.Passing.{sound, record-passes}
@@ -25,7 +27,7 @@ pub first-half : (old new : Chart) → Words (old .table) → Words (new .table)
     → checkRefusal old new R ≡ none → Promise old new R
 first-half = demand-3-first
 
-module _ (old new : Chart) (g : Graph) where
+module _ (old new : Chart) (g : Buffers) where
   -- what a build leaves in g, with the start s
   abbrev pub leftWith : Summary → Record
   leftWith s = recordOf (s .start) (left old new g .marks) (left old new g .targets) (left old new g .sets)

@@ -11,13 +11,12 @@ use Rattle.base.specs.Refusals.{due, unless}
 use Rattle.base.specs.Says.{Test, eq, _and_, bool}
 use Rattle.chart.specs.Charts.{Chart}
 use Rattle.chart.specs.Faults.{fault}
-use Rattle.records.specs.Records.{graphOf}
 use Rattle.checker.specs.Checks.{sized, inChart}
 use Rattle.condition.specs.declared.Summary.{Summary}
 use Rattle.condition.specs.Builds.{built, recorded, summary}
 use Rattle.builder.specs.declared.answers.Built.{Built}
 use Rattle.builder.specs.declared.answers.Built.the-variants as builts
-use Rattle.graph.specs.Graphs.{Graph}
+use Rattle.graph.specs.Buffers.{Buffers, graphIn}
 
 -- what the code's answer says
 abbrev pub told : Built → Answer Summary
@@ -25,10 +24,10 @@ told (builts.Done s) = given s
 told (builts.Refused r) = refused r
 
 -- "21, a lent length differs from the stated one [..], or a chart table's isn't a multiple of 6"
-unfoldable pub lent : List ℕ → List ℕ → Graph → Test
-lent old new g = eq (length (g .waiting)) 4096 and sized old new (graphOf (g .marks) (g .targets) (g .sets))
+unfoldable pub lent : List ℕ → List ℕ → Buffers → Test
+lent old new g = eq (length (g .waiting)) 4096 and sized old new (graphIn g)
 
-module _ (old new : Chart) (g : Graph) where
+module _ (old new : Chart) (g : Buffers) where
   -- the refusal that is due, if any: 21 "Always first", then "the old chart comes before the new"
   unfoldable pub refusal : Option Refusal
   refusal =
@@ -39,5 +38,5 @@ module _ (old new : Chart) (g : Graph) where
   answered = unless refusal (summary (recorded old new .start) (recorded old new .graph .marks))
 
   -- "lent memory is untouched" by a refusal; else "What these held before has no effect."
-  unfoldable pub left : Graph
+  unfoldable pub left : Buffers
   left = elim refusal [ none ↦ built old new | some r ↦ g ]

@@ -9,7 +9,8 @@ ghost use Rattle.records.specs.Records.{recordOf};
 ghost use Rattle.checker.specs.Checks.{inChart, refusal as checkRefusal};
 ghost use Rattle.builder.specs.declared.answers.Built.the-variants.{Done};
 ghost use Rattle.condition.specs.declared.Summary.{Summary};
-ghost use Rattle.graph.specs.Graphs.{graph, Sized};
+ghost use Rattle.graph.specs.Buffers.{buffers};
+ghost use Rattle.graph.specs.inner.Sized.{Sized};
 ghost use Rattle.condition.specs.Builds.{built, recorded, summary};
 ghost use Rattle.paper.specs.Returned.{Returned};
 ghost use Rattle.builder.specs.Answers.{told, lent, refusal, answered, left};
@@ -36,7 +37,7 @@ fn lent(
     sets: &[u64],
     waiting: &[u8],
 ) -> bool
-    ensures { λ r. ⌜ r ≡ bool (lent (now («old_rows» .entry)) (now («new_rows» .entry)) (graph (now (marks .entry)) (now (targets .entry)) (now (sets .entry)) (now (waiting .entry)))) ⌝ }
+    ensures { λ r. ⌜ r ≡ bool (lent (now («old_rows» .entry)) (now («new_rows» .entry)) (buffers (now (marks .entry)) (now (targets .entry)) (now (sets .entry)) (now (waiting .entry)))) ⌝ }
 {
     if waiting.len() != 4096 {
         return false;
@@ -81,7 +82,7 @@ fn judge<'a>(
     sets: &[u64],
     waiting: &[u8],
 ) -> Judged
-    ensures { λ r. ⌜ chartTold r ≡ refusal (charted old (now («old_rows» .entry))) (charted new (now («new_rows» .entry))) (graph (now (marks .entry)) (now (targets .entry)) (now (sets .entry)) (now (waiting .entry))) ⌝ }
+    ensures { λ r. ⌜ chartTold r ≡ refusal (charted old (now («old_rows» .entry))) (charted new (now («new_rows» .entry))) (buffers (now (marks .entry)) (now (targets .entry)) (now (sets .entry)) (now (waiting .entry))) ⌝ }
 {
     if !lent(old_rows, new_rows, marks, targets, sets, waiting) {
         return faulty(21, 0);
@@ -106,8 +107,8 @@ fn complete<'a>(
 ) -> Summary
     requires { ⌜ FaultlessChart (charted old (now «old_rows»)) ⌝ }
     requires { ⌜ FaultlessChart (charted new (now «new_rows»)) ⌝ }
-    requires { ⌜ Sized (graph (now marks) (now targets) (now sets) (now waiting)) ⌝ }
-    ensures { λ r. ⌜ (graph (now (marks .exit)) (now (targets .exit)) (now (sets .exit)) (now (waiting .exit))
+    requires { ⌜ Sized (buffers (now marks) (now targets) (now sets) (now waiting)) ⌝ }
+    ensures { λ r. ⌜ (buffers (now (marks .exit)) (now (targets .exit)) (now (sets .exit)) (now (waiting .exit))
         ≡ built (charted old (now («old_rows» .entry))) (charted new (now («new_rows» .entry))))
         × (r ≡ summary (recorded (charted old (now («old_rows» .entry))) (charted new (now («new_rows» .entry))) .start) (now (marks .exit))) ⌝ }
 {
@@ -140,9 +141,9 @@ pub fn build<'a>(
     sets: &mut [u64],
     waiting: &mut [u8],
 ) -> Built
-    ensures answer { λ r. ⌜ told r ≡ answered (charted old (now («old_rows» .entry))) (charted new (now («new_rows» .entry))) (graph (now (marks .entry)) (now (targets .entry)) (now (sets .entry)) (now (waiting .entry))) ⌝ }
-    ensures leaves { λ _. ⌜ graph (now (marks .exit)) (now (targets .exit)) (now (sets .exit)) (now (waiting .exit))
-        ≡ left (charted old (now («old_rows» .entry))) (charted new (now («new_rows» .entry))) (graph (now (marks .entry)) (now (targets .entry)) (now (sets .entry)) (now (waiting .entry))) ⌝ }
+    ensures answer { λ r. ⌜ told r ≡ answered (charted old (now («old_rows» .entry))) (charted new (now («new_rows» .entry))) (buffers (now (marks .entry)) (now (targets .entry)) (now (sets .entry)) (now (waiting .entry))) ⌝ }
+    ensures leaves { λ _. ⌜ buffers (now (marks .exit)) (now (targets .exit)) (now (sets .exit)) (now (waiting .exit))
+        ≡ left (charted old (now («old_rows» .entry))) (charted new (now («new_rows» .entry))) (buffers (now (marks .entry)) (now (targets .entry)) (now (sets .entry)) (now (waiting .entry))) ⌝ }
     ensures passes { λ r. ⌜ ((s : Summary) → r ≡ Done s
         → checkRefusal (charted old (now («old_rows» .entry))) (charted new (now («new_rows» .entry))) (recordOf (s .start) (now (marks .exit)) (now (targets .exit)) (now (sets .exit))) ≡ none) ⌝ }
     ensures algorithms { λ r. ⌜ ((s : Summary) → r ≡ Done s

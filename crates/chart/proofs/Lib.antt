@@ -7,3 +7,4 @@ pub mod Conflicts
 pub mod Bounds
 pub mod Told
 pub mod Starts
+pub mod Words

@@ -2,7 +2,7 @@
 -- locations, a row one of its edges, the alarm its error location.
 use mathlib.Core.Bool.{cond}
 use mathlib.Core.List.{List, [], _++_}
-use Prim.Native.Nat.{ℕ, zero, suc, _+_, _*_, _/_, _^_, _<_}
+use Prim.Native.Nat.{ℕ, zero, suc, _+_, _*_, _/_}
 use lib.Dec.{eqb}
 use lib.ListN.{length, getD, take, drop}
 use Rattle.operations.specs.declared.Operation.{Operation}
@@ -13,10 +13,6 @@ pub record Chart : Type 0 where
   pub places : ℕ
   pub alarm : ℕ
   pub table : List ℕ
-
--- "u32 fields": the entries of a lent table are below 4,294,967,296
-pub record Words (t : List ℕ) : Type 0 where
-  pub small : (k : ℕ) → getD t k 0 < 2 ^ 32
 
 -- a chart as the code has it: its head by value beside its table
 abbrev pub charted : Head → List ℕ → Chart

@@ -14,27 +14,31 @@ pairNumber p q = 64 * p .0 + q .0
 abbrev pub keptNumber : NewPlace → ℕ
 keptNumber q = 4096 + q .0
 
--- the two places of a pair
+-- the old place of "the pair (old p, new q)"
 abbrev pub oldOf : ℕ → OldPlace
 oldOf pair = record { 0 = pair / 64 }
 
+-- its new place
 abbrev pub newOf : ℕ → NewPlace
 newOf pair = record { 0 = pair % 64 }
 
--- ---- the start: "Start 0", "Start 4,096"
--- a chart's head, and the start place of a chart with that head: "the start is place 0"
+-- ---- the start
+-- a chart without its table: "a count of places n, an alarm place"
 abbrev pub headOf : Chart → Head
 headOf C = record { places = C .places; alarm = C .alarm }
 
+-- "the start is place 0": that of the old chart
 abbrev pub oldStart : Head → OldPlace
 oldStart old = record { 0 = start (charted old []) }
 
+-- that of the new chart
 abbrev pub newStart : Head → NewPlace
 newStart new = record { 0 = start (charted new []) }
 
--- the two nodes that a record can start from: the pair of both starts, node 0, and the kept new start, node 4,096
+-- "Start 0": the pair of both starts
 abbrev pub startPair : Head → Head → ℕ
 startPair old new = pairNumber (oldStart old) (newStart new)
 
+-- "Start 4,096": the new start, kept
 abbrev pub startKept : Head → ℕ
 startKept new = keptNumber (newStart new)

@@ -9,7 +9,7 @@ use native.Mathlib.Omega.{arith}
 use lib.Count.{trailingZeros, under, trailing-le}
 use lib.ListN.{getD}
 use lib.Pow.{pow-pos, mod-pow-add, mod-mod-pow}
-use Rattle.checker.specs.Packed.{packed}
+use Rattle.checker.specs.inner.Packed.{packed}
 
 -- a number is a multiple of the power of 2 that its trailing zeros tell
 trailing-mod : (k x : ℕ) → x % 2 ^ trailingZeros k x ≡ 0

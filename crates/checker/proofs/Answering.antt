@@ -11,14 +11,16 @@ use Rattle.base.specs.Says.{bool, Says}
 use Rattle.base.proofs.Options.{gone, picked-first, picked-second}
 use Rattle.base.proofs.Says.{says}
 use Rattle.base.proofs.Tests.{T-true}
-use Rattle.chart.specs.Charts.{Chart, Words}
+use Rattle.chart.specs.Charts.{Chart}
+use Rattle.chart.proofs.Words.{Words}
 use Rattle.chart.specs.Faultless.{FaultlessChart}
 use Rattle.chart.specs.Faults.{fault}
 use Rattle.chart.proofs.Faultless.{faultless}
 use Rattle.checker.specs.declared.answers.Checked.{Checked}
 use Rattle.checker.specs.declared.answers.Checked.the-variants.{Passed, Refused}
 use Rattle.records.specs.Records.{Record}
-use Rattle.checker.specs.Rules.{shaped, startFits, Admitted}
+use Rattle.checker.specs.Rules.{shaped, startFits}
+use Rattle.checker.specs.inner.Admitted.{Admitted}
 use Rattle.chart.specs.Places.{headOf}
 use Rattle.checker.specs.Checks.{told, sized, inChart, ruleAt, pairFault, broken, ruleFault, recordFault, refusal}
 use Rattle.checker.specs.Promise.{Promise}

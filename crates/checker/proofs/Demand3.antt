@@ -17,7 +17,8 @@ use Rattle.base.proofs.Tests.{T-and, T-or, T-true, is-true}
 use Rattle.operations.specs.declared.Operation.{Operation}
 use Rattle.operations.specs.Values.{Values}
 use Rattle.chart.specs.declared.places.NewPlace.{NewPlace}
-use Rattle.chart.specs.Charts.{Chart, size, from, to, operation, row, Words}
+use Rattle.chart.specs.Charts.{Chart, size, from, to, operation, row}
+use Rattle.chart.proofs.Words.{Words}
 use Rattle.chart.specs.Places.{oldOf, newOf}
 use Rattle.chart.specs.Runs.{State, lets, after, taken, begin, ready}
 use Rattle.align.specs.declared.spots.Spot.{Spot}

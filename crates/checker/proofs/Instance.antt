@@ -20,7 +20,8 @@ use Rattle.base.proofs.Walks.{zeros-at}
 use Rattle.operations.specs.Values.{Values}
 use Rattle.operations.specs.Operations as operations
 use Rattle.operations.specs.Trials as trials
-use Rattle.chart.specs.Charts.{Chart, size, leaving, Words}
+use Rattle.chart.specs.Charts.{Chart, size, leaving}
+use Rattle.chart.proofs.Words.{Words}
 use Rattle.chart.specs.Charts as charts
 use Rattle.chart.specs.Faults.{fault}
 use Rattle.chart.specs.Faults as faults

@@ -8,8 +8,8 @@ use Rattle.base.specs.Says.{Test, eq, ne, _and_, below, bool}
 use Rattle.chart.specs.Charts.{Chart}
 use Rattle.records.specs.Records.{Graph, Record, mark, targetOf}
 
--- "each row of the run in turn leads to its target at the node, if the node is a pair marked 1 and that target isn't 65535; else following
--- ends"
+-- "each row of the run in turn leads to its target at the node, if the node is a pair marked 1 and that target isn't
+-- 65535; else following ends"
 abbrev pub goesOn : Graph → ℕ → ℕ → Test
 goesOn G n t = below n 4096 and eq (mark G n) 1 and ne t 65535
 

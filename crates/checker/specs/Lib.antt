@@ -4,4 +4,4 @@ pub mod Rules
 pub mod Checks
 pub mod Following
 pub mod Promise
-pub mod Packed
+pub mod inner

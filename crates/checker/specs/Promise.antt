@@ -1,6 +1,6 @@
--- What a record that the check passes promises: demand 3, first half. Believing it takes the definitions of a run that reaches the alarm
--- (`reaches` of Rattle.chart.specs.Runs), of a covered run (`covered` of Following.antt) and of the refusal that is due (`refusal` of
--- Checks.antt).
+-- What a record that the check passes promises: demand 3, first half. Believing it takes the definitions of a run that
+-- reaches the alarm (`reaches` of Rattle.chart.specs.Runs), of a covered run (`covered` of Following.antt) and of the
+-- refusal that is due (`refusal` of Checks.antt).
 use mathlib.Core.Path.{_≡_}
 use mathlib.Core.Bool.{true}
 use mathlib.Core.List.{List}
@@ -11,8 +11,9 @@ use Rattle.chart.specs.Runs.{reaches}
 use Rattle.records.specs.Records.{Record}
 use Rattle.checker.specs.Following.{covered}
 
--- a run of the new chart, from any 64 values, that reaches the new alarm and is covered by the record: some list of the old chart's rows is
--- a run from the same values that reaches the old alarm
+-- a run of the new chart, from any 64 values, that reaches the new alarm and is covered by the record: some list of the
+-- old chart's rows is a run from the same values that reaches the old alarm
 abbrev pub Promise : Chart → Chart → Record → Type 0
 Promise old new R =
-    (v is : List ℕ) → Values v → reaches new v is ≡ true → covered new R is ≡ true → (js : List ℕ) × (reaches old v js ≡ true)
+    (v is : List ℕ) → Values v → reaches new v is ≡ true → covered new R is ≡ true
+    → (js : List ℕ) × (reaches old v js ≡ true)

@@ -1,16 +1,15 @@
--- What a record must be like: its shape (refusal 31) and the rules of refusal 32 ("The checker", "Who can cause a refusal").
-use mathlib.Core.Path.{_≡_}
+-- What a record must be like: its shape (refusal 31) and the rules of refusal 32 ("The checker", "Who can cause a
+-- refusal").
 use mathlib.Core.Bool.{Bool, false}
 use mathlib.Core.List.{List}
 use mathlib.Core.Option.{Option, none, some}
 use Prim.Native.Nat.{ℕ}
-use lib.ListN.{length, getD}
-use Rattle.base.specs.Says.{Test, eq, ne, le, so, _and_, _or_, each, below, bool, Says}
+use lib.ListN.{getD}
+use Rattle.base.specs.Says.{Test, eq, ne, le, so, _and_, _or_, each, below, bool}
 use Rattle.operations.specs.declared.Operation.{Operation}
 use Rattle.chart.specs.declared.charts.Head.{Head}
 use Rattle.chart.specs.declared.places.NewPlace.{NewPlace}
 use Rattle.chart.specs.Charts.{Chart, to, operation}
-use Rattle.chart.specs.Faultless.{FaultlessChart}
 use Rattle.chart.specs.Places.{pairNumber, keptNumber, oldOf, newOf, oldStart, newStart, startPair, startKept}
 use Rattle.align.specs.declared.spots.Spot.{Spot}
 use Rattle.sets.specs.Sets.{holdsAll}
@@ -26,21 +25,23 @@ spot G m = record { place = oldOf m; set = setAt G m }
 abbrev pub startNamed : Head → Head → ℕ → Test
 startNamed old new s = eq s (startPair old new) or eq s (startKept new)
 
--- a mark x of node n: none is "above 4", "on places that don't exist", "a pair marked 2 or a kept node marked 1, 3 or 4". The new place of
--- a node of either kind is its number modulo 64
+-- a mark x of node n: none is "above 4", "on places that don't exist", "a pair marked 2 or a kept node marked 1, 3 or
+-- 4". The new place of a node of either kind is its number modulo 64
 abbrev pub markFits : Head → Head → ℕ → ℕ → Test
 markFits old new n x =
     eq x 0
     or below (newOf n .0) (new .places)
     and (below n 4096 and below (oldOf n .0) (old .places) and (eq x 1 or eq x 3 or eq x 4) or le 4096 n and eq x 2)
 
+-- so of the marks of all nodes
 unfoldable pub marksFit : Head → Head → List ℕ → Test
 marksFit old new marks = each 4160 (λ n. markFits old new n (getD marks n 0))
 
--- "a target neither below 4,160 nor 65535": all 8,192 fall under it, unused ones too
+-- "a target neither below 4,160 nor 65535"
 abbrev pub targetFits : ℕ → Test
 targetFits t = below t 4160 or eq t 65535
 
+-- all 8,192 fall under it, unused ones too
 unfoldable pub targetsFit : List ℕ → Test
 targetsFit targets = each 8192 (λ i. targetFits (getD targets i 0))
 
@@ -52,7 +53,8 @@ shaped old new s marks targets = startNamed old new s and marksFit old new marks
 -- "Start 0: mark 1, and place 0 isn't the new alarm unless it is also the old one. Start 4,096: mark 2."
 unfoldable pub startFits : Head → Head → ℕ → List ℕ → Test
 startFits old new s marks =
-    eq s (startPair old new) and eq (getD marks (startPair old new) 0) 1 and fair (old .alarm) (new .alarm) (oldStart old) (newStart new)
+    eq s (startPair old new) and eq (getD marks (startPair old new) 0) 1
+    and fair (old .alarm) (new .alarm) (oldStart old) (newStart new)
     or eq s (startKept new) and eq (getD marks (startKept new) 0) 2
 
 -- "the target is kept q2, marked 2"
@@ -61,15 +63,16 @@ keeps marks q t = eq t (keptNumber q) and eq (getD marks t 0) 2
 
 -- "or the pair that the aligned step under its set gives, present, its set holding the step's set"
 unfoldable pub joins : List ℕ → List ℕ → NewPlace → ℕ → Spot → Test
-joins marks sets q t h = eq t (pairNumber (h .place) q) and ne (getD marks t 0) 0 and so (holdsAll (getD sets t 0) (h .set))
+joins marks sets q t h =
+    eq t (pairNumber (h .place) q) and ne (getD marks t 0) 0 and so (holdsAll (getD sets t 0) (h .set))
 
 -- a failed step gives no pair
 unfoldable pub joinsStep : List ℕ → List ℕ → NewPlace → ℕ → Option Spot → Bool
 joinsStep marks sets q t none = false
 joinsStep marks sets q t (some h) = bool (joins marks sets q t h)
 
--- "For each present pair at the old alarm, and each of its rows q→q2, the target is 65535, or kept q2, marked 2, or a present pair with new
--- place q2."
+-- "For each present pair at the old alarm, and each of its rows q→q2, the target is 65535, or kept q2, marked 2, or a
+-- present pair with new place q2."
 unfoldable pub restsAt : List ℕ → NewPlace → ℕ → Test
 restsAt marks q t = eq t 65535 or keeps marks q t or below t 4096 and eq (newOf t .0) (q .0) and ne (getD marks t 0) 0
 
@@ -90,13 +93,5 @@ module _ (old new : Chart) (G : Graph) where
 
   -- the target of row k of a pair's new place; rows is the part of the new table that leaves it
   unfoldable pub rowFits : ℕ → List ℕ → ℕ → Test
-  rowFits m rows k = leads m (operation rows k) (record { 0 = to rows k }) (target G m k) and ranked (G .marks) m (target G m k)
-
--- what the rules are judged upon, once all other refusals have been tested (a `requires` of inner functions): two faultless charts, and a graph of the stated lengths whose targets are nodes or 65535
-pub record Admitted (old new : Chart) (G : Graph) : Type 0 where
-  pub old-faultless : FaultlessChart old
-  pub new-faultless : FaultlessChart new
-  pub marks-length : length (G .marks) ≡ 4160
-  pub targets-length : length (G .targets) ≡ 8192
-  pub sets-length : length (G .sets) ≡ 4096
-  pub targets-fit : Says (targetsFit (G .targets))
+  rowFits m rows k =
+      leads m (operation rows k) (record { 0 = to rows k }) (target G m k) and ranked (G .marks) m (target G m k)

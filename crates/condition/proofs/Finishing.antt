@@ -24,12 +24,14 @@ use Rattle.chart.specs.Places.{keptNumber, oldOf, newOf, startPair, startKept}
 use Rattle.sets.specs.Sets.{bit, without}
 use Rattle.align.specs.Steps.{fair}
 use Rattle.records.specs.Records.{index}
-use Rattle.words.specs.Words.{Member, LowestFrom}
+use Rattle.words.specs.inner.Words.{Member, LowestFrom}
 use Rattle.words.proofs.Words.{none-in}
 use Rattle.words.proofs.Rests.{Coming, coming-start, coming-next, coming-more, coming-less, coming-end}
-use Rattle.graph.specs.Graphs.{Graph, graph, Sized, Covers, marked}
-use Rattle.marker.specs.Spans.{remade}
-use Rattle.marker.specs.Seen.{Holds}
+use Rattle.graph.specs.Buffers.{Buffers, buffers, marked}
+use Rattle.graph.specs.inner.Sized.{Sized}
+use Rattle.graph.specs.inner.Tracks.{Covers}
+use Rattle.marker.specs.inner.Spans.{remade}
+use Rattle.marker.specs.inner.Seen.{Holds}
 use Rattle.marker.specs.declared.inner.marks.Counts.{Counts}
 use Rattle.marker.specs.Marks.{finalMarks}
 use Rattle.condition.specs.Builds.{redirected, finalTargets, alone, lone, finished, startOf, summary}
@@ -178,7 +180,7 @@ module _ (w : List ℕ) where
   used-all {n} E = (E .most, λ k m. dite (decLt (k / 64) n) (λ l. rw (getD-take n w (k / 64) 0 l) m) (λ l. absurd (none-in w k (E .none (k / 64) (omega arith)) m)))
 
 -- they have all pairs seen
-module _ {w : List ℕ} {r : ℕ} {g : Graph} (C : Covers w g) (U : Used w r) where
+module _ {w : List ℕ} {r : ℕ} {g : Buffers} (C : Covers w g) (U : Used w r) where
   pub used-most : length (take r w) ≤ 64
   used-most = omega (arith, length-take-le r w (U .0), U .0, C .long)
 
@@ -218,9 +220,9 @@ module _ (old new : Head) (m : List ℕ) {k : ℕ} {b : Bool} (a : k ≡ startKe
       let v = n ∙ ap newOf e in
       rw (ap (marked m) (sym a) ∙ sym d ∙ t) (ap not (h ∙ (λ i. bool (fair (old .alarm) (new .alarm) (u i) (v i)))))
 
-pub lone-is : (new : Head) {m t s w m₁ m₂ t₁ s₁ w₁ : List ℕ} {k : ℕ} → Sized (graph m t s w) → k ≡ startKept new
+pub lone-is : (new : Head) {m t s w m₁ m₂ t₁ s₁ w₁ : List ℕ} {k : ℕ} → Sized (buffers m t s w) → k ≡ startKept new
     → m₁ ≡ replicate (length m) 0 → m₂ ≡ set m₁ k 2 → t₁ ≡ replicate (length t) 65535 → s₁ ≡ replicate (length s) 0 → w₁ ≡ replicate (length w) 0
-    → graph m₂ t₁ s₁ w₁ ≡ lone new
+    → buffers m₂ t₁ s₁ w₁ ≡ lone new
 unfolding lone
 lone-is new z f a b c d e =
     graph-eq
@@ -230,7 +232,7 @@ lone-is new z f a b c d e =
     (e ∙ ap (λ (k : ℕ). replicate k 0) (z .waiting))
 
 -- its marks: one kept node, no open or covered one
-module _ (new : Head) {m t s w : List ℕ} (e : graph m t s w ≡ lone new) where
+module _ (new : Head) {m t s w : List ℕ} (e : buffers m t s w ≡ lone new) where
   is : m ≡ set (replicate 4160 0) (startKept new) 2
   unfolding lone
   is = λ i. e i .marks
@@ -279,12 +281,12 @@ module _ (v : ℕ) (l : List ℕ) where
 
 -- ---- the end
 module _ (old new : Head) (m t s w : List ℕ) {b : Bool} (e : b ≡ alone old new m) where
-  pub finish-alone : {g : Graph} → b ≡ true → g ≡ lone new → g ≡ finished old new (graph m t s w)
+  pub finish-alone : {g : Buffers} → b ≡ true → g ≡ lone new → g ≡ finished old new (buffers m t s w)
   unfolding finished
   finish-alone q a = a ∙ rw (sym e ∙ q, finished)
 
   pub finish-joint : {f : ℕ} {t′ m′ : List ℕ} → b ≡ false → f ≡ startPair old new → t′ ≡ map (redirected m) t → m′ ≡ finalMarks f t′ m
-      → graph m′ t′ s w ≡ finished old new (graph m t s w)
+      → buffers m′ t′ s w ≡ finished old new (buffers m t s w)
   unfolding finished finalTargets
   finish-joint q c a d = graph-eq (d ∙ (λ i. finalMarks (c i) (a i) m)) a refl refl ∙ rw (sym e ∙ q, finished)
 
@@ -304,7 +306,7 @@ unfolding summary
 summary-is m e a b c = λ i. record { start = e i; opened = a i; kept = b i; covered = c i }
 
 module _ (old new : Head) (m : List ℕ) {b : Bool} (e : b ≡ alone old new m) where
-  pub summed-alone : {k : ℕ} {m₁ t₁ s₁ w₁ : List ℕ} → b ≡ true → k ≡ startKept new → graph m₁ t₁ s₁ w₁ ≡ lone new
+  pub summed-alone : {k : ℕ} {m₁ t₁ s₁ w₁ : List ℕ} → b ≡ true → k ≡ startKept new → buffers m₁ t₁ s₁ w₁ ≡ lone new
       → record { start = k; opened = 0; kept = 1; covered = 0 } ≡ summary (startOf old new m) m₁
   summed-alone {m₁ = m₁} q c g =
       summary-is m₁ (start-alone old new m e q c)

@@ -17,8 +17,9 @@ use Rattle.chart.specs.Faultless.{FaultlessChart}
 use Rattle.chart.specs.Places.{keptNumber, oldOf, newOf, headOf, oldStart, newStart}
 use Rattle.align.specs.Steps.{fair}
 use Rattle.records.specs.Records.{Graph, recordOf, graphOf, mark, index, target}
-use Rattle.words.specs.Words.{Member}
-use Rattle.graph.specs.Graphs.{Graph as Buffers, marked, Covers}
+use Rattle.words.specs.inner.Words.{Member}
+use Rattle.graph.specs.Buffers.{Buffers, marked}
+use Rattle.graph.specs.inner.Tracks.{Covers}
 use Rattle.chart.proofs.Starts.{firstPair, firstKept}
 use Rattle.detector.specs.Turns.{rowsOf, leadsTo, explored}
 use Rattle.marker.specs.Marks.{finalMarks}

@@ -10,8 +10,8 @@ use Rattle.chart.specs.declared.charts.Head.{Head}
 use Rattle.chart.specs.Charts.{Chart}
 use Rattle.chart.specs.Places.{keptNumber, newOf, headOf, oldStart, newStart, startPair, startKept}
 use Rattle.align.specs.Steps.{fair}
-use Rattle.records.specs.Records.{Record, recordOf}
-use Rattle.graph.specs.Graphs.{Graph, graph, marked}
+use Rattle.records.specs.Records.{Record}
+use Rattle.graph.specs.Buffers.{Buffers, buffers, graphIn, marked}
 use Rattle.detector.specs.Turns.{explored}
 use Rattle.marker.specs.Marks.{finalMarks}
 use Rattle.condition.specs.declared.Summary.{Summary}
@@ -19,15 +19,19 @@ use Rattle.condition.specs.declared.Summary.{Summary}
 -- lines 20 and 21: "At the end a target whose new place is kept becomes that kept node."
 unfoldable pub redirected : List ℕ → ℕ → ℕ
 redirected m x =
-    elim (ltb x 4096) [ false ↦ x | true ↦ elim (marked m (keptNumber (newOf x))) [ true ↦ keptNumber (newOf x) | false ↦ x ] ]
+    elim (ltb x 4096) [
+      | false ↦ x
+      | true ↦ elim (marked m (keptNumber (newOf x))) [ true ↦ keptNumber (newOf x) | false ↦ x ]
+    ]
 
-unfoldable pub finalTargets : Graph → List ℕ
+-- so every target, "At the end"
+unfoldable pub finalTargets : Buffers → List ℕ
 finalTargets g = map (redirected (g .marks)) (g .targets)
 
 -- "the graph is node 4,096 alone, kept": every other mark 0, all targets 65535, all sets 0
-unfoldable pub lone : Head → Graph
+unfoldable pub lone : Head → Buffers
 lone new =
-    graph (set (replicate 4160 0) (startKept new) 2) (replicate 8192 65535) (replicate 4096 0) (replicate 4096 0)
+    buffers (set (replicate 4160 0) (startKept new) 2) (replicate 8192 65535) (replicate 4096 0) (replicate 4096 0)
 
 module _ (old new : Head) where
   -- line 19: "If place 0 is kept, or is the new alarm without being the old one"
@@ -35,11 +39,12 @@ module _ (old new : Head) where
   alone m = marked m (startKept new) || not (bool (fair (old .alarm) (new .alarm) (oldStart old) (newStart new)))
 
   -- lines 19 to 21, then Algorithm 1
-  unfoldable pub finished : Graph → Graph
+  unfoldable pub finished : Buffers → Buffers
   finished g =
       elim (alone (g .marks)) [
         | true ↦ lone new
-        | false ↦ graph (finalMarks (startPair old new) (finalTargets g) (g .marks)) (finalTargets g) (g .sets) (g .waiting)
+        | false ↦
+            buffers (finalMarks (startPair old new) (finalTargets g) (g .marks)) (finalTargets g) (g .sets) (g .waiting)
       ]
 
   -- "and that is the start; else the start is 0"
@@ -52,10 +57,10 @@ summary start marks = record { start = start; opened = count 1 marks; kept = cou
 
 module _ (old new : Chart) where
   -- what a build without refusal leaves, whatever the buffers held
-  unfoldable pub built : Graph
+  unfoldable pub built : Buffers
   built = finished (headOf old) (headOf new) (explored old new)
 
-  -- the record of a build: "what a whole build without refusal, on buffers holding anything, leaves in marks, targets and sets, with the
-  -- start it answers"
+  -- the record of a build: "what a whole build without refusal, on buffers holding anything, leaves in marks, targets
+  -- and sets, with the start it answers"
   unfoldable pub recorded : Record
-  recorded = recordOf (startOf (headOf old) (headOf new) (explored old new .marks)) (built .marks) (built .targets) (built .sets)
+  recorded = record { start = startOf (headOf old) (headOf new) (explored old new .marks); graph = graphIn built }

@@ -16,9 +16,11 @@ use Rattle.base.specs.declared.Found.the-variants as founds
 use Rattle.base.specs.inner.Found.{toldFound}
 use Rattle.chart.specs.Places.{startPair}
 use Rattle.records.specs.Records.{index}
-use Rattle.words.specs.Words.{Member, added, listed}
+use Rattle.words.specs.inner.Words.{Member, added, listed}
 use Rattle.words.proofs.Words.{length-added, added-here, length-listed, listed-here}
-use Rattle.graph.specs.Graphs.{Graph, graph, Sized, Covers, Lists, Tracks}
+use Rattle.graph.specs.Buffers.{Buffers, buffers}
+use Rattle.graph.specs.inner.Sized.{Sized}
+use Rattle.graph.specs.inner.Tracks.{Covers, Lists, Tracks}
 use Rattle.chart.proofs.Starts.{firstPair}
 use Rattle.detector.specs.Turns.{lowest, next, begun, taken, explored}
 use Rattle.graph.proofs.Graphs.{Shaped}
@@ -27,10 +29,10 @@ use Rattle.detector.proofs.Turns.{next-waits}
 use Rattle.detector.proofs.Measure.{weight, turns, begun-shaped, begun-weight}
 
 -- four buffers that were filled, and two that were then written, are a graph that has begun
-pub begun-is : (old new : Head) {m t s w m₁ m₂ t₁ s₁ w₁ w₂ : List ℕ} {first : ℕ} → Sized (graph m t s w) → first ≡ startPair old new
+pub begun-is : (old new : Head) {m t s w m₁ m₂ t₁ s₁ w₁ w₂ : List ℕ} {first : ℕ} → Sized (buffers m t s w) → first ≡ startPair old new
     → m₁ ≡ replicate (length m) 0 → m₂ ≡ set m₁ first 1 → t₁ ≡ replicate (length t) 65535 → s₁ ≡ replicate (length s) 0
     → w₁ ≡ replicate (length w) 0 → w₂ ≡ set w₁ first 1
-    → (o n : List ℕ) → graph m₂ t₁ s₁ w₂ ≡ begun (charted old o) (charted new n)
+    → (o n : List ℕ) → buffers m₂ t₁ s₁ w₂ ≡ begun (charted old o) (charted new n)
 unfolding begun
 begun-is old new z f a b c d e g o n =
     graph-eq
@@ -40,7 +42,7 @@ begun-is old new z f a b c d e g o n =
     (g ∙ (λ i. set (e i) (f i) 1) ∙ ap (λ (k : ℕ). set (replicate k 0) (startPair old new) 1) (z .waiting))
 
 -- the loop stands at g, and the two sets have whom they should
-pub record Building (old new : Chart) (g : Graph) (waits seen : List ℕ) : Type 0 where
+pub record Building (old new : Chart) (g : Buffers) (waits seen : List ℕ) : Type 0 where
   pub old-faultless : FaultlessChart old
   pub new-faultless : FaultlessChart new
   pub going : Going next (taken old new) weight Shaped (explored old new) g
@@ -70,7 +72,7 @@ module _ (old new : Chart) (l s : List ℕ) (a : length l ≡ 65) (b : length s 
         waiting = λ i c p. rw (one-only 4096 (firstPair old new) 1 i p) first-seen;
       }
 
-pub build-begun : (old new : Chart) {g : Graph} (l s : List ℕ) {l′ s′ : List ℕ} {p q : ℕ} → FaultlessChart old → FaultlessChart new
+pub build-begun : (old new : Chart) {g : Buffers} (l s : List ℕ) {l′ s′ : List ℕ} {p q : ℕ} → FaultlessChart old → FaultlessChart new
     → g ≡ begun old new → length l ≡ 65 → p ≡ firstPair old new → l′ ≡ listed l p
     → length s ≡ 64 → q ≡ firstPair old new → s′ ≡ added s q → Building old new g l′ s′
 unfolding explored
@@ -83,7 +85,7 @@ build-begun old new l s F G e a b c x y z =
       tracks = record { lists = begun-lists old new l s a x; covers = begun-covers old new l s a x };
     })
 
-module _ (old new : Chart) {g : Graph} {waits seen : List ℕ} (B : Building old new g waits seen) where
+module _ (old new : Chart) {g : Buffers} {waits seen : List ℕ} (B : Building old new g waits seen) where
   pub build-sized : Sized g
   build-sized = B .going .good .sized
 
@@ -101,10 +103,10 @@ module _ (old new : Chart) {g : Graph} {waits seen : List ℕ} (B : Building old
     pub build-below : {n : ℕ} → f ≡ founds.At n → n < 4096
     build-below {n} a = omega (arith, next-waits g n (found a) .below, B .going .good .sized .waiting)
 
-    pub build-less : {n : ℕ} {h : Graph} → f ≡ founds.At n → h ≡ taken old new g n → weight h < weight g
+    pub build-less : {n : ℕ} {h : Buffers} → f ≡ founds.At n → h ≡ taken old new g n → weight h < weight g
     build-less a q = less-by next (taken old new) weight Shaped (turns old new (B .old-faultless) (B .new-faultless)) (B .going .good) (found a) q
 
-    pub build-turn : {n : ℕ} {h : Graph} {waits′ seen′ : List ℕ} → f ≡ founds.At n → Tracks waits′ seen′ h × (h ≡ taken old new g n)
+    pub build-turn : {n : ℕ} {h : Buffers} {waits′ seen′ : List ℕ} → f ≡ founds.At n → Tracks waits′ seen′ h × (h ≡ taken old new g n)
         → Building old new h waits′ seen′
     build-turn a (T, q) =
         let F = B .old-faultless in
@@ -123,7 +125,7 @@ module _ (old new : Chart) {g : Graph} {waits seen : List ℕ} (B : Building old
         (B .tracks .covers, done-by next (taken old new) weight Shaped t (B .going) (sym (e .0) ∙ ap toldFound a))
 
 -- lengths that stay
-module _ {m t s w m′ t′ s′ w′ : List ℕ} (z : Sized (graph m t s w)) (z′ : Sized (graph m′ t′ s′ w′)) where
+module _ {m t s w m′ t′ s′ w′ : List ℕ} (z : Sized (buffers m t s w)) (z′ : Sized (buffers m′ t′ s′ w′)) where
   pub same-marks : length m′ ≡ length m
   same-marks = z′ .marks ∙ sym (z .marks)
 

@@ -21,7 +21,8 @@ use Rattle.align.specs.declared.spots.Spot.{Spot}
 use Rattle.sets.specs.Sets.{joined, holdsAll}
 use Rattle.sets.proofs.Sets.{holds-in, holds-all, joined-left, joined-right}
 use Rattle.records.specs.Records.{index}
-use Rattle.graph.specs.Graphs.{Graph, Sized, keep, aim, due, join, unwait}
+use Rattle.graph.specs.Buffers.{Buffers, keep, aim, due, join, unwait}
+use Rattle.graph.specs.inner.Sized.{Sized}
 use Rattle.chart.proofs.Starts.{firstPair, firstKept}
 use Rattle.detector.specs.Turns.{rowsOf, leadsTo, next, setNow, begun, stepOf, rowDone, secondDone, taken, explored}
 use Rattle.detector.proofs.Steps.{Fits}
@@ -69,7 +70,7 @@ module _ (old new : Chart) where
   Stepped m s n r t = ToKept m n r t ⊎ ToStep m s n r t
 
   -- D tells of which rows of which pairs the step is claimed
-  pub record Inv (D : ℕ → ℕ → Type 0) (g : Graph) : Type 0 where
+  pub record Inv (D : ℕ → ℕ → Type 0) (g : Buffers) : Type 0 where
     pub shaped : Shaped g
     pub real : (i : ℕ) → i < 4096 → 0 < markAt g i → (i / 64 < old .places) × (i % 64 < new .places)
     pub real-kept : (k : ℕ) → 4096 ≤ k → k < 4160 → 0 < markAt g k → k % 64 < new .places
@@ -96,7 +97,7 @@ module _ (old new : Chart) (F : FaultlessChart old) (G : FaultlessChart new) whe
   leads-64 i r a = omega (arith, leads-below old new F G i 0 r a, G .few-places)
 
   -- ---- a new place becomes kept
-  module _ (g : Graph) (q : NewPlace) (S : Shaped g) (l : q .0 < 64) where
+  module _ (g : Buffers) (q : NewPlace) (S : Shaped g) (l : q .0 < 64) where
     keep-to-kept : (i r t : ℕ) → leadsTo new i r .0 < 64 → ToKept old new (g .marks) i r t → ToKept old new (keep g q .marks) i r t
     keep-to-kept i r t b K = record { kept = keep-kept g q (S .sized) l (keptNumber (leadsTo new i r)) (omega arith) (omega arith) (K .kept); leads = K .leads }
 
@@ -131,7 +132,7 @@ module _ (old new : Chart) (F : FaultlessChart old) (G : FaultlessChart new) whe
         let n : i % 64 ≡ q .0 → ⊥ = λ e. omega (arith, keep-mark g q (S .sized) l i b e) in
         (n, omega (arith, keep-mark-other g q (S .sized) l i b n))
 
-  keep-inv : (D : ℕ → ℕ → Type 0) (g : Graph) (q : NewPlace) → q .0 < new .places → Inv old new D g → Inv old new D (keep g q)
+  keep-inv : (D : ℕ → ℕ → Type 0) (g : Buffers) (q : NewPlace) → q .0 < new .places → Inv old new D g → Inv old new D (keep g q)
   keep-inv D g q w I =
       record {
         shaped = keep-shaped g q (I .shaped);
@@ -198,7 +199,7 @@ module _ (old new : Chart) (F : FaultlessChart old) (G : FaultlessChart new) whe
       at-home p (no e) = inl (omega (arith, keep-mark-other g q S l (firstPair old new) (omega arith) e))
 
   -- ---- a pair joins, of places that exist and a new place that is not kept
-  module _ (g : Graph) (m v : ℕ) (S : Shaped g) (l : m < 4096) (w : v < 2 ^ 64) where
+  module _ (g : Buffers) (m v : ℕ) (S : Shaped g) (l : m < 4096) (w : v < 2 ^ 64) where
     join-to-kept : (i r t : ℕ) → ToKept old new (g .marks) i r t → ToKept old new (join (old .alarm) g m v .marks) i r t
     join-to-kept i r t K = record { kept = join-there (old .alarm) g m v (S .sized) l (keptNumber (leadsTo new i r)) (K .kept); leads = K .leads }
 
@@ -228,7 +229,7 @@ module _ (old new : Chart) (F : FaultlessChart old) (G : FaultlessChart new) whe
             let h = not-due-why (old .alarm) g m v e a in
             (h .0, sym (join-not-due (old .alarm) g m v (S .sized) l e) ∙ z, join-set (old .alarm) g m v (S .sized) l ∙ held (setAt g m) v (h .1))
 
-  join-inv : (D : ℕ → ℕ → Type 0) (g : Graph) (m v : ℕ) → m < 4096 → m / 64 < old .places → m % 64 < new .places → markAt g (keptNumber (newOf m)) ≡ 0 → v < 2 ^ 64
+  join-inv : (D : ℕ → ℕ → Type 0) (g : Buffers) (m v : ℕ) → m < 4096 → m / 64 < old .places → m % 64 < new .places → markAt g (keptNumber (newOf m)) ≡ 0 → v < 2 ^ 64
       → Inv old new D g → Inv old new D (join (old .alarm) g m v)
   join-inv D g m v l ro rn free w I =
       record {
@@ -282,7 +283,7 @@ module _ (old new : Chart) (F : FaultlessChart old) (G : FaultlessChart new) whe
           (I .stepped i r b (was i e p) (sym (join-wait-other (old .alarm) g m v S l i e) ∙ z) a c s d)
 
   -- ---- the target of row r of the pair in hand is stored
-  module _ (g : Graph) (n r to : ℕ) (S : Shaped g) (l : n < 4096) (c : r < 2) where
+  module _ (g : Buffers) (n r to : ℕ) (S : Shaped g) (l : n < 4096) (c : r < 2) where
     aimed-here : targetAt (aimed g n r to) n r ≡ to
     aimed-here = getD-set-same (g .targets) (index n r) to 0 (omega (arith, S .sized .targets))
 
@@ -297,7 +298,7 @@ module _ (old new : Chart) (F : FaultlessChart old) (G : FaultlessChart new) whe
         go (yes d) (no e) = h (λ z. e (z .1))
         go (no d) e = h (λ z. d (z .0))
 
-  aimed-inv : (g : Graph) (n r to : ℕ) → n < 4096 → r < 2 → r < size (rowsOf new n) → 0 < markAt g n → to < 4160
+  aimed-inv : (g : Buffers) (n r to : ℕ) → n < 4096 → r < 2 → r < size (rowsOf new n) → 0 < markAt g n → to < 4160
       → Led old new (g .marks) n r to
       → (waitAt g n ≡ 0 → (oldOf n .0 ≡ old .alarm → ⊥) → Stepped old new (g .marks) (g .sets) n r to)
       → Inv old new (Hand n r) g → Inv old new (Hand n (suc r)) (aimed g n r to)
@@ -333,7 +334,7 @@ module _ (old new : Chart) (F : FaultlessChart old) (G : FaultlessChart new) whe
       before y u = omega arith
 
   -- a pair that has left the graph has no rows to tell of
-  gone-inv : (g : Graph) (n r : ℕ) → markAt g n ≡ 0 → Inv old new (Hand n r) g → Inv old new (Hand n (suc r)) g
+  gone-inv : (g : Buffers) (n r : ℕ) → markAt g n ≡ 0 → Inv old new (Hand n r) g → Inv old new (Hand n (suc r)) g
   gone-inv g n r z I =
       record {
         shaped = I .shaped;
@@ -349,7 +350,7 @@ module _ (old new : Chart) (F : FaultlessChart old) (G : FaultlessChart new) whe
         home = I .home;
       }
 
-  aim-inv : (g : Graph) (n r to : ℕ) → n < 4096 → r < 2 → r < size (rowsOf new n) → to < 4160
+  aim-inv : (g : Buffers) (n r to : ℕ) → n < 4096 → r < 2 → r < size (rowsOf new n) → to < 4160
       → Led old new (g .marks) n r to
       → (0 < markAt g n → waitAt g n ≡ 0 → (oldOf n .0 ≡ old .alarm → ⊥) → Stepped old new (g .marks) (g .sets) n r to)
       → Inv old new (Hand n r) g → Inv old new (Hand n (suc r)) (aim g n r to)
@@ -357,7 +358,7 @@ module _ (old new : Chart) (F : FaultlessChart old) (G : FaultlessChart new) whe
       by-aim g n r to (Inv old new (Hand n (suc r))) (λ p. aimed-inv g n r to l c there p b L (T p) I) (λ z. gone-inv g n r z I)
 
   -- no such row
-  spare-inv : (g : Graph) (n r : ℕ) → size (rowsOf new n) ≤ r → Inv old new (Hand n r) g → Inv old new (Hand n (suc r)) g
+  spare-inv : (g : Buffers) (n r : ℕ) → size (rowsOf new n) ≤ r → Inv old new (Hand n r) g → Inv old new (Hand n (suc r)) g
   spare-inv g n r u I =
       record {
         shaped = I .shaped;
@@ -374,7 +375,7 @@ module _ (old new : Chart) (F : FaultlessChart old) (G : FaultlessChart new) whe
       }
 
   -- ---- a row
-  module _ (g : Graph) (n v r : ℕ) (l : n < 4096) (lo : n / 64 < old .places) (c : r < 2) (w : v < 2 ^ 64) (own : 0 < markAt g n → v ≡ setAt g n) where
+  module _ (g : Buffers) (n v r : ℕ) (l : n < 4096) (lo : n / 64 < old .places) (c : r < 2) (w : v < 2 ^ 64) (own : 0 < markAt g n → v ≡ setAt g n) where
     row-inv : Inv old new (Hand n r) g → Inv old new (Hand n (suc r)) (rowDone old new g n v r)
     row-inv I =
         by-row old new g n v r (Inv old new (Hand n (suc r)))
@@ -405,7 +406,7 @@ module _ (old new : Chart) (F : FaultlessChart old) (G : FaultlessChart new) whe
             same-kept : keptNumber (newOf m) ≡ keptNumber (leadsTo new n r)
             same-kept = omega (arith, q-below)
 
-            g′ : Graph
+            g′ : Buffers
             g′ = join (old .alarm) g m (h .set)
 
             pair : ToPair old new (g′ .marks) n r m
@@ -430,7 +431,7 @@ module _ (old new : Chart) (F : FaultlessChart old) (G : FaultlessChart new) whe
                 }
 
   -- ---- a turn
-  unwait-inv : (g : Graph) (n : ℕ) → n < 4096 → Inv old new Every g → Inv old new (Hand n 0) (unwait g n)
+  unwait-inv : (g : Buffers) (n : ℕ) → n < 4096 → Inv old new Every g → Inv old new (Hand n 0) (unwait g n)
   unfolding unwait
   unwait-inv g n l I =
       record {
@@ -451,7 +452,7 @@ module _ (old new : Chart) (F : FaultlessChart old) (G : FaultlessChart new) whe
       still i b p (yes e) = absurd (omega (arith, rw e at p, getD-set-same (g .waiting) n 0 0 (omega (arith, I .shaped .sized .waiting))))
       still i b p (no e) = I .waiters i b (omega (arith, getD-set-other (g .waiting) n i 0 0 e))
 
-  pub turn-inv : (g : Graph) (n : ℕ) → Inv old new Every g → next g ≡ some n → Inv old new Every (taken old new g n)
+  pub turn-inv : (g : Buffers) (n : ℕ) → Inv old new Every g → next g ≡ some n → Inv old new Every (taken old new g n)
   unfolding taken secondDone unwait
   turn-inv g n I e =
       let L = next-waits g n e in
@@ -466,7 +467,7 @@ module _ (old new : Chart) (F : FaultlessChart old) (G : FaultlessChart new) whe
       same-set : setAt g n ≡ setAt (unwait g n) n
       same-set = refl
 
-      whole : (h : Graph) → Inv old new (Hand n 2) h → Inv old new Every h
+      whole : (h : Buffers) → Inv old new (Hand n 2) h → Inv old new Every h
       whole h J =
           record {
             shaped = J .shaped;

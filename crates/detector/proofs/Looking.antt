@@ -19,10 +19,11 @@ use Rattle.sets.proofs.Sets.{bit-none, without-kept}
 use Rattle.base.specs.declared.Found.{Found}
 use Rattle.base.specs.declared.Found.the-variants as founds
 use Rattle.base.specs.inner.Found.{toldFound}
-use Rattle.words.specs.Words.{Member, Listed, LowestFrom}
+use Rattle.words.specs.inner.Words.{Member, Listed, LowestFrom}
 use Rattle.words.proofs.Rests.{coming-start, coming-less}
-use Rattle.graph.specs.Graphs.{Lists}
-use Rattle.detector.specs.Turns.{lowest, LowestOf}
+use Rattle.graph.specs.inner.Tracks.{Lists}
+use Rattle.detector.specs.Turns.{lowest}
+use Rattle.detector.specs.inner.Lowest.{LowestOf}
 
 pub same-long : {l l′ w : List ℕ} → Lists l w → Lists l′ w → length l′ ≡ length l
 same-long A B = B .long ∙ sym (A .long)

@@ -16,7 +16,8 @@ use Rattle.chart.specs.Charts.{Chart, size}
 use Rattle.chart.specs.Faultless.{FaultlessChart}
 use Rattle.chart.specs.Places.{pairNumber, keptNumber, newOf}
 use Rattle.sets.specs.Sets.{joined}
-use Rattle.graph.specs.Graphs.{Graph, Sized, marked, keep, aim, due, join, unwait}
+use Rattle.graph.specs.Buffers.{Buffers, marked, keep, aim, due, join, unwait}
+use Rattle.graph.specs.inner.Sized.{Sized}
 use Rattle.detector.specs.Turns.{rowsOf, leadsTo, next, setNow, begun, rowDone, secondDone, taken, explored}
 use Rattle.detector.proofs.Steps.{Fits}
 use Rattle.graph.proofs.Graphs.{markAt, setAt, waitAt, Shaped, marked-yes, marked-no, marked-same, keep-node, keep-nodes, keep-wait, keep-mark-other, keep-set-other, keep-wait-other, keep-shaped, aimed, by-aim, aimed-shaped, join-mark, join-set, join-due, join-not-due, join-mark-other, join-set-other, join-wait-other, join-shaped, join-more, join-small, grown, due-why, unwait-shaped}
@@ -28,19 +29,19 @@ rest true present s = 0
 rest false false s = 2 * (2 ^ 64 + 1)
 rest false true s = 2 * (2 ^ 64 - s)
 
-left : Graph → ℕ → ℕ
+left : Buffers → ℕ → ℕ
 left g i = rest (marked (g .marks) (keptNumber (newOf i))) (marked (g .marks) i) (setAt g i) + waitAt g i
 
-pub weight : Graph → ℕ
+pub weight : Buffers → ℕ
 weight g = sum 4096 (left g)
 
 -- ---- each part of a turn raises what no pair has left
 -- a new place becomes kept
-left-keep : (g : Graph) (q : NewPlace) (i : ℕ) → Sized g → q .0 < 64 → i < 4096 → left (keep g q) i ≤ left g i
+left-keep : (g : Buffers) (q : NewPlace) (i : ℕ) → Sized g → q .0 < 64 → i < 4096 → left (keep g q) i ≤ left g i
 unfolding left rest
 left-keep g q i S l k = go (ℕ-discrete (i % 64) (q .0))
   where
-    here : Graph → ℕ
+    here : Buffers → ℕ
     here h = rest (marked (h .marks) (keptNumber (newOf i))) (marked (h .marks) i) (setAt h i) + waitAt h i
 
     go : Dec (i % 64 ≡ q .0) → here (keep g q) ≤ here g
@@ -56,12 +57,12 @@ left-keep g q i S l k = go (ℕ-discrete (i % 64) (q .0))
         )
         (omega arith)
 
-weight-keep : (g : Graph) (q : NewPlace) → Sized g → q .0 < 64 → weight (keep g q) ≤ weight g
+weight-keep : (g : Buffers) (q : NewPlace) → Sized g → q .0 < 64 → weight (keep g q) ≤ weight g
 unfolding weight
 weight-keep g q S l = sum-le 4096 (left (keep g q)) (left g) (λ i k. left-keep g q i S l k)
 
 -- a target is stored
-weight-aimed : (g : Graph) (n r to : ℕ) → weight (aimed g n r to) ≡ weight g
+weight-aimed : (g : Buffers) (n r to : ℕ) → weight (aimed g n r to) ≡ weight g
 unfolding weight left
 weight-aimed g n r to = refl
 
@@ -78,7 +79,7 @@ gained true s u w w′ a b c = ⊎-elim (λ e. omega arith) (λ e. ⊎-elim (λ 
     less : w′ ≡ 1 → (u ≡ s → ⊥) → 2 * (2 ^ 64 - u) + w′ ≤ 2 * (2 ^ 64 - s) + w
     less f n = omega arith
 
-module _ (alarm : ℕ) (g : Graph) (n v : ℕ) (S : Shaped g) (l : n < 4096) (free : markAt g (keptNumber (newOf n)) ≡ 0) (small : v < 2 ^ 64) where
+module _ (alarm : ℕ) (g : Buffers) (n v : ℕ) (S : Shaped g) (l : n < 4096) (free : markAt g (keptNumber (newOf n)) ≡ 0) (small : v < 2 ^ 64) where
   flagged : (b : Bool) → due alarm (g .marks) (g .sets) n v ≡ b
       → (waitAt (join alarm g n v) n ≡ waitAt g n) ⊎ ((waitAt (join alarm g n v) n ≡ 1) × ((marked (g .marks) n ≡ false) ⊎ (joined (setAt g n) v ≡ setAt g n → ⊥)))
   flagged true e = inr (join-due alarm g n v (S .sized) l e, ⊎-elim (λ f. inl f) (λ f. inr (grown (setAt g n) v f)) (due-why alarm g n v e))
@@ -113,7 +114,7 @@ module _ (alarm : ℕ) (g : Graph) (n v : ℕ) (S : Shaped g) (l : n < 4096) (fr
       go i k (no e) = join-other i k e
 
 -- a flag is cleared
-weight-unwait : (g : Graph) (n : ℕ) → Sized g → n < 4096 → 0 < waitAt g n → weight (unwait g n) < weight g
+weight-unwait : (g : Buffers) (n : ℕ) → Sized g → n < 4096 → 0 < waitAt g n → weight (unwait g n) < weight g
 unfolding weight left unwait
 weight-unwait g n S l p =
     sum-lt 4096 n (left (unwait g n)) (left g) l (omega (arith, getD-set-same (g .waiting) n 0 0 (omega (arith, S .waiting)))) (λ i k. go i (ℕ-discrete i n))
@@ -124,16 +125,16 @@ weight-unwait g n S l p =
 
 -- ---- a turn
 -- the graph keeps its shape, and nothing is raised
-pub record Lighter (g h : Graph) : Type 0 where
+pub record Lighter (g h : Buffers) : Type 0 where
   pub shaped : Shaped h
   pub less : weight h ≤ weight g
 
 module _ (old new : Chart) (F : FaultlessChart old) (G : FaultlessChart new) where
-  aim-lighter : (g h : Graph) (n r to : ℕ) → Lighter g h → Lighter g (aim h n r to)
+  aim-lighter : (g h : Buffers) (n r to : ℕ) → Lighter g h → Lighter g (aim h n r to)
   aim-lighter g h n r to L =
       by-aim h n r to (Lighter g) (λ l. record { shaped = aimed-shaped h n r to (L .shaped); less = omega (arith, weight-aimed h n r to, L .less) }) (λ e. L)
 
-  pub row-lighter : (g : Graph) (n v r : ℕ) → n < 4096 → v < 2 ^ 64 → Shaped g → Lighter g (rowDone old new g n v r)
+  pub row-lighter : (g : Buffers) (n v r : ℕ) → n < 4096 → v < 2 ^ 64 → Shaped g → Lighter g (rowDone old new g n v r)
   row-lighter g n v r l k S =
       by-row old new g n v r (Lighter g)
       (λ a. record { shaped = S; less = omega arith })
@@ -148,7 +149,7 @@ module _ (old new : Chart) (F : FaultlessChart old) (G : FaultlessChart new) whe
       q-below : r < size (rowsOf new n) → leadsTo new n r .0 < 64
       q-below a = omega (arith, leads-below old new F G n v r a, G .few-places)
 
-  turn-lighter : (g : Graph) (n : ℕ) → n < 4096 → Shaped g → Lighter (unwait g n) (taken old new g n)
+  turn-lighter : (g : Buffers) (n : ℕ) → n < 4096 → Shaped g → Lighter (unwait g n) (taken old new g n)
   unfolding taken secondDone
   turn-lighter g n l S =
       let v = setAt g n in
@@ -165,7 +166,7 @@ module _ (old new : Chart) (F : FaultlessChart old) (G : FaultlessChart new) whe
         less = λ g n S e. omega (arith, weight-unwait g n (S .sized) (below g n S e) (next-waits g n e .waits), turn-lighter g n (below g n S e) S .less);
       }
     where
-      below : (g : Graph) (n : ℕ) → Shaped g → next g ≡ some n → n < 4096
+      below : (g : Buffers) (n : ℕ) → Shaped g → next g ≡ some n → n < 4096
       below g n S e = omega (arith, next-waits g n e .below, S .sized .waiting)
 
   pub begun-shaped : Shaped (begun old new)

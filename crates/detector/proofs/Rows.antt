@@ -15,10 +15,13 @@ use Rattle.chart.specs.Faultless.{FaultlessChart}
 use Rattle.chart.specs.Places.{oldOf, newOf}
 use Rattle.align.specs.declared.spots.Spot.{Spot}
 use Rattle.align.specs.declared.spots.Aligned.{Aligned}
-use Rattle.align.specs.Steps.{told, step}
+use Rattle.align.specs.Steps.{step}
+use Rattle.align.specs.inner.Told.{told}
 use Rattle.align.proofs.Seek.{part-right}
-use Rattle.words.specs.Words.{removed}
-use Rattle.graph.specs.Graphs.{Graph, graph, Sized, Tracks, marked, unwait}
+use Rattle.words.specs.inner.Words.{removed}
+use Rattle.graph.specs.Buffers.{Buffers, buffers, marked, unwait}
+use Rattle.graph.specs.inner.Sized.{Sized}
+use Rattle.graph.specs.inner.Tracks.{Tracks}
 use Rattle.detector.specs.Turns.{rowsOf, leadsTo, setNow, stepOf, processed, rowDone, secondDone, taken}
 use Rattle.graph.proofs.Graphs.{marked-yes, marked-no}
 use Rattle.graph.proofs.Tracking.{unwait-tracks}
@@ -51,12 +54,12 @@ module _ (new : Chart) (n r : ℕ) {q′ : NewPlace} {part : List ℕ} (a : q′
     pub came-fits : FaultlessChart old → FaultlessChart new → n < 4096 → v < 2 ^ 64 → r < length part / 6 → (h : Spot) → told came ≡ some h → h .place .0 < 64
     came-fits F G l w k h e = step-of-fits old new F G n v r (part-there k) 64 (F .few-places) (omega arith) w h (sym stepped ∙ e) .place
 
-    pub row-there : (g : Graph) {g′ : Graph} (q : NewPlace) → r < length part / 6 → q .0 ≡ to part r → g′ ≡ processed (old .alarm) g n r q (told came) → g′ ≡ rowDone old new g n v r
+    pub row-there : (g : Buffers) {g′ : Buffers} (q : NewPlace) → r < length part / 6 → q .0 ≡ to part r → g′ ≡ processed (old .alarm) g n r q (told came) → g′ ≡ rowDone old new g n v r
     unfolding rowDone
     row-there g q l e h =
         h ∙ (λ i. processed (old .alarm) g n r (part-leads q e i) (stepped i)) ∙ rw (lt-ltb r (size (rowsOf new n)) (part-there l), rowDone)
 
-  pub row-spare : (old : Chart) (v : ℕ) (g : Graph) → length part / 6 ≤ r → g ≡ rowDone old new g n v r
+  pub row-spare : (old : Chart) (v : ℕ) (g : Buffers) → length part / 6 ≤ r → g ≡ rowDone old new g n v r
   unfolding rowDone
   row-spare old v g l = rw (le-ltb r (size (rowsOf new n)) (subst (λ (x : List ℕ). length x / 6 ≤ r) part-is l), rowDone)
 
@@ -71,9 +74,9 @@ module _ (m s : List ℕ) (n v : ℕ) where
   now-had e = rw (marked-no m n e, setNow)
 
 -- ---- a turn: the pair waits no more, and its two rows are done, each under the set that it has then
-module _ (old new : Chart) (g : Graph) (n : ℕ) where
+module _ (old new : Chart) (g : Buffers) (n : ℕ) where
   -- where the loop stands before row r, with the set v, the graph h and who waits and was seen; it began with g
-  pub record Turning (r v : ℕ) (h : Graph) (waits seen : List ℕ) : Type 0 where
+  pub record Turning (r v : ℕ) (h : Buffers) (waits seen : List ℕ) : Type 0 where
     pub most : r ≤ 2
     pub sized : Sized h
     pub tracks : Tracks waits seen h
@@ -93,7 +96,7 @@ module _ (old new : Chart) (g : Graph) (n : ℕ) where
       }
 
   -- before the first row the pair's set is its own, whether it is in the graph or not
-  own-first : {v u : ℕ} {h : Graph} → h ≡ g → v ≡ getD (g .sets) n 0 → u ≡ setNow (h .marks) (h .sets) n v → u ≡ getD (g .sets) n 0
+  own-first : {v u : ℕ} {h : Buffers} → h ≡ g → v ≡ getD (g .sets) n 0 → u ≡ setNow (h .marks) (h .sets) n v → u ≡ getD (g .sets) n 0
   unfolding setNow
   own-first e a b = b ∙ (λ i. setNow (e i .marks) (e i .sets) n (a i)) ∙ go (marked (g .marks) n)
     where
@@ -101,12 +104,12 @@ module _ (old new : Chart) (g : Graph) (n : ℕ) where
       go true = refl
       go false = refl
 
-  second-is : {v u : ℕ} {h h′ : Graph} → h ≡ rowDone old new g n (getD (g .sets) n 0) 0 → v ≡ getD (g .sets) n 0 → u ≡ setNow (h .marks) (h .sets) n v
+  second-is : {v u : ℕ} {h h′ : Buffers} → h ≡ rowDone old new g n (getD (g .sets) n 0) 0 → v ≡ getD (g .sets) n 0 → u ≡ setNow (h .marks) (h .sets) n v
       → h′ ≡ rowDone old new h n u 1 → h′ ≡ secondDone old new (rowDone old new g n (getD (g .sets) n 0) 0) n (getD (g .sets) n 0)
   unfolding secondDone
   second-is {h = h} e a b c = c ∙ (λ i. rowDone old new h n (b i) 1) ∙ (λ i. rowDone old new (e i) n (setNow (e i .marks) (e i .sets) n (a i)) 1)
 
-  pub turn-row : (r : ℕ) {v u : ℕ} {h h′ : Graph} {waits seen waits′ seen′ : List ℕ} → Turning r v h waits seen → r < 2
+  pub turn-row : (r : ℕ) {v u : ℕ} {h h′ : Buffers} {waits seen waits′ seen′ : List ℕ} → Turning r v h waits seen → r < 2
       → u ≡ setNow (h .marks) (h .sets) n v → Tracks waits′ seen′ h′ × (h′ ≡ rowDone old new h n u r) → Sized h′ → Turning (r + 1) u h′ waits′ seen′
   turn-row zero T l b (K, c) S =
       let z = T .none-done refl in
@@ -131,18 +134,18 @@ module _ (old new : Chart) (g : Graph) (n : ℕ) where
       }
   turn-row (suc (suc r)) T l b c S = absurd (omega arith)
 
-pub turn-done : (old new : Chart) (m t s w : List ℕ) (n : ℕ) {w₁ waits seen : List ℕ} {r v : ℕ} {h : Graph} → w₁ ≡ set w n 0
-    → Turning old new (graph m t s w₁) n r v h waits seen → 2 ≤ r → Tracks waits seen h × (h ≡ taken old new (graph m t s w) n)
+pub turn-done : (old new : Chart) (m t s w : List ℕ) (n : ℕ) {w₁ waits seen : List ℕ} {r v : ℕ} {h : Buffers} → w₁ ≡ set w n 0
+    → Turning old new (buffers m t s w₁) n r v h waits seen → 2 ≤ r → Tracks waits seen h × (h ≡ taken old new (buffers m t s w) n)
 unfolding taken unwait
 turn-done old new m t s w n a T l = (
   T .tracks,
-  T .both-done (omega (arith, T .most)) ∙ (λ i. secondDone old new (rowDone old new (graph m t s (a i)) n (getD s n 0) 0) n (getD s n 0)),
+  T .both-done (omega (arith, T .most)) ∙ (λ i. secondDone old new (rowDone old new (buffers m t s (a i)) n (getD s n 0) 0) n (getD s n 0)),
 )
 
-pub unwait-sized : {m t s w w₁ : List ℕ} (n : ℕ) → Sized (graph m t s w) → w₁ ≡ set w n 0 → Sized (graph m t s w₁)
+pub unwait-sized : {m t s w w₁ : List ℕ} (n : ℕ) → Sized (buffers m t s w) → w₁ ≡ set w n 0 → Sized (buffers m t s w₁)
 unwait-sized n S a = record { marks = S .marks; targets = S .targets; sets = S .sets; waiting = rw (a, length-set) (S .waiting) }
 
-pub unwait-kept-up : {m t s w w₁ waits waits₁ seen : List ℕ} (n : ℕ) → n < 4096 → Sized (graph m t s w)
-    → Tracks waits seen (graph m t s w) → w₁ ≡ set w n 0 → waits₁ ≡ removed waits n → Tracks waits₁ seen (graph m t s w₁)
+pub unwait-kept-up : {m t s w w₁ waits waits₁ seen : List ℕ} (n : ℕ) → n < 4096 → Sized (buffers m t s w)
+    → Tracks waits seen (buffers m t s w) → w₁ ≡ set w n 0 → waits₁ ≡ removed waits n → Tracks waits₁ seen (buffers m t s w₁)
 unfolding unwait
-unwait-kept-up n b S K a e = rw a (unwait-tracks (graph _ _ _ _) n S b K e)
+unwait-kept-up n b S K a e = rw a (unwait-tracks (buffers _ _ _ _) n S b K e)

@@ -14,12 +14,12 @@ use Rattle.chart.specs.Charts.{Chart, size, operation}
 use Rattle.chart.specs.Faultless.{FaultlessChart}
 use Rattle.chart.specs.Places.{pairNumber, keptNumber, oldOf, newOf}
 use Rattle.align.specs.declared.spots.Spot.{Spot}
-use Rattle.graph.specs.Graphs.{Graph, marked, keep, aim, join}
+use Rattle.graph.specs.Buffers.{Buffers, marked, keep, aim, join}
 use Rattle.detector.specs.Turns.{rowsOf, leadsTo, lowest, next, setNow, stepOf, arrived, processed, rowDone}
 use Rattle.detector.proofs.Steps.{Fits, row-to, row-a, step-fits}
 use Rattle.graph.proofs.Graphs.{markAt, setAt, waitAt, marked-yes, marked-no, is-marked, not-marked, Shaped}
 
-module _ (old new : Chart) (g : Graph) (n v r : ℕ) where
+module _ (old new : Chart) (g : Buffers) (n v r : ℕ) where
   no-row : size (rowsOf new n) ≤ r → rowDone old new g n v r ≡ g
   unfolding rowDone
   no-row l = rw (le-ltb r (size (rowsOf new n)) l, rowDone)
@@ -44,7 +44,7 @@ module _ (old new : Chart) (g : Graph) (n v r : ℕ) where
   joins-is h e = rw (e, arrived)
 
   -- there is no such row; or its step fails; or it leads to a place that is kept already; or to a pair
-  pub by-row : (P : Graph → Type 0)
+  pub by-row : (P : Buffers → Type 0)
       → (size (rowsOf new n) ≤ r → P g)
       → (r < size (rowsOf new n) → stepOf old new n v r ≡ none → P (aim (keep g (leadsTo new n r)) n r (keptNumber (leadsTo new n r))))
       → (r < size (rowsOf new n) → 0 < markAt g (keptNumber (leadsTo new n r)) → P (aim g n r (keptNumber (leadsTo new n r))))
@@ -63,7 +63,7 @@ module _ (old new : Chart) (g : Graph) (n v r : ℕ) where
       go (yes l) (some h) e = there l h e (marked (g .marks) (keptNumber (leadsTo new n r))) refl
 
 -- ---- the pair in hand's set
-module _ (g : Graph) (n v : ℕ) where
+module _ (g : Buffers) (n v : ℕ) where
   pub set-now : 0 < markAt g n → setNow (g .marks) (g .sets) n v ≡ setAt g n
   unfolding setNow
   set-now l = rw (marked-yes (g .marks) n l, setNow)
@@ -93,17 +93,17 @@ module _ (old new : Chart) (F : FaultlessChart old) (G : FaultlessChart new) (n 
       (record { place = l; set = k })) e
 
 -- ---- the pair that a turn takes
-pub record Waiter (g : Graph) (n : ℕ) : Type 0 where
+pub record Waiter (g : Buffers) (n : ℕ) : Type 0 where
   pub below : n < length (g .waiting)
   pub waits : 0 < waitAt g n
 
-pub next-waits : (g : Graph) (n : ℕ) → next g ≡ some n → Waiter g n
+pub next-waits : (g : Buffers) (n : ℕ) → next g ≡ some n → Waiter g n
 unfolding next lowest
 next-waits g n e =
     let f = first-is (λ i x. not (eqb x 0)) (g .waiting) n e in
     record { below = f .below; waits = (let z = eqb-false (waitAt g n) 0 (not-true _ (f .passes)) in omega arith) }
 
 -- where there is no such pair, none waits
-pub none-waits : (g : Graph) → next g ≡ none → (k : ℕ) → k < length (g .waiting) → waitAt g k ≡ 0
+pub none-waits : (g : Buffers) → next g ≡ none → (k : ℕ) → k < length (g .waiting) → waitAt g k ≡ 0
 unfolding next lowest
 none-waits g e k l = eqb-true (waitAt g k) 0 (not-false _ (none-passes (λ i x. not (eqb x 0)) (g .waiting) e k l))

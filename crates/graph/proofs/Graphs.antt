@@ -17,19 +17,20 @@ use Rattle.chart.specs.declared.places.NewPlace.{NewPlace}
 use Rattle.chart.specs.Places.{keptNumber, oldOf}
 use Rattle.records.specs.Records.{index}
 use Rattle.sets.specs.Sets.{joined, holdsAll}
-use Rattle.graph.specs.Graphs.{Graph, graph, Sized, marked, gone, cleared, untargeted, keep, aim, due, waits, join, unwait}
+use Rattle.graph.specs.Buffers.{Buffers, buffers, marked, gone, cleared, untargeted, keep, aim, due, waits, join, unwait}
+use Rattle.graph.specs.inner.Sized.{Sized}
 
 -- ---- a mark is there or not
-abbrev pub markAt : Graph → ℕ → ℕ
+abbrev pub markAt : Buffers → ℕ → ℕ
 markAt g n = getD (g .marks) n 0
 
-abbrev pub setAt : Graph → ℕ → ℕ
+abbrev pub setAt : Buffers → ℕ → ℕ
 setAt g n = getD (g .sets) n 0
 
-abbrev pub waitAt : Graph → ℕ → ℕ
+abbrev pub waitAt : Buffers → ℕ → ℕ
 waitAt g n = getD (g .waiting) n 0
 
-abbrev pub targetAt : Graph → ℕ → ℕ → ℕ
+abbrev pub targetAt : Buffers → ℕ → ℕ → ℕ
 targetAt g n r = getD (g .targets) (index n r) 0
 
 module _ (m : List ℕ) (n : ℕ) where
@@ -105,12 +106,12 @@ small-cleared k q l b h = small-pass k (gone q 0) b (λ i x m. go (ltb i 4096 &&
     go false x m = m
 
 -- ---- the stated lengths, and sets of 64 variables
-pub record Shaped (g : Graph) : Type 0 where
+pub record Shaped (g : Buffers) : Type 0 where
   pub sized : Sized g
   pub small : (i : ℕ) → setAt g i < 2 ^ 64
 
 -- ---- a new place becomes kept
-module _ (g : Graph) (q : NewPlace) (S : Sized g) (l : q .0 < 64) where
+module _ (g : Buffers) (q : NewPlace) (S : Sized g) (l : q .0 < 64) where
   pub keep-node : markAt (keep g q) (keptNumber q) ≡ 1
   unfolding keep
   keep-node = getD-set-same (cleared q (g .marks)) (keptNumber q) 1 0 (simp length-cleared (omega (arith, S .marks)))
@@ -165,7 +166,7 @@ module _ (g : Graph) (q : NewPlace) (S : Sized g) (l : q .0 < 64) where
           let h : index i r / 2 ≡ i = omega arith in
           untargeted-other q (g .targets) (index i r) (omega (arith, S .targets)) (rw h e)
 
-pub keep-shaped : (g : Graph) (q : NewPlace) → Shaped g → Shaped (keep g q)
+pub keep-shaped : (g : Buffers) (q : NewPlace) → Shaped g → Shaped (keep g q)
 unfolding keep
 keep-shaped g q h =
     record {
@@ -180,10 +181,10 @@ keep-shaped g q h =
     }
 
 -- ---- a target is stored
-abbrev pub aimed : Graph → ℕ → ℕ → ℕ → Graph
-aimed g n r to = graph (g .marks) (set (g .targets) (index n r) to) (g .sets) (g .waiting)
+abbrev pub aimed : Buffers → ℕ → ℕ → ℕ → Buffers
+aimed g n r to = buffers (g .marks) (set (g .targets) (index n r) to) (g .sets) (g .waiting)
 
-module _ (g : Graph) (n r to : ℕ) where
+module _ (g : Buffers) (n r to : ℕ) where
   pub aim-there : 0 < markAt g n → aim g n r to ≡ aimed g n r to
   unfolding aim
   aim-there l = rw (marked-yes (g .marks) n l, aim)
@@ -193,7 +194,7 @@ module _ (g : Graph) (n r to : ℕ) where
   aim-gone e = rw (marked-no (g .marks) n e, aim)
 
   -- it is stored, or nothing is
-  pub by-aim : (P : Graph → Type 0) → (0 < markAt g n → P (aimed g n r to)) → (markAt g n ≡ 0 → P g) → P (aim g n r to)
+  pub by-aim : (P : Buffers → Type 0) → (0 < markAt g n → P (aimed g n r to)) → (markAt g n ≡ 0 → P g) → P (aim g n r to)
   by-aim P f h = go (ℕ-discrete (markAt g n) 0)
     where
       go : Dec (markAt g n ≡ 0) → P (aim g n r to)
@@ -226,7 +227,7 @@ pub waits-no : (w : List ℕ) (n : ℕ) → getD (waits false w n) n 0 ≡ getD 
 unfolding waits
 waits-no w n = refl
 
-module _ (alarm : ℕ) (g : Graph) (n v : ℕ) (S : Sized g) (l : n < 4096) where
+module _ (alarm : ℕ) (g : Buffers) (n v : ℕ) (S : Sized g) (l : n < 4096) where
   pub join-mark : markAt (join alarm g n v) n ≡ 1
   unfolding join
   join-mark = getD-set-same (g .marks) n 1 0 (omega (arith, S .marks))
@@ -260,11 +261,11 @@ module _ (alarm : ℕ) (g : Graph) (n v : ℕ) (S : Sized g) (l : n < 4096) wher
   pub join-there : (i : ℕ) → 0 < markAt g i → 0 < markAt (join alarm g n v) i
   join-there i p = dite (ℕ-discrete i n) (λ e. rw e (omega (arith, join-mark))) (λ e. omega (arith, join-mark-other i e))
 
-pub join-target : (alarm : ℕ) (g : Graph) (n v : ℕ) → join alarm g n v .targets ≡ g .targets
+pub join-target : (alarm : ℕ) (g : Buffers) (n v : ℕ) → join alarm g n v .targets ≡ g .targets
 unfolding join
 join-target alarm g n v = refl
 
-pub join-shaped : (alarm : ℕ) (g : Graph) (n v : ℕ) → v < 2 ^ 64 → Shaped g → Shaped (join alarm g n v)
+pub join-shaped : (alarm : ℕ) (g : Buffers) (n v : ℕ) → v < 2 ^ 64 → Shaped g → Shaped (join alarm g n v)
 unfolding join joined
 join-shaped alarm g n v b h =
     record {
@@ -279,7 +280,7 @@ join-shaped alarm g n v b h =
     }
 
 -- ---- a pair waits no more
-pub unwait-shaped : (g : Graph) (n : ℕ) → Shaped g → Shaped (unwait g n)
+pub unwait-shaped : (g : Buffers) (n : ℕ) → Shaped g → Shaped (unwait g n)
 unfolding unwait
 unwait-shaped g n h =
     record {
@@ -306,7 +307,7 @@ module _ (s v : ℕ) where
   grown e = eqb-false (bitOr s v) s e
 
 -- ---- line 28
-module _ (alarm : ℕ) (g : Graph) (n v : ℕ) where
+module _ (alarm : ℕ) (g : Buffers) (n v : ℕ) where
   pub due-why : due alarm (g .marks) (g .sets) n v ≡ true → (marked (g .marks) n ≡ false) ⊎ (holdsAll (setAt g n) v ≡ false)
   unfolding due
   due-why e = go (marked (g .marks) n) (holdsAll (setAt g n) v) (and-true (not (eqb (oldOf n .0) alarm)) _ e .1)

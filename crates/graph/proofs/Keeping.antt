@@ -16,9 +16,11 @@ use Rattle.chart.specs.Places.{keptNumber}
 use Rattle.records.specs.Records.{index}
 use Rattle.sets.specs.Sets.{alone, meets}
 use Rattle.sets.proofs.Sets.{alone-here, meet-none}
-use Rattle.words.specs.Words.{Member, gathered}
+use Rattle.words.specs.inner.Words.{Member, gathered}
 use Rattle.words.proofs.Words.{gathered-has}
-use Rattle.graph.specs.Graphs.{Graph, graph, Sized, Covers, gone, cleared, untargeted, keep}
+use Rattle.graph.specs.Buffers.{Buffers, buffers, gone, cleared, untargeted, keep}
+use Rattle.graph.specs.inner.Sized.{Sized}
+use Rattle.graph.specs.inner.Tracks.{Covers}
 use Rattle.graph.proofs.Graphs.{gone-here, gone-other, gone-past}
 use Rattle.graph.proofs.Parts.{graph-eq}
 
@@ -87,7 +89,7 @@ pub both-targets : (t : List ℕ) (n : ℕ) → set (set t (2 * n) 65535) (2 * n
 both-targets t n = ap (λ (x : ℕ). set (set t x 65535) (index n 1) 65535) (omega arith)
 
 -- ---- what a buffer has of pairs that were not seen
-module _ {seen : List ℕ} {g : Graph} (C : Covers seen g) (i : ℕ) (l : i < 4096) (u : Member seen i → ⊥) where
+module _ {seen : List ℕ} {g : Buffers} (C : Covers seen g) (i : ℕ) (l : i < 4096) (u : Member seen i → ⊥) where
   unseen : (d : List ℕ) → (0 < getD d i 0 → Member seen i) → getD d i 0 ≡ 0
   unseen d h = dite (ℕ-discrete (getD d i 0) 0) (λ z. z) (λ z. absurd (u (h (omega arith))))
 
@@ -97,14 +99,14 @@ module _ {seen : List ℕ} {g : Graph} (C : Covers seen g) (i : ℕ) (l : i < 40
       (λ z. absurd (u (let y : index i (j % 2) ≡ j = omega arith in C .targets i (j % 2) l (omega arith) (rw y z))))
 
 -- ---- the four buffers
-pub record Going (q : NewPlace) (g g′ : Graph) (p : ℕ) : Type 0 where
+pub record Going (q : NewPlace) (g g′ : Buffers) (p : ℕ) : Type 0 where
   pub most : p ≤ 64
   pub marks : Clearing (λ j. j) 0 q (g .marks) (g′ .marks) p
   pub targets : Clearing (λ j. j / 2) 65535 q (g .targets) (g′ .targets) p
   pub sets : Clearing (λ j. j) 0 q (g .sets) (g′ .sets) p
   pub waiting : Clearing (λ j. j) 0 q (g .waiting) (g′ .waiting) p
 
-pub going-none : (q : NewPlace) (g : Graph) → Going q g g 0
+pub going-none : (q : NewPlace) (g : Buffers) → Going q g g 0
 going-none q g =
     record {
       most = omega arith;
@@ -114,7 +116,7 @@ going-none q g =
       waiting = clearing-none (λ j. j) 0 q;
     }
 
-module _ {q : NewPlace} {g g′ : Graph} {p : ℕ} (G : Going q g g′ p) where
+module _ {q : NewPlace} {g g′ : Buffers} {p : ℕ} (G : Going q g g′ p) where
   pub going-sized : Sized g → Sized g′
   going-sized S =
       record {
@@ -124,13 +126,13 @@ module _ {q : NewPlace} {g g′ : Graph} {p : ℕ} (G : Going q g g′ p) where
         waiting = G .waiting .long ∙ S .waiting;
       }
 
-  pub going-same : {m t s w : List ℕ} → m ≡ g′ .marks → t ≡ g′ .targets → s ≡ g′ .sets → w ≡ g′ .waiting → Going q g (graph m t s w) p
+  pub going-same : {m t s w : List ℕ} → m ≡ g′ .marks → t ≡ g′ .targets → s ≡ g′ .sets → w ≡ g′ .waiting → Going q g (buffers m t s w) p
   going-same a b c d = rw (a, b, c, d) G
 
   module _ {n : ℕ} (S : Sized g) (l : q .0 < 64) (b : p < 64) (e : n ≡ 64 * p + q .0) where
     -- the next pair leaves
     pub going-seen : {m t s w : List ℕ} → (m ≡ set (g′ .marks) n 0) × (t ≡ set (set (g′ .targets) (index n 0) 65535) (index n 1) 65535)
-        × (s ≡ set (g′ .sets) n 0) × (w ≡ set (g′ .waiting) n 0) → Going q g (graph m t s w) (p + 1)
+        × (s ≡ set (g′ .sets) n 0) × (w ≡ set (g′ .waiting) n 0) → Going q g (buffers m t s w) (p + 1)
     going-seen L =
         let Z = going-sized S in
         rw (L .0, L .1, L .2, L .3)
@@ -161,11 +163,11 @@ module _ {q : NewPlace} {g g′ : Graph} {p : ℕ} (G : Going q g g′ p) where
           }
 
 -- ---- all have left
-abbrev Left : NewPlace → Graph → Graph → Type 0
+abbrev Left : NewPlace → Buffers → Buffers → Type 0
 Left q g g′ =
     (g′ .marks ≡ cleared q (g .marks)) × (g′ .targets ≡ untargeted q (g .targets)) × (g′ .sets ≡ cleared q (g .sets)) × (g′ .waiting ≡ cleared q (g .waiting))
 
-pub left-all : {q : NewPlace} {g g′ : Graph} {k p : ℕ} → k ≡ q .0 → Going (record { 0 = k }) g g′ p → 64 ≤ p → Left q g g′
+pub left-all : {q : NewPlace} {g g′ : Buffers} {k p : ℕ} → k ≡ q .0 → Going (record { 0 = k }) g g′ p → 64 ≤ p → Left q g g′
 unfolding cleared untargeted
 left-all {q} {g} {g′} {k} {p} e G l =
     let z : p ≡ 64 = omega (arith, G .most) in
@@ -177,7 +179,7 @@ left-all {q} {g} {g′} {k} {p} e G l =
     )
 
 -- none had anything: no word of those seen has the bit of the place
-module _ {q : NewPlace} {g : Graph} {seen : List ℕ} {k all a : ℕ} {b : Bool} (C : Covers seen g) (e : k ≡ q .0) (c : all ≡ gathered seen (length seen))
+module _ {q : NewPlace} {g : Buffers} {seen : List ℕ} {k all a : ℕ} {b : Bool} (C : Covers seen g) (e : k ≡ q .0) (c : all ≡ gathered seen (length seen))
     (d : a ≡ alone k) (m : b ≡ meets all a) (n : b ≡ false) where
   absent : (i : ℕ) → i < 4096 → i % 64 ≡ q .0 → Member seen i → ⊥
   absent i l h M =
@@ -197,7 +199,7 @@ module _ {q : NewPlace} {g : Graph} {seen : List ℕ} {k all a : ℕ} {b : Bool}
     had-none (g .waiting) (C .waiting),
   )
 
-pub keep-is : (m t s w : List ℕ) (q : NewPlace) {m₁ m₂ t′ s′ w′ : List ℕ} {k : ℕ} → Left q (graph m t s w) (graph m₁ t′ s′ w′)
-    → k ≡ keptNumber q → m₂ ≡ set m₁ k 1 → graph m₂ t′ s′ w′ ≡ keep (graph m t s w) q
+pub keep-is : (m t s w : List ℕ) (q : NewPlace) {m₁ m₂ t′ s′ w′ : List ℕ} {k : ℕ} → Left q (buffers m t s w) (buffers m₁ t′ s′ w′)
+    → k ≡ keptNumber q → m₂ ≡ set m₁ k 1 → buffers m₂ t′ s′ w′ ≡ keep (buffers m t s w) q
 unfolding keep
 keep-is m t s w q L k e = graph-eq (e ∙ (λ i. set (L .0 i) (k i) 1)) (L .1) (L .2) (L .3)

@@ -12,21 +12,22 @@ use Rattle.chart.specs.declared.places.OldPlace.{OldPlace}
 use Rattle.chart.specs.Places.{oldOf}
 use Rattle.records.specs.Records.{index}
 use Rattle.sets.specs.Sets.{joined, holdsAll}
-use Rattle.words.specs.Words.{Member, added, listed}
+use Rattle.words.specs.inner.Words.{Member, added, listed}
 use Rattle.words.proofs.Words.{added-had}
-use Rattle.graph.specs.Graphs.{graph, marked, aim, due, waits, join, listedIf}
+use Rattle.graph.specs.Buffers.{buffers, marked, aim, due, waits, join}
+use Rattle.graph.specs.inner.Tracks.{listedIf}
 use Rattle.graph.proofs.Graphs.{is-marked, aim-there, aim-gone, held}
 
 -- two graphs are equal by their buffers
-pub graph-eq : {m m′ t t′ s s′ w w′ : List ℕ} → m ≡ m′ → t ≡ t′ → s ≡ s′ → w ≡ w′ → graph m t s w ≡ graph m′ t′ s′ w′
-graph-eq a b c d = λ i. graph (a i) (b i) (c i) (d i)
+pub graph-eq : {m m′ t t′ s s′ w w′ : List ℕ} → m ≡ m′ → t ≡ t′ → s ≡ s′ → w ≡ w′ → buffers m t s w ≡ buffers m′ t′ s′ w′
+graph-eq a b c d = λ i. buffers (a i) (b i) (c i) (d i)
 
 module _ (m t : List ℕ) (n r to : ℕ) where
-  pub aim-yes : (getD m n 0 ≡ 0 → ⊥) → (s w : List ℕ) → graph m (set t (index n r) to) s w ≡ aim (graph m t s w) n r to
-  aim-yes e s w = sym (aim-there (graph m t s w) n r to (omega arith))
+  pub aim-yes : (getD m n 0 ≡ 0 → ⊥) → (s w : List ℕ) → buffers m (set t (index n r) to) s w ≡ aim (buffers m t s w) n r to
+  aim-yes e s w = sym (aim-there (buffers m t s w) n r to (omega arith))
 
-  pub aim-no : getD m n 0 ≡ 0 → (s w : List ℕ) → graph m t s w ≡ aim (graph m t s w) n r to
-  aim-no e s w = sym (aim-gone (graph m t s w) n r to e)
+  pub aim-no : getD m n 0 ≡ 0 → (s w : List ℕ) → buffers m t s w ≡ aim (buffers m t s w) n r to
+  aim-no e s w = sym (aim-gone (buffers m t s w) n r to e)
 
 -- ---- a pair joins: b tells whether it is there, h whether its set holds all of v
 module _ (alarm : ℕ) (m s : List ℕ) (n v : ℕ) {b h : Bool} (e : b ≡ marked m n) (f : h ≡ holdsAll (getD s n 0) v) where
@@ -46,7 +47,7 @@ module _ (alarm : ℕ) (m s : List ℕ) (n v : ℕ) {b h : Bool} (e : b ≡ mark
     pub held-seen : (seen : List ℕ) → getD seen (n / 64) 0 < 2 ^ 64 → (0 < getD m n 0 → Member seen n) → seen ≡ added seen n
     held-seen seen l c = sym (added-had seen n l (c (is-marked m n (sym e ∙ and-true b h q .0))))
 
-    pub held-join : (w : List ℕ) {m′ : List ℕ} → m′ ≡ set m n 1 → (t : List ℕ) → graph m′ t s w ≡ join alarm (graph m t s w) n v
+    pub held-join : (w : List ℕ) {m′ : List ℕ} → m′ ≡ set m n 1 → (t : List ℕ) → buffers m′ t s w ≡ join alarm (buffers m t s w) n v
     unfolding join waits
     held-join w a t = graph-eq a refl held-set (rw held-due)
 
@@ -66,11 +67,11 @@ pub gain-is : (s : List ℕ) (n v : ℕ) {u : ℕ} → u ≡ joined (getD s n 0)
 gain-is s n v e = ap (set s n) e
 
 module _ (alarm n v : ℕ) (m s w : List ℕ) {m′ s′ : List ℕ} {d : Bool} (e : d ≡ due alarm m s n v) (a : m′ ≡ set m n 1) (b : s′ ≡ set s n (joined (getD s n 0) v)) where
-  pub join-yes : {w′ : List ℕ} → d ≡ true → w′ ≡ set w n 1 → (t : List ℕ) → graph m′ t s′ w′ ≡ join alarm (graph m t s w) n v
+  pub join-yes : {w′ : List ℕ} → d ≡ true → w′ ≡ set w n 1 → (t : List ℕ) → buffers m′ t s′ w′ ≡ join alarm (buffers m t s w) n v
   unfolding join waits
   join-yes q c t = graph-eq a refl b (c ∙ rw (sym e ∙ q))
 
-  pub join-no : d ≡ false → (t : List ℕ) → graph m′ t s′ w ≡ join alarm (graph m t s w) n v
+  pub join-no : d ≡ false → (t : List ℕ) → buffers m′ t s′ w ≡ join alarm (buffers m t s w) n v
   unfolding join waits
   join-no q t = graph-eq a refl b (rw (sym e ∙ q))
 

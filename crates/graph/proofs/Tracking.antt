@@ -9,13 +9,15 @@ use native.Mathlib.Decide.{ℕ-discrete}
 use lib.Seq.{getD-set-same, getD-set-other}
 use Rattle.chart.specs.declared.places.NewPlace.{NewPlace}
 use Rattle.records.specs.Records.{index}
-use Rattle.words.specs.Words.{Member, Listed, added, removed, listed}
+use Rattle.words.specs.inner.Words.{Member, Listed, added, removed, listed}
 use Rattle.words.proofs.Words.{length-added, added-here, added-old, length-removed, length-listed, listed-here, listed-old, unlisted-other}
-use Rattle.graph.specs.Graphs.{Graph, Sized, Covers, Lists, Tracks, keep, aim, due, join, unwait, listedIf}
+use Rattle.graph.specs.Buffers.{Buffers, keep, aim, due, join, unwait}
+use Rattle.graph.specs.inner.Sized.{Sized}
+use Rattle.graph.specs.inner.Tracks.{Covers, Lists, Tracks, listedIf}
 use Rattle.graph.proofs.Graphs.{markAt, waitAt, targetAt, keep-mark, keep-set, keep-wait, keep-target, keep-mark-other, keep-set-other, keep-wait-other, keep-target-other, aimed, by-aim, join-not-due, join-mark-other, join-set-other, join-wait-other, join-target}
 
 -- ---- a new place becomes kept: nobody gains anything
-module _ (g : Graph) (q : NewPlace) (S : Sized g) (b : q .0 < 64) {l seen : List ℕ} (T : Tracks l seen g) where
+module _ (g : Buffers) (q : NewPlace) (S : Sized g) (b : q .0 < 64) {l seen : List ℕ} (T : Tracks l seen g) where
   -- what is 0 at pairs with this new place, and as it was at others
   had : {x x′ : ℕ} (i : ℕ) → (i % 64 ≡ q .0 → x′ ≡ 0) → ((i % 64 ≡ q .0 → ⊥) → x′ ≡ x) → 0 < x′ → 0 < x
   had i e f p = dite (ℕ-discrete (i % 64) (q .0)) (λ h. absurd (omega (arith, e h))) (λ h. omega (arith, f h))
@@ -42,7 +44,7 @@ module _ (g : Graph) (q : NewPlace) (S : Sized g) (b : q .0 < 64) {l seen : List
       }
 
 -- ---- a target is stored, if the pair has a mark: then it was seen
-module _ (g : Graph) (n r to : ℕ) (b : n < 4096) (c : r < 2) {l seen : List ℕ} (T : Tracks l seen g) where
+module _ (g : Buffers) (n r to : ℕ) (b : n < 4096) (c : r < 2) {l seen : List ℕ} (T : Tracks l seen g) where
   aimed-covers : 0 < markAt g n → Covers seen (aimed g n r to)
   aimed-covers p =
       let C = T .covers in record { long = C .long; marks = C .marks; targets = targets; sets = C .sets; waiting = C .waiting }
@@ -57,7 +59,7 @@ module _ (g : Graph) (n r to : ℕ) (b : n < 4096) (c : r < 2) {l seen : List �
   aim-tracks = by-aim g n r to (Tracks l seen) (λ p. record { lists = T .lists; covers = aimed-covers p }) (λ z. T)
 
 -- ---- a pair joins: it is seen, and in the list if it is to wait
-module _ (alarm : ℕ) (g : Graph) (n v : ℕ) (S : Sized g) (b : n < 4096) {l seen : List ℕ} (T : Tracks l seen g) where
+module _ (alarm : ℕ) (g : Buffers) (n v : ℕ) (S : Sized g) (b : n < 4096) {l seen : List ℕ} (T : Tracks l seen g) where
   join-lists : (d : Bool) → due alarm (g .marks) (g .sets) n v ≡ d → Lists (listedIf d l n) (join alarm g n v .waiting)
   unfolding listedIf
   join-lists true e = record { long = length-listed l n ∙ T .lists .long; each = each }
@@ -96,7 +98,7 @@ module _ (alarm : ℕ) (g : Graph) (n v : ℕ) (S : Sized g) (b : n < 4096) {l s
   join-tracks e f = rw (e, f) (record { lists = join-lists (due alarm (g .marks) (g .sets) n v) refl; covers = join-covers })
 
 -- ---- a pair waits no more, and leaves its word of the list
-module _ (g : Graph) (n : ℕ) (S : Sized g) (b : n < 4096) {l seen : List ℕ} (T : Tracks l seen g) where
+module _ (g : Buffers) (n : ℕ) (S : Sized g) (b : n < 4096) {l seen : List ℕ} (T : Tracks l seen g) where
   waits-still : (i : ℕ) → 0 < waitAt (unwait g n) i → (i ≡ n → ⊥) × (0 < waitAt g i)
   unfolding unwait
   waits-still i p =

@@ -1,2 +1,3 @@
 -- The four lent buffers as one value.
-pub mod Graphs
+pub mod Buffers
+pub mod inner

@@ -10,7 +10,7 @@ use lib.Seq.{getD-drop}
 use Rattle.base.specs.Walks.{count}
 use Rattle.base.proofs.Counts.{count-same, count-here, count-gap, count-few}
 use Rattle.marker.specs.declared.inner.marks.Counts.{Counts}
-use Rattle.marker.specs.Counts.{Counted}
+use Rattle.marker.specs.inner.Counts.{Counted}
 
 -- ---- the counts of the pass that covers
 -- x and y have the same open pairs

@@ -16,13 +16,14 @@ use Rattle.base.proofs.Counts.{count-set}
 use Rattle.base.proofs.Walks.{up-to}
 use Rattle.records.specs.Records.{index}
 use Rattle.sets.specs.Sets.{without}
-use Rattle.words.specs.Words.{Member, LowestFrom}
+use Rattle.words.specs.inner.Words.{Member, LowestFrom}
 use Rattle.words.proofs.Rests.{coming-next, coming-end, none-up}
 use Rattle.marker.specs.declared.inner.marks.Counts.{Counts}
-use Rattle.marker.specs.Counts.{Counted}
-use Rattle.marker.specs.Spans.{each}
-use Rattle.marker.specs.Seen.{Holds}
-use Rattle.marker.specs.Marks.{transitions, cover, covered, coverFrom, allCovered}
+use Rattle.marker.specs.inner.Counts.{Counted}
+use Rattle.marker.specs.inner.Spans.{each}
+use Rattle.marker.specs.inner.Seen.{Holds}
+use Rattle.marker.specs.Marks.{transitions, cover, covered, allCovered}
+use Rattle.marker.specs.inner.Parts.{coverFrom}
 use Rattle.marker.proofs.Marks.{cover-here, cover-not, cover-same}
 use Rattle.marker.proofs.Counts.{Ones, ones-at, ones-drop, counted-none, counted-few, counted-past, counted-open, counted-then}
 use Rattle.marker.proofs.Passes.{Going, going-start, going-more, going-end}

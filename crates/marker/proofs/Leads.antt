@@ -9,10 +9,10 @@ use borrow.Author.Tests.{ne-eqb, lt-ltb, le-ltb}
 use lib.ListN.{length, getD, set, length-set}
 use Rattle.sets.specs.Sets.{with, without}
 use Rattle.records.specs.Records.{index}
-use Rattle.words.specs.Words.{Member, LowestFrom}
-use Rattle.marker.specs.Seen.{HoldsBeyond}
-use Rattle.marker.specs.Spreads.{ledTo, ledFrom}
-use Rattle.marker.specs.Spans.{each}
+use Rattle.words.specs.inner.Words.{Member, LowestFrom}
+use Rattle.marker.specs.inner.Seen.{HoldsBeyond}
+use Rattle.marker.specs.inner.Spreads.{ledTo, ledFrom}
+use Rattle.marker.specs.inner.Spans.{each}
 use Rattle.marker.proofs.Seen.{none-past}
 use Rattle.marker.proofs.Passes.{each-past, each-then, Going, going-start, going-more, going-end}
 

@@ -16,7 +16,8 @@ use Rattle.base.specs.Walks.{firstFrom}
 use Rattle.base.proofs.Repeat.{repeated-keeps}
 use Rattle.base.proofs.Tests.{T-or, T-true, and-true}
 use Rattle.records.specs.Records.{index}
-use Rattle.marker.specs.Marks.{inQ, opening, nextOpening, opened, allOpened, Opened, none-yet, one-more, Tried, Swept}
+use Rattle.marker.specs.Marks.{inQ, opening, nextOpening, opened, allOpened}
+use Rattle.marker.specs.inner.Openings.{Opened, none-yet, one-more, Tried, Swept}
 use Rattle.marker.proofs.Marks.{opening-why, fours, open-less, left-beyond, all-rest}
 
 -- none is found where none passes

@@ -7,9 +7,9 @@ use native.Mathlib.Omega.{arith}
 use lib.ListN.{getD}
 use Rattle.base.proofs.Walks.{up-to}
 use Rattle.sets.specs.Sets.{without}
-use Rattle.words.specs.Words.{Member, LowestFrom}
+use Rattle.words.specs.inner.Words.{Member, LowestFrom}
 use Rattle.words.proofs.Rests.{Coming, coming-start, coming-next, coming-more, coming-end, none-up}
-use Rattle.marker.specs.Spans.{each}
+use Rattle.marker.specs.inner.Spans.{each}
 
 module _ (f : List ℕ → ℕ → List ℕ) (a : ℕ) where
   each-more : (x : List ℕ) {y z : List ℕ} (k : ℕ) → y ≡ each f a k x → z ≡ f y (a + k) → z ≡ each f a (k + 1) x

@@ -14,9 +14,10 @@ use Rattle.base.proofs.Counts.{count-gap, count-none}
 use Rattle.base.proofs.Stores.{Passing, passing-none, passing-all, passing-gap}
 use Rattle.records.specs.Records.{index}
 use Rattle.marker.specs.declared.inner.marks.Counts.{Counts}
-use Rattle.marker.specs.Spans.{remade}
-use Rattle.marker.specs.Seen.{Holds}
-use Rattle.marker.specs.Marks.{plainMark, plainAs, plainMarks, inQ, opening, allOpened, allCovered, finalMarks}
+use Rattle.marker.specs.inner.Spans.{remade}
+use Rattle.marker.specs.inner.Seen.{Holds}
+use Rattle.marker.specs.Marks.{plainMark, plainMarks, inQ, opening, allOpened, allCovered, finalMarks}
+use Rattle.marker.specs.inner.Parts.{plainAs}
 use Rattle.marker.proofs.Marks.{Ranks, rank-pair, rank-node, none-covered, final-ranks}
 use Rattle.marker.proofs.Spans.{passing-span}
 use Rattle.marker.proofs.Seen.{none-seen, unmarked-past}

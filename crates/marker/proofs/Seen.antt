@@ -7,10 +7,11 @@ use native.Mathlib.Omega.{arith}
 use native.Mathlib.Decide.{ℕ-discrete}
 use lib.ListN.{length, getD, set, List·getD-eq-default}
 use lib.Seq.{getD-set-same, getD-set-other}
-use Rattle.words.specs.Words.{Member, removed}
+use Rattle.words.specs.inner.Words.{Member, removed}
 use Rattle.words.proofs.Words.{length-removed, removed-other, none-in}
-use Rattle.marker.specs.Seen.{Holds, HoldsBeyond}
-use Rattle.marker.specs.Marks.{plainMarks, allOpened, Opened, Tried}
+use Rattle.marker.specs.inner.Seen.{Holds, HoldsBeyond}
+use Rattle.marker.specs.Marks.{plainMarks, allOpened}
+use Rattle.marker.specs.inner.Openings.{Opened, Tried}
 use Rattle.marker.proofs.Marks.{plain-ranks}
 use Rattle.marker.proofs.Orders.{opened-at, some-opened}
 

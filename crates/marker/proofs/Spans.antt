@@ -9,7 +9,7 @@ use borrow.Author.Tests.{lt-ltb, le-ltb}
 use lib.ListN.{length, getD, set, length-set, List·getD-eq-default}
 use Rattle.base.specs.Walks.{pass}
 use Rattle.base.proofs.Walks.{length-pass, pass-at, pass-is}
-use Rattle.marker.specs.Spans.{among, remade}
+use Rattle.marker.specs.inner.Spans.{among, remade}
 use Rattle.base.proofs.Stores.{Passing, passing-more, passing-gap}
 
 -- ---- the elements of a span made anew

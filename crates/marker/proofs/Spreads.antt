@@ -7,9 +7,10 @@ use native.Mathlib.Omega.{arith}
 use native.Mathlib.Decide.{ℕ-discrete}
 use lib.ListN.{length}
 use Rattle.sets.specs.Sets.{joined}
-use Rattle.marker.specs.Marks.{allOpened, none-yet, Tried, Swept}
-use Rattle.marker.specs.Seen.{HoldsBeyond}
-use Rattle.marker.specs.Spreads.{Spread, Passed}
+use Rattle.marker.specs.Marks.{allOpened}
+use Rattle.marker.specs.inner.Openings.{none-yet, Tried, Swept}
+use Rattle.marker.specs.inner.Seen.{HoldsBeyond}
+use Rattle.marker.specs.inner.Spreads.{Spread, Passed}
 use Rattle.marker.proofs.Marks.{fours}
 use Rattle.marker.proofs.Seen.{beyond-opened}
 use Rattle.marker.proofs.Orders.{opened-long, opened-then, opened-fours, any-order, swept-rests, Sweeping}

@@ -5,10 +5,10 @@ use Prim.Native.Nat.{ℕ, _+_, _*_, _-_, _≤_, _<_}
 use native.Mathlib.Omega.{arith}
 use lib.ListN.{length, getD}
 use Rattle.sets.specs.Sets.{without}
-use Rattle.words.specs.Words.{LowestFrom, HighestBefore}
+use Rattle.words.specs.inner.Words.{LowestFrom, HighestBefore}
 use Rattle.words.proofs.Rests.{Coming, coming-start, coming-next, coming-more, coming-end, Leaving, leaving-start, leaving-next, leaving-more, leaving-less, leaving-end, none-up, none-down}
-use Rattle.marker.specs.Marks.{Tried, Swept}
-use Rattle.marker.specs.Seen.{HoldsBeyond}
+use Rattle.marker.specs.inner.Openings.{Tried, Swept}
+use Rattle.marker.specs.inner.Seen.{HoldsBeyond}
 use Rattle.marker.proofs.Orders.{swept-none, swept-start, swept-one, swept-up, swept-down}
 use Rattle.marker.proofs.Seen.{none-past, beyond-opened}
 

@@ -9,7 +9,8 @@ use native.Mathlib.Decide.{decLt}
 use lib.ListN.{List·getD-eq-default}
 use Rattle.base.proofs.Tests.{T-true}
 use Rattle.chart.specs.Places.{keptNumber, newOf, headOf}
-use Rattle.chart.specs.Charts.{Chart, Words}
+use Rattle.chart.specs.Charts.{Chart}
+use Rattle.chart.proofs.Words.{Words}
 use Rattle.chart.specs.Faultless.{FaultlessChart}
 use Rattle.records.specs.Records.{mark, target}
 use Rattle.chart.proofs.Starts.{firstPair}

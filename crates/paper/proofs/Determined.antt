@@ -7,13 +7,15 @@ use native.Mathlib.Omega.{arith}
 use native.Mathlib.Decide.{ℕ-discrete, decLt}
 use lib.ListN.{getD}
 use lib.Seq.{ext-getD}
-use Rattle.chart.specs.Charts.{Chart, Words}
+use Rattle.chart.specs.Charts.{Chart}
+use Rattle.chart.proofs.Words.{Words}
 use Rattle.chart.specs.Faultless.{FaultlessChart}
 use Rattle.records.specs.Records.{Record, recordOf, mark, setAt, target, index}
 use Rattle.condition.specs.Builds.{recorded}
 use Rattle.paper.specs.Nodes.{SetOf, Pair, Node, aligned, edge, nodeNumber, pairOf, NodeNumbered}
 use Rattle.paper.specs.Algorithm2.{DifferenceGraph}
-use Rattle.paper.specs.Returned.{IsGraph, IsCondition, Returned, Lengths}
+use Rattle.paper.specs.Returned.{IsGraph, IsCondition, Returned}
+use Rattle.paper.proofs.Lengths.{Lengths}
 use Rattle.paper.proofs.Members.{in-or-not, number-is, numbered}
 use Rattle.paper.proofs.Searching.{nodeOf, nodeOf-numbered}
 use Rattle.paper.proofs.Rounds.{ended-read}

@@ -16,7 +16,8 @@ use Rattle.chart.specs.declared.places.NewPlace.{NewPlace}
 use Rattle.chart.specs.Places.{keptNumber, newOf}
 use Rattle.chart.specs.Charts.{Chart, size, to, operation, leaving}
 use Rattle.records.specs.Records.{index}
-use Rattle.graph.specs.Graphs.{Graph, Sized, keep, aim}
+use Rattle.graph.specs.Buffers.{Buffers, keep, aim}
+use Rattle.graph.specs.inner.Sized.{Sized}
 use Rattle.detector.specs.Turns.{leadsTo}
 use Rattle.graph.proofs.Graphs.{markAt, keep-target-other, by-aim}
 use Rattle.paper.specs.Nodes.{SetOf, _isIn_, _isNotIn_, _plus_, Pair, Node, aligned, indicator, Edge, edge, onlyPlace, onlyEdge, pairOf}
@@ -59,7 +60,7 @@ module _ (old new : Chart) where
   onto-more Δ Δ′ n r (aligned m) f o = o
   onto-more Δ Δ′ n r (indicator q) f o = (o .0, f q (o .1))
 
-  pub keep-edges : (E : SetOf Edge) (Δ : SetOf NewPlace) (g : Graph) (q : NewPlace) → Sized g → q .0 < 64 → Edges E Δ (g .targets) → Edges E (Δ plus onlyPlace q) (keep g q .targets)
+  pub keep-edges : (E : SetOf Edge) (Δ : SetOf NewPlace) (g : Buffers) (q : NewPlace) → Sized g → q .0 < 64 → Edges E Δ (g .targets) → Edges E (Δ plus onlyPlace q) (keep g q .targets)
   unfolding onlyPlace
   keep-edges E Δ g q S l A =
       record {
@@ -72,7 +73,7 @@ module _ (old new : Chart) where
       away i f = let z = or-false (Δ (newOf i)) (eqb (q .0) (i % 64)) f in (z .0, λ h. eqb-false (q .0) (i % 64) (z .1) (sym h))
 
   -- ---- a target is stored, with an edge from the pair in hand, which is in the graph unless its place is kept
-  module _ (E : SetOf Edge) (Δ : SetOf NewPlace) (g : Graph) (n r t : ℕ) (x : Node) (S : Sized g) (l : n < 4096) (c : r < 2)
+  module _ (E : SetOf Edge) (Δ : SetOf NewPlace) (g : Buffers) (n r t : ℕ) (x : Node) (S : Sized g) (l : n < 4096) (c : r < 2)
       (there : newOf n isNotIn Δ → 0 < markAt g n) (fits : Sound Δ (edge (pairOf n) r x)) (used : t ≡ 65535 → ⊥) where
     abbrev more : SetOf Edge
     more = E plus onlyEdge (edge (pairOf n) r x)

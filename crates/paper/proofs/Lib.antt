@@ -14,5 +14,6 @@ pub mod Searching
 pub mod Returning
 pub mod Conditions
 pub mod Alone
+pub mod Lengths
 pub mod Theorem
 pub mod Determined

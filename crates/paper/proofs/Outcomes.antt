@@ -12,7 +12,8 @@ use Rattle.operations.specs.declared.Operation.{Operation}
 use Rattle.operations.specs.Assumptions.{Operands}
 use Rattle.operations.specs.Operations.{isAssignment, same}
 use Rattle.chart.specs.declared.places.OldPlace.{OldPlace}
-use Rattle.chart.specs.Charts.{Chart, operation, Words}
+use Rattle.chart.specs.Charts.{Chart, operation}
+use Rattle.chart.proofs.Words.{Words}
 use Rattle.chart.specs.Faultless.{FaultlessChart}
 use Rattle.align.specs.declared.spots.Spot.{Spot}
 use Rattle.sets.specs.Sets.{alone, with, without, meets}

@@ -16,7 +16,8 @@ use Rattle.chart.specs.declared.places.NewPlace.{NewPlace}
 use Rattle.chart.specs.Places.{keptNumber, newOf}
 use Rattle.chart.specs.Charts.{Chart}
 use Rattle.sets.specs.Sets.{joined}
-use Rattle.graph.specs.Graphs.{Graph, Sized, marked, keep, due, join, unwait}
+use Rattle.graph.specs.Buffers.{Buffers, marked, keep, due, join, unwait}
+use Rattle.graph.specs.inner.Sized.{Sized}
 use Rattle.graph.proofs.Graphs.{setAt, marked-yes, marked-no, marked-same, keep-node, keep-nodes, keep-mark, keep-wait, keep-mark-other, keep-set-other, keep-wait-other, join-mark, join-set, join-due, join-not-due, join-mark-other, join-set-other, join-wait-other}
 use Rattle.paper.specs.Nodes.{SetOf, _isIn_, _isNotIn_, _plus_, Pair, onlyPlace, onlyPair, withPlace, pairOf, Numbered}
 use Rattle.paper.specs.Algorithm2.{State, toPlace, line29, toPair, popped}
@@ -25,7 +26,7 @@ use Rattle.paper.proofs.Members.{in-either, only-pair, numbered, same-p
 -- ---- waitlist, N_l, Δ and V_δ
 -- the buffers clear the sets of pairs that leave the graph, and V_δ does not: they are the same where the new place is
 -- not kept
-pub record Sets (s : State) (g : Graph) : Type 0 where
+pub record Sets (s : State) (g : Buffers) : Type 0 where
   pub N : (i : ℕ) → i < 4096 → s .Nₗ (pairOf i) ≡ marked (g .marks) i
   pub N-numbered : (n : Pair) → n isIn s .Nₗ → Numbered n
   pub Δ : (q : NewPlace) → q .0 < 64 → s .Δ q ≡ marked (g .marks) (keptNumber q)
@@ -36,7 +37,7 @@ pub record Sets (s : State) (g : Graph) : Type 0 where
 
 module _ (old new : Chart) where
   -- ---- a new place becomes kept
-  module _ (s : State) (g : Graph) (pred : Pair) (r : ℕ) (q : NewPlace) (S : Sized g) (l : q .0 < 64) (R : Sets s g) where
+  module _ (s : State) (g : Buffers) (pred : Pair) (r : ℕ) (q : NewPlace) (S : Sized g) (l : q .0 < 64) (R : Sets s g) where
     leaves : (m m′ : List ℕ) (i : ℕ) (b : Bool) → (i % 64 ≡ q .0 → getD m′ i 0 ≡ 0) → ((i % 64 ≡ q .0 → ⊥) → getD m′ i 0 ≡ getD m i 0)
         → b ≡ marked m i → b && not (eqb (q .0) (i % 64)) ≡ marked m′ i
     leaves m m′ i b here other e =
@@ -68,7 +69,7 @@ module _ (old new : Chart) where
         }
 
   -- ---- the place of the successor is kept already
-  pub kept-sets : (s : State) (g : Graph) (pred : Pair) (r : ℕ) (succ : Pair) (v : ℕ) → succ .new isIn s .Δ → Sets s g → Sets (toPair old new s pred r succ v) g
+  pub kept-sets : (s : State) (g : Buffers) (pred : Pair) (r : ℕ) (succ : Pair) (v : ℕ) → succ .new isIn s .Δ → Sets s g → Sets (toPair old new s pred r succ v) g
   unfolding toPair line29
   kept-sets s g pred r succ v k R =
       record {
@@ -82,7 +83,7 @@ module _ (old new : Chart) where
       }
 
   -- ---- pair t joins
-  module _ (s : State) (g : Graph) (pred : Pair) (r t v : ℕ) (S : Sized g) (l : t < 4096) (free : newOf t isNotIn s .Δ) (R : Sets s g) where
+  module _ (s : State) (g : Buffers) (pred : Pair) (r t v : ℕ) (S : Sized g) (l : t < 4096) (free : newOf t isNotIn s .Δ) (R : Sets s g) where
     due-same : line29 old new s (pairOf t) v ≡ due (old .alarm) (g .marks) (g .sets) t v
     unfolding line29 due
     due-same = rw (free, R .N t l, R .Vδ t l free)
@@ -96,7 +97,7 @@ module _ (old new : Chart) where
     joins-numbered : (b : Bool) (n : Pair) → (b ≡ true → Numbered n) → b || onlyPair (pairOf t) n ≡ true → Numbered n
     joins-numbered b n f e = ⊎-elim f (λ h. subst Numbered (only-pair (pairOf t) n h) (numbered t l)) (in-either b _ e)
 
-    abbrev after : Graph
+    abbrev after : Buffers
     after = join (old .alarm) g t v
 
     waits-now : (d : Bool) → due (old .alarm) (g .marks) (g .sets) t v ≡ d → (i : ℕ) → i < 4096
@@ -133,7 +134,7 @@ module _ (old new : Chart) where
         }
 
   -- ---- a pair is popped
-  pub pop-sets : (s : State) (g : Graph) (n : ℕ) → Sized g → n < 4096 → Sets s g → Sets (popped s (pairOf n)) (unwait g n)
+  pub pop-sets : (s : State) (g : Buffers) (n : ℕ) → Sized g → n < 4096 → Sets s g → Sets (popped s (pairOf n)) (unwait g n)
   unfolding popped unwait
   pop-sets s g n S l R =
       record {

@@ -14,11 +14,12 @@ use Rattle.base.proofs.Tests.{T-true, or-false}
 use Rattle.chart.specs.declared.places.NewPlace.{NewPlace}
 use Rattle.chart.specs.declared.places.OldPlace.{OldPlace}
 use Rattle.chart.specs.Places.{keptNumber, newOf, headOf}
-use Rattle.chart.specs.Charts.{Chart, size, Words}
+use Rattle.chart.specs.Charts.{Chart, size}
+use Rattle.chart.proofs.Words.{Words}
 use Rattle.chart.specs.Faultless.{FaultlessChart}
 use Rattle.align.proofs.Parts.{two-at-most}
 use Rattle.records.specs.Records.{Record, recordOf, mark, target, index}
-use Rattle.graph.specs.Graphs.{marked}
+use Rattle.graph.specs.Buffers.{marked}
 use Rattle.chart.proofs.Starts.{firstPair, firstKept}
 use Rattle.detector.specs.Turns.{rowsOf, leadsTo, explored}
 use Rattle.condition.specs.Builds.{redirected, finalTargets, alone}

@@ -15,12 +15,13 @@ use Rattle.base.proofs.Tests.{T-true}
 use Rattle.base.proofs.Repeat.{Going, repeated-keeps, again-by, done-by}
 use Rattle.base.proofs.Walks.{zeros-at, same-at, first-is}
 use Rattle.chart.specs.Places.{keptNumber, oldOf, newOf}
-use Rattle.chart.specs.Charts.{Chart, size, operation, Words}
+use Rattle.chart.specs.Charts.{Chart, size, operation}
+use Rattle.chart.proofs.Words.{Words}
 use Rattle.chart.specs.Faultless.{FaultlessChart}
 use Rattle.align.specs.declared.spots.Spot.{Spot}
 use Rattle.align.proofs.Parts.{two-at-most}
 use Rattle.records.specs.Records.{index}
-use Rattle.graph.specs.Graphs.{Graph, marked, unwait}
+use Rattle.graph.specs.Buffers.{Buffers, marked, unwait}
 use Rattle.detector.specs.Turns.{rowsOf, next, lowest, setNow, begun, rowDone, secondDone, taken, explored}
 use Rattle.graph.proofs.Graphs.{markAt, setAt, Shaped, marked-yes, marked-no, is-marked, unwait-shaped}
 use Rattle.detector.proofs.Turns.{Waiter, set-now, set-had, set-now-small, next-waits, none-waits}
@@ -52,7 +53,7 @@ module _ (old new : Chart) (F : FaultlessChart old) (G : FaultlessChart new) whe
   by-last (one-more {k} {t} o f L) = record { before = t; spot = o; loop = f; lines = L; is = refl }
 
   -- ---- a round
-  module _ (wo : Words (old .table)) (wn : Words (new .table)) (s : State) (g : Graph) (n : ℕ) (l : n < 4096) (S : Shaped g) (R : Reads old new s g) (H : InHand (unwait g n) n) (free : newOf n isNotIn s .Δ) where
+  module _ (wo : Words (old .table)) (wn : Words (new .table)) (s : State) (g : Buffers) (n : ℕ) (l : n < 4096) (S : Shaped g) (R : Reads old new s g) (H : InHand (unwait g n) n) (free : newOf n isNotIn s .Δ) where
     v : ℕ
     v = setAt g n
 
@@ -68,17 +69,17 @@ module _ (old new : Chart) (F : FaultlessChart old) (G : FaultlessChart new) whe
           held = λ z. R .sets .Vδ n l free;
         }
 
-    first : Graph
+    first : Buffers
     first = rowDone old new (unwait g n) n v 0
 
     -- the set of the pair in hand, as the next row finds it
-    own : (f : State) (h : Graph) → Row old new n v f h → f .Vδ (pairOf n) ≡ setNow (h .marks) (h .sets) n v
+    own : (f : State) (h : Buffers) → Row old new n v f h → f .Vδ (pairOf n) ≡ setNow (h .marks) (h .sets) n v
     own f h Z =
         dite (ℕ-discrete (markAt h n) 0) (λ e. Z .held e ∙ sym (set-had h n v e))
         (λ e. Z .reads .sets .Vδ n l (Z .reads .sets .Δ (newOf n) (omega arith) ∙ marked-no (h .marks) (keptNumber (newOf n)) (Z .hand .free (omega arith)))
         ∙ sym (set-now h n v (omega arith)))
 
-    no-row : (h : Graph) (u r : ℕ) → size (rowsOf new n) ≤ r → rowDone old new h n u r ≡ h
+    no-row : (h : Buffers) (u r : ℕ) → size (rowsOf new n) ≤ r → rowDone old new h n u r ≡ h
     unfolding rowDone
     no-row h u r b = rw (le-ltb r (size (rowsOf new n)) b, rowDone)
 
@@ -124,9 +125,9 @@ module _ (old new : Chart) (F : FaultlessChart old) (G : FaultlessChart new) whe
     reads-after : (k : ℕ) → size (rowsOf new n) ≡ k → (t : State) → ForEach old new (Lines5to18 old) s₀ (pairOf n) k t → Reads old new t (rowDone old new first n v₁ 1)
     unfolding first v v₁
     reads-after zero e t f =
-        subst (λ (h : Graph). Reads old new t h) (sym (no-row first v₁ 1 (omega arith) ∙ no-row (unwait g n) v 0 (omega arith)))
+        subst (λ (h : Buffers). Reads old new t h) (sym (no-row first v₁ 1 (omega arith) ∙ no-row (unwait g n) v 0 (omega arith)))
         (subst (λ (x : State). Reads old new x (unwait g n)) (sym (by-last f)) (start .reads))
-    reads-after (suc zero) e t f = subst (λ (h : Graph). Reads old new t h) (sym (no-row first v₁ 1 (omega arith))) (after-one (omega arith) t f .reads)
+    reads-after (suc zero) e t f = subst (λ (h : Buffers). Reads old new t h) (sym (no-row first v₁ 1 (omega arith))) (after-one (omega arith) t f .reads)
     reads-after (suc (suc zero)) e t f = after-two (omega arith) (omega arith) t f
     reads-after (suc (suc (suc k))) e t f = absurd (omega (arith, two-at-most new G (wn .small) (n % 64)))
 
@@ -161,14 +162,14 @@ module _ (old new : Chart) (F : FaultlessChart old) (G : FaultlessChart new) whe
     round = loops (size (rowsOf new n)) refl
 
   -- ---- the run
-  pub record Ran (g : Graph) : Type 0 where
+  pub record Ran (g : Buffers) : Type 0 where
     pub state : State
     pub run : Run old new (Lines5to18 old) Lowest state
     pub reads : Reads old new state g
     pub inv : Inv old new Every g
 
   -- the pair that a turn takes is the lowest of the waitlist
-  pops-lowest : (s : State) (g : Graph) (n : ℕ) → Reads old new s g → length (g .waiting) ≡ 4096 → next g ≡ some n → Lowest s (pairOf n)
+  pops-lowest : (s : State) (g : Buffers) (n : ℕ) → Reads old new s g → length (g .waiting) ≡ 4096 → next g ≡ some n → Lowest s (pairOf n)
   unfolding next lowest
   pops-lowest s g n R z e m w =
       let f = first-is (λ i x. not (eqb x 0)) (g .waiting) n e in
@@ -180,7 +181,7 @@ module _ (old new : Chart) (F : FaultlessChart old) (G : FaultlessChart new) whe
       (λ l. omega arith)
 
   -- the pair that a turn takes, in hand
-  module _ (s : State) (g : Graph) (n : ℕ) (R : Reads old new s g) (I : Inv old new Every g) (e : next g ≡ some n) where
+  module _ (s : State) (g : Buffers) (n : ℕ) (R : Reads old new s g) (I : Inv old new Every g) (e : next g ≡ some n) where
     waiter : Waiter g n
     waiter = next-waits g n e
 
@@ -202,7 +203,7 @@ module _ (old new : Chart) (F : FaultlessChart old) (G : FaultlessChart new) whe
     taken-waits : pairOf n isIn s .waitlist
     taken-waits = R .sets .waits n below ∙ marked-yes (g .waiting) n (waiter .waits)
 
-  turn-ran : Words (old .table) → Words (new .table) → (g : Graph) (n : ℕ) → Ran g → next g ≡ some n → Ran (taken old new g n)
+  turn-ran : Words (old .table) → Words (new .table) → (g : Buffers) (n : ℕ) → Ran g → next g ≡ some n → Ran (taken old new g n)
   turn-ran wo wn g n A e =
       let s = A .state in
       let R = A .reads in
@@ -251,13 +252,13 @@ module _ (old new : Chart) (F : FaultlessChart old) (G : FaultlessChart new) whe
 
   -- ---- any run: the build, after some of its turns, reads what it has come to
   record Come (s : State) : Type 0 where
-    graph : Graph
+    graph : Buffers
     reads : Reads old new s graph
     inv : Inv old new Every graph
     going : Going next (taken old new) weight Shaped (explored old new) graph
 
   -- the lowest waiting pair is the one that the turn takes
-  takes-it : (s : State) (g : Graph) (i : ℕ) → Reads old new s g → Inv old new Every g → i < 4096 → pairOf i isIn s .waitlist → Lowest s (pairOf i) → next g ≡ some i
+  takes-it : (s : State) (g : Buffers) (i : ℕ) → Reads old new s g → Inv old new Every g → i < 4096 → pairOf i isIn s .waitlist → Lowest s (pairOf i) → next g ≡ some i
   takes-it s g i R I l w c = go (next g) refl
     where
       go : (x : Option ℕ) → next g ≡ x → next g ≡ some i
@@ -306,7 +307,7 @@ module _ (old new : Chart) (F : FaultlessChart old) (G : FaultlessChart new) whe
   ended-read wo wn {s} r d = go (come wo wn r)
     where
       go : Come s → Reads old new s (explored old new)
-      go A = subst (λ (h : Graph). Reads old new s h) (done-by next (taken old new) weight Shaped (turns old new F G) (A .going) (rests (next (A .graph)) refl)) (A .reads)
+      go A = subst (λ (h : Buffers). Reads old new s h) (done-by next (taken old new) weight Shaped (turns old new F G) (A .going) (rests (next (A .graph)) refl)) (A .reads)
         where
           rests : (x : Option ℕ) → next (A .graph) ≡ x → next (A .graph) ≡ none
           rests none e = e

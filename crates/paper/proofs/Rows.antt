@@ -15,13 +15,14 @@ use Rattle.base.proofs.OnSome.{on-at}
 use Rattle.operations.specs.Assumptions.{Operands}
 use Rattle.chart.specs.declared.places.NewPlace.{NewPlace}
 use Rattle.chart.specs.Places.{pairNumber, keptNumber, oldOf, newOf}
-use Rattle.chart.specs.Charts.{Chart, size, operation, Words}
+use Rattle.chart.specs.Charts.{Chart, size, operation}
+use Rattle.chart.proofs.Words.{Words}
 use Rattle.chart.specs.Faultless.{FaultlessChart}
 use Rattle.align.specs.declared.spots.Spot.{Spot}
 use Rattle.align.specs.Steps.{moved, arrived, step}
 use Rattle.chart.proofs.Conflicts.{operands}
 use Rattle.align.proofs.Parts.{row-of, row-same}
-use Rattle.graph.specs.Graphs.{Graph, marked, keep, aim, join, unwait}
+use Rattle.graph.specs.Buffers.{Buffers, marked, keep, aim, join, unwait}
 use Rattle.detector.specs.Turns.{rowsOf, leadsTo, stepOf, processed, rowDone}
 use Rattle.detector.specs.Turns as turns
 use Rattle.detector.proofs.Steps.{Fits}
@@ -38,7 +39,7 @@ use Rattle.paper.proofs.Reading.{Sets, keep-sets, kept-sets, join-sets}
 use Rattle.paper.proofs.Edges.{Sound, Edges, keep-edges, aim-edges, added}
 
 -- a store of a target changes nothing else
-module _ (g : Graph) (n r t : ℕ) where
+module _ (g : Buffers) (n r t : ℕ) where
   aim-sets : (s : State) → Sets s g → Sets s (aim g n r t)
   aim-sets s R = by-aim g n r t (Sets s) (λ p. record { N = R .N; N-numbered = R .N-numbered; Δ = R .Δ; Δ-numbered = R .Δ-numbered; waits = R .waits; waits-numbered = R .waits-numbered; Vδ = R .Vδ }) (λ z. R)
 
@@ -83,27 +84,27 @@ module _ (old new : Chart) (s : State) (n r : ℕ) where
 
 -- ---- one edge
 module _ (old new : Chart) where
-  pub record Reads (s : State) (g : Graph) : Type 0 where
+  pub record Reads (s : State) (g : Buffers) : Type 0 where
     pub sets : Sets s g
     pub edges : Edges old new (s .Eₗ) (s .Δ) (g .targets)
 
 -- the pair in hand is in the graph unless its place is kept
-pub record InHand (g : Graph) (n : ℕ) : Type 0 where
+pub record InHand (g : Buffers) (n : ℕ) : Type 0 where
   pub there : markAt g (keptNumber (newOf n)) ≡ 0 → 0 < markAt g n
   pub free : 0 < markAt g n → markAt g (keptNumber (newOf n)) ≡ 0
 
 -- what holds after an edge of the pair n, taken under the set v: "under the set it had, even if it left the graph"
-pub record Row (old new : Chart) (n v : ℕ) (s : State) (g : Graph) : Type 0 where
+pub record Row (old new : Chart) (n v : ℕ) (s : State) (g : Buffers) : Type 0 where
   pub reads : Reads old new s g
   pub hand : InHand g n
   pub held : markAt g n ≡ 0 → s .Vδ (pairOf n) ≡ v
 
-pub unwait-hand : (g : Graph) (n : ℕ) → InHand g n → InHand (unwait g n) n
+pub unwait-hand : (g : Buffers) (n : ℕ) → InHand g n → InHand (unwait g n) n
 unfolding unwait
 unwait-hand g n J = record { there = J .there; free = J .free }
 
 module _ (old new : Chart) (F : FaultlessChart old) (G : FaultlessChart new) where
-  module _ (s : State) (g : Graph) (n v r : ℕ) (l : n < 4096) (w : v < 2 ^ 64) (c : r < 2) (a : r < size (rowsOf new n)) (S : Shaped g) (R : Reads old new s g) (H : InHand g n) (own : s .Vδ (pairOf n) ≡ v) where
+  module _ (s : State) (g : Buffers) (n v r : ℕ) (l : n < 4096) (w : v < 2 ^ 64) (c : r < 2) (a : r < size (rowsOf new n)) (S : Shaped g) (R : Reads old new s g) (H : InHand g n) (own : s .Vδ (pairOf n) ≡ v) where
     q-below : leadsTo new n r .0 < 64
     q-below = omega (arith, leads-below old new F G n v r a, G .few-places)
 
@@ -125,7 +126,7 @@ module _ (old new : Chart) (F : FaultlessChart old) (G : FaultlessChart new) whe
         others : (n % 64 ≡ leadsTo new n r .0 → ⊥) → markAt (keep g (leadsTo new n r)) (keptNumber (newOf n)) ≡ markAt g (keptNumber (newOf n))
         others z = keep-nodes g (leadsTo new n r) (S .sized) q-below (keptNumber (newOf n)) (omega arith) (omega arith) (λ h. z (omega arith))
 
-    hand-aim : (f : Graph) (t : ℕ) → InHand f n → InHand (aim f n r t) n
+    hand-aim : (f : Buffers) (t : ℕ) → InHand f n → InHand (aim f n r t) n
     hand-aim f t J = by-aim f n r t (λ h. InHand h n) (λ p. record { there = J .there; free = J .free }) (λ z. J)
 
     fails-row : Row old new n v (toPlace s (pairOf n) r (leadsTo new n r)) (aim (keep g (leadsTo new n r)) n r (keptNumber (leadsTo new n r)))
@@ -193,7 +194,7 @@ module _ (old new : Chart) (F : FaultlessChart old) (G : FaultlessChart new) whe
         free : newOf t isNotIn s .Δ
         free = ap (s .Δ) new-place ∙ f
 
-        abbrev j : Graph
+        abbrev j : Buffers
         j = join (old .alarm) g t (h .set)
 
         hand-joined : InHand j n
@@ -236,7 +237,7 @@ module _ (old new : Chart) (F : FaultlessChart old) (G : FaultlessChart new) whe
 
     some-row : (h : Spot) → (cameTo old new n v r) ≡ some h → Fits 64 h → (k : Bool) → marked (g .marks) (keptNumber (leadsTo new n r)) ≡ k
         → Row old new n v (toPair old new s (pairOf n) r (pair (h .place) (leadsTo new n r)) (h .set))
-        (elim k as (λ _. Graph) [
+        (elim k as (λ _. Buffers) [
           | true ↦ aim g n r (keptNumber (leadsTo new n r))
           | false ↦ aim (join (old .alarm) g (pairNumber (h .place) (leadsTo new n r)) (h .set)) n r (pairNumber (h .place) (leadsTo new n r))
         ])
@@ -262,7 +263,7 @@ module _ (old new : Chart) (F : FaultlessChart old) (G : FaultlessChart new) whe
         (some-row h (z .0) T (marked (g .marks) (keptNumber (leadsTo new n r))) refl)
 
     row-read : Row old new n v (called old new s (pairOf n) r (cameTo old new n v r)) (rowDone old new g n v r)
-    row-read = subst (λ (f : Graph). Row old new n v (called old new s (pairOf n) r (cameTo old new n v r)) f) (sym row-done) (edge-done (stepOf old new n v r) refl)
+    row-read = subst (λ (f : Buffers). Row old new n v (called old new s (pairOf n) r (cameTo old new n v r)) f) (sym row-done) (edge-done (stepOf old new n v r) refl)
 
     module _ (wo : Words (old .table)) (wn : Words (new .table)) where
       fits : Operands (operation (rowsOf new n) r)

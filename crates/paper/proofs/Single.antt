@@ -16,7 +16,8 @@ use Rattle.operations.specs.declared.Operation.{Operation}
 use Rattle.operations.specs.Assumptions.{NeverHolds, Implies, Meets}
 use Rattle.operations.specs.Operations.{isAssignment}
 use Rattle.chart.specs.declared.places.OldPlace.{OldPlace}
-use Rattle.chart.specs.Charts.{Chart, operation, Words}
+use Rattle.chart.specs.Charts.{Chart, operation}
+use Rattle.chart.proofs.Words.{Words}
 use Rattle.chart.specs.Charts as charts
 use Rattle.chart.specs.Conflicts.{Opposite}
 use Rattle.chart.specs.Faultless.{FaultlessChart}

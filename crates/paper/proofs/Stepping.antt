@@ -26,7 +26,8 @@ use Rattle.operations.specs.Operations.{kind, byKind, isKnown, isAssignment, is
 use Rattle.operations.specs.Trials.{implication}
 use Rattle.operations.proofs.Exact.{implication-means}
 use Rattle.chart.specs.declared.places.OldPlace.{OldPlace}
-use Rattle.chart.specs.Charts.{Chart, size, from, to, operation, Words}
+use Rattle.chart.specs.Charts.{Chart, size, from, to, operation}
+use Rattle.chart.proofs.Words.{Words}
 use Rattle.chart.specs.Faultless.{FaultlessChart}
 use Rattle.align.specs.declared.spots.Spot.{Spot}
 use Rattle.sets.specs.Sets.{bit, alone, joined, with, without, meets}

@@ -10,11 +10,12 @@ use Prim.Native.Nat.{ℕ}
 use native.Mathlib.Omega.{arith}
 use lib.Dec.{eqb}
 use lib.ListN.{length-map}
-use Rattle.chart.specs.Charts.{Chart, Words}
+use Rattle.chart.specs.Charts.{Chart}
+use Rattle.chart.proofs.Words.{Words}
 use Rattle.chart.specs.Faultless.{FaultlessChart}
 use Rattle.records.specs.Records.{Record, recordOf}
 use Rattle.chart.specs.Places.{headOf}
-use Rattle.graph.specs.Graphs.{Graph, graph, marked}
+use Rattle.graph.specs.Buffers.{Buffers, buffers, marked}
 use Rattle.chart.proofs.Starts.{firstPair, firstKept}
 use Rattle.detector.specs.Turns.{explored}
 use Rattle.marker.specs.Marks.{finalMarks}
@@ -27,7 +28,8 @@ use Rattle.condition.proofs.Left.{final}
 use Rattle.paper.specs.Nodes.{SetOf, _isNotIn_, Pair, Node, edge, number, NodeNumbered}
 use Rattle.paper.specs.Algorithm2.{State, DifferenceGraph, Ended, line19, lone, whole, returned}
 use Rattle.paper.specs.Algorithm1.{Search}
-use Rattle.paper.specs.Returned.{IsGraph, IsCondition, Returned, Lengths}
+use Rattle.paper.specs.Returned.{IsGraph, IsCondition, Returned}
+use Rattle.paper.proofs.Lengths.{Lengths}
 use Rattle.paper.proofs.Members.{in-or-not, pair-is, number-below, numbered}
 use Rattle.paper.proofs.Searching.{Found, search-ends, nodeOf, node-is}
 use Rattle.paper.proofs.Rows.{Reads}
@@ -70,12 +72,12 @@ module _ (old new : Chart) (F : FaultlessChart old) (H : FaultlessChart new) (wn
       go false false b = refl
 
   -- what the build leaves
-  left : Bool → Graph
+  left : Bool → Buffers
   left b =
       elim b [
         | true ↦ builds.lone (headOf new)
         | false ↦
-            graph (finalMarks (firstPair old new) (finalTargets (explored old new)) (explored old new .marks)) (finalTargets (explored old new))
+            buffers (finalMarks (firstPair old new) (finalTargets (explored old new)) (explored old new .marks)) (finalTargets (explored old new))
             (explored old new .sets) (explored old new .waiting)
       ]
 

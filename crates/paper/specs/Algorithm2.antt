@@ -17,7 +17,7 @@ use Rattle.sets.specs.Sets.{joined, holdsAll}
 use Rattle.paper.specs.Nodes.{SetOf, _isIn_, _isNotIn_, emptySet, _plus_, _minus_, Pair, pair, Node, aligned, indicator, Edge, edge, onlyPlace, onlyPair, onlyEdge, onlyNode, withPlace, number}
 
 -- the variables of line 1. V_δ gives each pair a set of variables, as a number whose bit i tells of vi
--- (align/specs/Sets.antt)
+-- (sets/specs/Sets.antt)
 pub record State : Type 0 where
   pub waitlist : SetOf Pair
   pub Nₗ : SetOf Pair

@@ -4,7 +4,6 @@
 use mathlib.Core.Path.{_≡_}
 use mathlib.Core.Logic.{_⊎_, _≢_, _↔_}
 use Prim.Native.Nat.{ℕ, _≤_, _<_}
-use lib.ListN.{length}
 use Rattle.chart.specs.Charts.{Chart}
 use Rattle.records.specs.Records.{Record, mark, setAt, target}
 use Rattle.paper.specs.Nodes.{SetOf, _isIn_, _isNotIn_, Pair, Node, aligned, Edge, edge, number, nodeNumber, pairOf, Numbered, NodeNumbered}
@@ -66,10 +65,3 @@ pub record Returned (old new : Chart) (R : Record) : Type 0 where
   pub emptied : (n : Node) → n isNotIn waitlist
   pub condition : {Q W : SetOf Node} → Search (returned old new state) Q W → ((n : Node) → n isNotIn W)
       → IsCondition R (returned old new state) Q
-
--- "Lent: marks (4,160 bytes), targets (8,192 u16 [..]), sets (4,096 u64 [..])". `Returned` does not ask for it: it is what
--- the theorem of proofs/Determined.antt supposes of a record
-pub record Lengths (R : Record) : Type 0 where
-  pub marks : length (R .graph .marks) ≡ 4160
-  pub targets : length (R .graph .targets) ≡ 8192
-  pub sets : length (R .graph .sets) ≡ 4096

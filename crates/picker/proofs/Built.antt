@@ -30,7 +30,7 @@ use Rattle.checker.proofs.Passed.{passed}
 use Rattle.condition.specs.declared.Summary.{Summary}
 use Rattle.builder.specs.declared.answers.Built.{Built}
 use Rattle.builder.specs.declared.answers.Built.the-variants as builts
-use Rattle.graph.specs.Graphs.{Graph}
+use Rattle.graph.specs.Buffers.{Buffers}
 use Rattle.condition.specs.Builds.{recorded, summary}
 use Rattle.builder.proofs.Passing.{record-passes}
 use Rattle.paper.specs.Returned.{Returned}
@@ -75,7 +75,7 @@ recorded-few old new e =
       covered = omega (arith, count-most 3 m);
     }
 
-module _ (old new : Chart) (g : Graph) where
+module _ (old new : Chart) (g : Buffers) where
   due-is-small : OnSome Small (refusal old new g)
   unfolding refusal
   due-is-small =

@@ -12,7 +12,7 @@ ghost use Rattle.text.specs.Written.{writing, printed};
 ghost use Rattle.records.specs.Records.{recordOf};
 ghost use Rattle.checker.specs.Checks.{refusal};
 ghost use Rattle.checker.specs.Promise.{Promise};
-ghost use Rattle.graph.specs.Graphs.{graph};
+ghost use Rattle.graph.specs.Buffers.{buffers};
 ghost use Rattle.paper.specs.Returned.{Returned};
 ghost use Rattle.builder.specs.Answers.{answered, left};
 ghost use Rattle.picker.specs.Lookups.{lookedUp, handed, ofRows};
@@ -151,9 +151,9 @@ pub extern "C" fn picker_build<'a>(
     sets: &mut [u64],
     waiting: &mut [u8],
 ) -> u64
-    ensures answer { λ r. ⌜ r ≡ number (mapped ofBuild (answered (chartOf «old_places» «old_alarm» (now («old_rows» .entry))) (chartOf «new_places» «new_alarm» (now («new_rows» .entry))) (graph (now (marks .entry)) (now (targets .entry)) (now (sets .entry)) (now (waiting .entry))))) ⌝ }
-    ensures leaves { λ _. ⌜ graph (now (marks .exit)) (now (targets .exit)) (now (sets .exit)) (now (waiting .exit))
-        ≡ left (chartOf «old_places» «old_alarm» (now («old_rows» .entry))) (chartOf «new_places» «new_alarm» (now («new_rows» .entry))) (graph (now (marks .entry)) (now (targets .entry)) (now (sets .entry)) (now (waiting .entry))) ⌝ }
+    ensures answer { λ r. ⌜ r ≡ number (mapped ofBuild (answered (chartOf «old_places» «old_alarm» (now («old_rows» .entry))) (chartOf «new_places» «new_alarm» (now («new_rows» .entry))) (buffers (now (marks .entry)) (now (targets .entry)) (now (sets .entry)) (now (waiting .entry))))) ⌝ }
+    ensures leaves { λ _. ⌜ buffers (now (marks .exit)) (now (targets .exit)) (now (sets .exit)) (now (waiting .exit))
+        ≡ left (chartOf «old_places» «old_alarm» (now («old_rows» .entry))) (chartOf «new_places» «new_alarm» (now («new_rows» .entry))) (buffers (now (marks .entry)) (now (targets .entry)) (now (sets .entry)) (now (waiting .entry))) ⌝ }
     ensures passes { λ r. ⌜ (r < 2 ^ 56
         → refusal (chartOf «old_places» «old_alarm» (now («old_rows» .entry))) (chartOf «new_places» «new_alarm» (now («new_rows» .entry))) (recordOf (r % 2 ^ 14) (now (marks .exit)) (now (targets .exit)) (now (sets .exit))) ≡ none) ⌝ }
     ensures algorithms { λ r. ⌜ (r < 2 ^ 56

@@ -1,5 +1,5 @@
--- Records ("The builder", "The checker"). A record is the source's difference graph with the marks of its Algorithm 1: pairs
--- are the aligned pairs of N, kept nodes the regression bug indicators of Δ, sets V_δ, targets the edges.
+-- Records ("The builder", "The checker"). A record is the source's difference graph with the marks of its Algorithm 1:
+-- pairs are the aligned pairs of N, kept nodes the regression bug indicators of Δ, sets V_δ, targets the edges.
 use mathlib.Core.List.{List}
 use Prim.Native.Nat.{ℕ, _+_, _*_}
 use lib.ListN.{getD}
@@ -16,10 +16,11 @@ pub record Record : Type 0 where
   pub start : ℕ
   pub graph : Graph
 
--- a graph and a record as the code has them, in lent slices
+-- a graph as the code has it, in lent slices
 abbrev pub graphOf : List ℕ → List ℕ → List ℕ → Graph
 graphOf marks targets sets = record { marks = marks; targets = targets; sets = sets }
 
+-- a record as the code has it
 abbrev pub recordOf : ℕ → List ℕ → List ℕ → List ℕ → Record
 recordOf start marks targets sets = record { start = start; graph = graphOf marks targets sets }
 

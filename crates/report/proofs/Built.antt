@@ -24,7 +24,7 @@ use Rattle.chart.specs.Places.{headOf, startPair, startKept}
 use Rattle.condition.specs.declared.Summary.{Summary}
 use Rattle.builder.specs.declared.answers.Built.{Built}
 use Rattle.builder.specs.declared.answers.Built.the-variants as builts
-use Rattle.graph.specs.Graphs.{Graph, graph}
+use Rattle.graph.specs.Buffers.{Buffers, buffers}
 use Rattle.detector.specs.Turns.{explored}
 use Rattle.condition.specs.Builds.{alone, built, startOf, recorded, summary}
 use Rattle.builder.specs.Answers.{told, lent, refusal, answered, left}
@@ -43,20 +43,20 @@ orNone s (given x) = x
 orNone s (refused r) = s
 
 module _ (old new : Chart) (m t s w : List ℕ) (l : length m ≡ 4160) where
-  made : (x : Summary) → x ≡ summary (recorded old new .start) (recorded old new .graph .marks) → graph m t s w ≡ built old new → Small x
+  made : (x : Summary) → x ≡ summary (recorded old new .start) (recorded old new .graph .marks) → buffers m t s w ≡ built old new → Small x
   unfolding recorded summary
   made x e f =
       let h : (v : ℕ) → count v (built old new .marks) ≤ 4160 =
-      λ v. subst (λ (k : List ℕ). count v k ≤ 4160) (ap (λ (g : Graph). g .marks) f) (subst (λ (n : ℕ). count v m ≤ n) l (count-most v m)) in
+      λ v. subst (λ (k : List ℕ). count v k ≤ 4160) (ap (λ (g : Buffers). g .marks) f) (subst (λ (n : ℕ). count v m ≤ n) l (count-most v m)) in
       subst Small (sym e) (record { start = start-small old new (explored old new .marks); opened = h 1; kept = h 2; covered = h 3 })
 
-  pub summary-small : (g : Graph) (r : Built) (x : Summary) → told r ≡ answered old new g → graph m t s w ≡ left old new g → r ≡ builts.Done x → Small x
+  pub summary-small : (g : Buffers) (r : Built) (x : Summary) → told r ≡ answered old new g → buffers m t s w ≡ left old new g → r ≡ builts.Done x → Small x
   unfolding answered left orNone
   summary-small g r x e f d = go (refusal old new g) (ap told (sym d) ∙ e) f
     where
       go : (o : Option Refusal)
           → given x ≡ unless o (summary (recorded old new .start) (recorded old new .graph .marks))
-          → graph m t s w ≡ elim o as (λ _. Graph) [ none ↦ built old new | some q ↦ g ] → Small x
+          → buffers m t s w ≡ elim o as (λ _. Buffers) [ none ↦ built old new | some q ↦ g ] → Small x
       go none a b = made x (ap (orNone x) a) b
       go (some q) a b = absurd (different a)
 
@@ -69,7 +69,7 @@ in-chart-low : (k : ℕ) (o : Option Refusal) → OnSome Slight o → OnSome Low
 in-chart-low k none h = tt
 in-chart-low k (some r) h = record { position = omega (arith, h .row) }
 
-refusal-low : (old new : Chart) (g : Graph) → OnSome Low (refusal old new g)
+refusal-low : (old new : Chart) (g : Buffers) → OnSome Low (refusal old new g)
 unfolding refusal
 refusal-low old new g =
     let unlent = not (bool (lent (old .table) (new .table) g)) in
@@ -77,7 +77,7 @@ refusal-low old new g =
     (when-on Low unlent (sole 21 0) (record { position = omega arith }))
     (λ _. or-on Low (inChart 0 (fault old)) (inChart 1 (fault new)) (in-chart-low 0 (fault old) (fault-slight old)) (λ _. in-chart-low 1 (fault new) (fault-slight new)))
 
-pub position-low : (old new : Chart) (g : Graph) (r : Built) → told r ≡ answered old new g → (q : Refusal) → r ≡ builts.Refused q → q .position < 2 ^ 32
+pub position-low : (old new : Chart) (g : Buffers) (r : Built) → told r ≡ answered old new g → (q : Refusal) → r ≡ builts.Refused q → q .position < 2 ^ 32
 unfolding answered
 position-low old new g r e q d = go (refusal old new g) (refusal-low old new g) (ap told (sym d) ∙ e)
   where

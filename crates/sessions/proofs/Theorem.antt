@@ -28,7 +28,7 @@ use Rattle.text.specs.Written as text-written
 use Rattle.sets.specs.Sets as sets-sets
 use Rattle.align.specs.Reads as align-reads
 use Rattle.align.specs.Steps as align-steps
-use Rattle.graph.specs.Graphs as builder-graphs
+use Rattle.graph.specs.Buffers as builder-graphs
 use Rattle.detector.specs.Turns as builder-turns
 use Rattle.marker.specs.Marks as builder-marks
 use Rattle.condition.specs.Builds as builder-builds

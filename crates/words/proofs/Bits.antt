@@ -8,7 +8,7 @@ use lib.Pow.{pow-mono, high}
 use lib.Count.{trailingZeros, leadingZeros, under, leading-top, leading-of-zero}
 use Rattle.sets.specs.Sets.{bit}
 use Rattle.sets.proofs.Sets.{bit-zero, bit-suc, bit-none}
-use Rattle.words.specs.Words.{LowestFrom, HighestBefore}
+use Rattle.words.specs.inner.Words.{LowestFrom, HighestBefore}
 
 -- no bit of x from k on
 bit-past : (x k i : ℕ) → x < 2 ^ k → k ≤ i → bit x i ≡ 0

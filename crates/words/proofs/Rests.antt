@@ -9,7 +9,7 @@ use lib.Bits.{and-le-l}
 use lib.ListN.{getD}
 use Rattle.sets.specs.Sets.{bit, without}
 use Rattle.sets.proofs.Sets.{bit-none, without-in, without-kept}
-use Rattle.words.specs.Words.{Member, LowestFrom, HighestBefore}
+use Rattle.words.specs.inner.Words.{Member, LowestFrom, HighestBefore}
 use Rattle.words.proofs.Words.{not-at}
 
 -- ---- one bit taken out

@@ -12,7 +12,7 @@ use lib.ListN.{length, getD, set, length-set}
 use lib.Seq.{set-getD, getD-set-same, getD-set-other}
 use Rattle.sets.specs.Sets.{bit, alone, joined, with, without, meets, holdsAll}
 use Rattle.sets.proofs.Sets.{bit-none, joined-left, joined-right, alone-here, alone-only, with-here, with-old, without-kept, meet-some, meet-none, holds-all}
-use Rattle.words.specs.Words.{Member, added, removed, gathered, Listed, listed}
+use Rattle.words.specs.inner.Words.{Member, added, removed, gathered, Listed, listed}
 
 -- ---- added and removed
 module _ (w : List ℕ) (n : ℕ) where

@@ -1,2 +1,2 @@
--- The definitions that the contracts of the crate cite.
-pub mod Words
+-- All definitions of the crate help: no rule of document 01 speaks of sets of pairs.
+pub mod inner

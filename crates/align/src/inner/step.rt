@@ -7,7 +7,8 @@ ghost use Rattle.operations.specs.Operations.{isKnown, isAssignment, isAssumpti
 ghost use Rattle.chart.specs.Charts.{charted, size, to, operation};
 ghost use Rattle.chart.specs.Faultless.{FaultlessChart};
 ghost use Rattle.chart.specs.Lookup.{Indexed};
-ghost use Rattle.align.specs.Steps.{told, find, rewritten, assigned, matched, counterpart, assumed, moved, fair, arrived, rowsAt, step};
+ghost use Rattle.align.specs.Steps.{find, rewritten, assigned, matched, counterpart, assumed, moved, fair, arrived, rowsAt, step};
+ghost use Rattle.align.specs.inner.Told.{told};
 use crate::inner::follow::follow;
 use crate::inner::reads;
 use crate::inner::seek;

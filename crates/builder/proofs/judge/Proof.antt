@@ -1,7 +1,7 @@
 -- `builder::judge` meets its contract: the lengths, the old chart, the new one. Assumes nothing.
 use borrow.Author.Tests.{not-true, not-false}
 use mathlib.Core.Path.{_∙_}
-use Rattle.graph.specs.Graphs.{graph}
+use Rattle.graph.specs.Buffers.{buffers}
 use Rattle.builder.proofs.Answering.{judge-lengths, judge-old, judge-new}
 use borrow.Author.Needs.{needs}
 use Rattle.builder.proofs.judge.Statement.{statement}
@@ -14,7 +14,7 @@ faulty-requires : tie.Need-faulty-requires
 faulty-requires c κs = search needs
 
 returns : tie.Need-returns
-returns c = c .faulty .ensures ∙ judge-lengths _ _ (graph _ _ _ _) (c .before .before .lent .ensures) (not-true _ (c .before .if1 .taken))
+returns c = c .faulty .ensures ∙ judge-lengths _ _ (buffers _ _ _ _) (c .before .before .lent .ensures) (not-true _ (c .before .if1 .taken))
 
 fault-requires : tie.Need-fault-requires
 fault-requires c κs = search needs
@@ -27,7 +27,7 @@ is-faultless-requires c κs = search needs
 
 returns-2 : tie.Need-returns-2
 returns-2 c =
-    judge-old _ _ (graph _ _ _ _) (c .before .before .before .before .before .lent .ensures) (not-false _ (c .before .before .before .before .if1 .left)) (c .before .before .in-chart .ensures)
+    judge-old _ _ (buffers _ _ _ _) (c .before .before .before .before .before .lent .ensures) (not-false _ (c .before .before .before .before .if1 .left)) (c .before .before .in-chart .ensures)
     (c .before .before .before .fault .ensures) (c .before .is-faultless .ensures) (not-true _ (c .if2 .taken))
 
 fault-requires-2 : tie.Need-fault-requires-2
@@ -38,7 +38,7 @@ in-chart-requires-2 c κs = search needs
 
 returns-3 : tie.Need-returns-3
 returns-3 c =
-    judge-new _ _ (graph _ _ _ _) (c .before .before .before .before .before .before .before .lent .ensures) (not-false _ (c .before .before .before .before .before .before .if1 .left)) (c .before .before .before .before .in-chart .ensures)
+    judge-new _ _ (buffers _ _ _ _) (c .before .before .before .before .before .before .before .lent .ensures) (not-false _ (c .before .before .before .before .before .before .if1 .left)) (c .before .before .before .before .in-chart .ensures)
     (c .before .before .before .before .before .fault .ensures) (c .before .before .before .is-faultless .ensures) (not-false _ (c .before .before .if2 .left)) (c .in-chart2 .ensures)
     (c .before .fault2 .ensures)
 

@@ -8,9 +8,11 @@ ghost use Rattle.base.specs.Walks.{count};
 ghost use Rattle.sets.specs.Sets.{bit};
 ghost use Rattle.records.specs.Records.{index};
 ghost use Rattle.chart.specs.Places.{startPair};
-ghost use Rattle.words.specs.Words.{Member};
-ghost use Rattle.graph.specs.Graphs.{graph, Sized, Covers};
-ghost use Rattle.marker.specs.Spans.{remade};
+ghost use Rattle.words.specs.inner.Words.{Member};
+ghost use Rattle.graph.specs.Buffers.{buffers};
+ghost use Rattle.graph.specs.inner.Sized.{Sized};
+ghost use Rattle.graph.specs.inner.Tracks.{Covers};
+ghost use Rattle.marker.specs.inner.Spans.{remade};
 ghost use Rattle.condition.specs.Builds.{redirected, alone, lone, finished, startOf, summary};
 use crate::Summary;
 use align::inner::step::fair;
@@ -116,8 +118,8 @@ fn leave_alone(
     sets: &mut [u64],
     waiting: &mut [u8],
 )
-    requires { ⌜ Sized (graph (now marks) (now targets) (now sets) (now waiting)) ⌝ }
-    ensures { λ _. ⌜ graph (now (marks .exit)) (now (targets .exit)) (now (sets .exit)) (now (waiting .exit)) ≡ lone new ⌝ }
+    requires { ⌜ Sized (buffers (now marks) (now targets) (now sets) (now waiting)) ⌝ }
+    ensures { λ _. ⌜ buffers (now (marks .exit)) (now (targets .exit)) (now (sets .exit)) (now (waiting .exit)) ≡ lone new ⌝ }
 {
     buffers::fill8(marks, 0);
     buffers::put8(marks, start_kept(new), 2);
@@ -162,10 +164,10 @@ pub fn finish(
     waiting: &mut [u8],
     seen: &[u64],
 ) -> Summary
-    requires { ⌜ Sized (graph (now marks) (now targets) (now sets) (now waiting)) ⌝ }
-    requires { ⌜ Covers (now seen) (graph (now marks) (now targets) (now sets) (now waiting)) × (alone old new (now marks) ≡ false → Member (now seen) (startPair old new)) ⌝ }
-    ensures { λ r. ⌜ (graph (now (marks .exit)) (now (targets .exit)) (now (sets .exit)) (now (waiting .exit))
-        ≡ finished old new (graph (now (marks .entry)) (now (targets .entry)) (now (sets .entry)) (now (waiting .entry))))
+    requires { ⌜ Sized (buffers (now marks) (now targets) (now sets) (now waiting)) ⌝ }
+    requires { ⌜ Covers (now seen) (buffers (now marks) (now targets) (now sets) (now waiting)) × (alone old new (now marks) ≡ false → Member (now seen) (startPair old new)) ⌝ }
+    ensures { λ r. ⌜ (buffers (now (marks .exit)) (now (targets .exit)) (now (sets .exit)) (now (waiting .exit))
+        ≡ finished old new (buffers (now (marks .entry)) (now (targets .entry)) (now (sets .entry)) (now (waiting .entry))))
         × (r ≡ summary (startOf old new (now (marks .entry))) (now (marks .exit))) ⌝ }
 {
     if is_alone(old, new, &*marks) {

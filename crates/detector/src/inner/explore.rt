@@ -7,7 +7,9 @@ ghost use Rattle.chart.specs.Charts.{charted};
 ghost use Rattle.chart.specs.Faultless.{FaultlessChart};
 ghost use Rattle.chart.specs.Lookup.{Indexed};
 ghost use Rattle.chart.specs.Places.{startPair, startKept};
-ghost use Rattle.graph.specs.Graphs.{graph, Sized, Covers};
+ghost use Rattle.graph.specs.Buffers.{buffers};
+ghost use Rattle.graph.specs.inner.Sized.{Sized};
+ghost use Rattle.graph.specs.inner.Tracks.{Covers};
 ghost use Rattle.detector.specs.Turns.{begun, explored};
 use crate::inner::turns;
 use base::Found;
@@ -25,8 +27,8 @@ fn begin(
     sets: &mut [u64],
     waiting: &mut [u8],
 )
-    requires { ⌜ Sized (graph (now marks) (now targets) (now sets) (now waiting)) ⌝ }
-    ensures { λ _. ⌜ ((o n : List ℕ) → graph (now (marks .exit)) (now (targets .exit)) (now (sets .exit)) (now (waiting .exit)) ≡ begun (charted old o) (charted new n)) ⌝ }
+    requires { ⌜ Sized (buffers (now marks) (now targets) (now sets) (now waiting)) ⌝ }
+    ensures { λ _. ⌜ ((o n : List ℕ) → buffers (now (marks .exit)) (now (targets .exit)) (now (sets .exit)) (now (waiting .exit)) ≡ begun (charted old o) (charted new n)) ⌝ }
 {
     let first = start_pair(old, new);
     buffers::fill8(marks, 0);
@@ -54,9 +56,9 @@ pub fn explore<'a>(
     requires { ⌜ FaultlessChart (charted old (now «old_rows»)) ⌝ }
     requires { ⌜ FaultlessChart (charted new (now «new_rows»)) ⌝ }
     requires { ⌜ Indexed (now «old_rows») (now «new_rows») (now index) ⌝ }
-    requires { ⌜ Sized (graph (now marks) (now targets) (now sets) (now waiting)) × (length (now seen) ≡ 64) ⌝ }
-    ensures { λ _. ⌜ Covers (now (seen .exit)) (graph (now (marks .exit)) (now (targets .exit)) (now (sets .exit)) (now (waiting .exit))) ⌝ }
-    ensures { λ _. ⌜ graph (now (marks .exit)) (now (targets .exit)) (now (sets .exit)) (now (waiting .exit))
+    requires { ⌜ Sized (buffers (now marks) (now targets) (now sets) (now waiting)) × (length (now seen) ≡ 64) ⌝ }
+    ensures { λ _. ⌜ Covers (now (seen .exit)) (buffers (now (marks .exit)) (now (targets .exit)) (now (sets .exit)) (now (waiting .exit))) ⌝ }
+    ensures { λ _. ⌜ buffers (now (marks .exit)) (now (targets .exit)) (now (sets .exit)) (now (waiting .exit))
         ≡ explored (charted old (now («old_rows» .entry))) (charted new (now («new_rows» .entry))) ⌝ }
 {
     begin(old, new, marks, targets, sets, waiting);

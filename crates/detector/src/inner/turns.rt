@@ -7,11 +7,14 @@ ghost use Rattle.chart.specs.Charts.{charted};
 ghost use Rattle.chart.specs.Faultless.{FaultlessChart};
 ghost use Rattle.chart.specs.Lookup.{Indexed};
 ghost use Rattle.align.specs.declared.spots.Spot.{Spot};
-ghost use Rattle.align.specs.Steps.{told};
+ghost use Rattle.align.specs.inner.Told.{told};
 ghost use Rattle.base.specs.inner.Found.{toldFound};
-ghost use Rattle.words.specs.Words.{LowestFrom};
-ghost use Rattle.graph.specs.Graphs.{graph, Sized, Lists, Tracks};
-ghost use Rattle.detector.specs.Turns.{lowest, LowestOf, setNow, arrived, processed, rowDone, taken};
+ghost use Rattle.words.specs.inner.Words.{LowestFrom};
+ghost use Rattle.graph.specs.Buffers.{buffers};
+ghost use Rattle.graph.specs.inner.Sized.{Sized};
+ghost use Rattle.graph.specs.inner.Tracks.{Lists, Tracks};
+ghost use Rattle.detector.specs.Turns.{lowest, setNow, arrived, processed, rowDone, taken};
+ghost use Rattle.detector.specs.inner.Lowest.{LowestOf};
 use align::inner::step::step;
 use align::spots::Aligned;
 use align::spots::Spot;
@@ -92,11 +95,11 @@ fn arrive(
     h: Spot,
 )
     requires { ⌜ (n < 4096) × (r < 2) × (q .0 < 64) × (h .place .0 < 64) ⌝ }
-    requires { ⌜ Sized (graph (now marks) (now targets) (now sets) (now waiting)) ⌝ }
-    requires { ⌜ Tracks (now waits) (now seen) (graph (now marks) (now targets) (now sets) (now waiting)) ⌝ }
-    ensures { λ _. ⌜ Tracks (now (waits .exit)) (now (seen .exit)) (graph (now (marks .exit)) (now (targets .exit)) (now (sets .exit)) (now (waiting .exit))) ⌝ }
-    ensures { λ _. ⌜ graph (now (marks .exit)) (now (targets .exit)) (now (sets .exit)) (now (waiting .exit))
-        ≡ arrived (old .alarm) (graph (now (marks .entry)) (now (targets .entry)) (now (sets .entry)) (now (waiting .entry))) n r q h ⌝ }
+    requires { ⌜ Sized (buffers (now marks) (now targets) (now sets) (now waiting)) ⌝ }
+    requires { ⌜ Tracks (now waits) (now seen) (buffers (now marks) (now targets) (now sets) (now waiting)) ⌝ }
+    ensures { λ _. ⌜ Tracks (now (waits .exit)) (now (seen .exit)) (buffers (now (marks .exit)) (now (targets .exit)) (now (sets .exit)) (now (waiting .exit))) ⌝ }
+    ensures { λ _. ⌜ buffers (now (marks .exit)) (now (targets .exit)) (now (sets .exit)) (now (waiting .exit))
+        ≡ arrived (old .alarm) (buffers (now (marks .entry)) (now (targets .entry)) (now (sets .entry)) (now (waiting .entry))) n r q h ⌝ }
 {
     let node = kept(q);
     if graphs::is_marked(&*marks, node) {
@@ -124,11 +127,11 @@ fn process(
 )
     requires { ⌜ (n < 4096) × (r < 2) × (q .0 < 64) ⌝ }
     requires { ⌜ ((h : Spot) → told came ≡ some h → h .place .0 < 64) ⌝ }
-    requires { ⌜ Sized (graph (now marks) (now targets) (now sets) (now waiting)) ⌝ }
-    requires { ⌜ Tracks (now waits) (now seen) (graph (now marks) (now targets) (now sets) (now waiting)) ⌝ }
-    ensures { λ _. ⌜ Tracks (now (waits .exit)) (now (seen .exit)) (graph (now (marks .exit)) (now (targets .exit)) (now (sets .exit)) (now (waiting .exit))) ⌝ }
-    ensures { λ _. ⌜ graph (now (marks .exit)) (now (targets .exit)) (now (sets .exit)) (now (waiting .exit))
-        ≡ processed (old .alarm) (graph (now (marks .entry)) (now (targets .entry)) (now (sets .entry)) (now (waiting .entry))) n r q (told came) ⌝ }
+    requires { ⌜ Sized (buffers (now marks) (now targets) (now sets) (now waiting)) ⌝ }
+    requires { ⌜ Tracks (now waits) (now seen) (buffers (now marks) (now targets) (now sets) (now waiting)) ⌝ }
+    ensures { λ _. ⌜ Tracks (now (waits .exit)) (now (seen .exit)) (buffers (now (marks .exit)) (now (targets .exit)) (now (sets .exit)) (now (waiting .exit))) ⌝ }
+    ensures { λ _. ⌜ buffers (now (marks .exit)) (now (targets .exit)) (now (sets .exit)) (now (waiting .exit))
+        ≡ processed (old .alarm) (buffers (now (marks .entry)) (now (targets .entry)) (now (sets .entry)) (now (waiting .entry))) n r q (told came) ⌝ }
 {
     match came {
         Aligned::To(h) => {
@@ -162,11 +165,11 @@ fn row<'a>(
     requires { ⌜ FaultlessChart (charted new (now «new_rows»)) ⌝ }
     requires { ⌜ Indexed (now «old_rows») (now «new_rows») (now index) ⌝ }
     requires { ⌜ (n < 4096) × (r < 2) ⌝ }
-    requires { ⌜ Sized (graph (now marks) (now targets) (now sets) (now waiting)) ⌝ }
-    requires { ⌜ Tracks (now waits) (now seen) (graph (now marks) (now targets) (now sets) (now waiting)) ⌝ }
-    ensures { λ _. ⌜ Tracks (now (waits .exit)) (now (seen .exit)) (graph (now (marks .exit)) (now (targets .exit)) (now (sets .exit)) (now (waiting .exit))) ⌝ }
-    ensures { λ _. ⌜ graph (now (marks .exit)) (now (targets .exit)) (now (sets .exit)) (now (waiting .exit))
-        ≡ rowDone (charted old (now («old_rows» .entry))) (charted new (now («new_rows» .entry))) (graph (now (marks .entry)) (now (targets .entry)) (now (sets .entry)) (now (waiting .entry))) n v r ⌝ }
+    requires { ⌜ Sized (buffers (now marks) (now targets) (now sets) (now waiting)) ⌝ }
+    requires { ⌜ Tracks (now waits) (now seen) (buffers (now marks) (now targets) (now sets) (now waiting)) ⌝ }
+    ensures { λ _. ⌜ Tracks (now (waits .exit)) (now (seen .exit)) (buffers (now (marks .exit)) (now (targets .exit)) (now (sets .exit)) (now (waiting .exit))) ⌝ }
+    ensures { λ _. ⌜ buffers (now (marks .exit)) (now (targets .exit)) (now (sets .exit)) (now (waiting .exit))
+        ≡ rowDone (charted old (now («old_rows» .entry))) (charted new (now («new_rows» .entry))) (buffers (now (marks .entry)) (now (targets .entry)) (now (sets .entry)) (now (waiting .entry))) n v r ⌝ }
 {
     let part = rows_of(old_rows, new_rows, index, Place::New(new_of(n)));
     if r < part.len() / 6 {
@@ -217,11 +220,11 @@ pub fn turn<'a>(
     requires { ⌜ FaultlessChart (charted new (now «new_rows»)) ⌝ }
     requires { ⌜ Indexed (now «old_rows») (now «new_rows») (now index) ⌝ }
     requires { ⌜ n < 4096 ⌝ }
-    requires { ⌜ Sized (graph (now marks) (now targets) (now sets) (now waiting)) ⌝ }
-    requires { ⌜ Tracks (now waits) (now seen) (graph (now marks) (now targets) (now sets) (now waiting)) ⌝ }
-    ensures { λ _. ⌜ Tracks (now (waits .exit)) (now (seen .exit)) (graph (now (marks .exit)) (now (targets .exit)) (now (sets .exit)) (now (waiting .exit))) ⌝ }
-    ensures { λ _. ⌜ graph (now (marks .exit)) (now (targets .exit)) (now (sets .exit)) (now (waiting .exit))
-        ≡ taken (charted old (now («old_rows» .entry))) (charted new (now («new_rows» .entry))) (graph (now (marks .entry)) (now (targets .entry)) (now (sets .entry)) (now (waiting .entry))) n ⌝ }
+    requires { ⌜ Sized (buffers (now marks) (now targets) (now sets) (now waiting)) ⌝ }
+    requires { ⌜ Tracks (now waits) (now seen) (buffers (now marks) (now targets) (now sets) (now waiting)) ⌝ }
+    ensures { λ _. ⌜ Tracks (now (waits .exit)) (now (seen .exit)) (buffers (now (marks .exit)) (now (targets .exit)) (now (sets .exit)) (now (waiting .exit))) ⌝ }
+    ensures { λ _. ⌜ buffers (now (marks .exit)) (now (targets .exit)) (now (sets .exit)) (now (waiting .exit))
+        ≡ taken (charted old (now («old_rows» .entry))) (charted new (now («new_rows» .entry))) (buffers (now (marks .entry)) (now (targets .entry)) (now (sets .entry)) (now (waiting .entry))) n ⌝ }
 {
     let mut v = sets[n];
     buffers::put8(waiting, n, 0);

@@ -5,8 +5,10 @@ ghost use Prim.Native.Nat.{ℕ, _<_};
 ghost use lib.ListN.{length, set, getD};
 ghost use Rattle.sets.specs.Sets.{joined};
 ghost use Rattle.records.specs.Records.{index};
-ghost use Rattle.words.specs.Words.{Member, added};
-ghost use Rattle.graph.specs.Graphs.{graph, Sized, Covers, marked, cleared, untargeted, keep, aim, due, join, listedIf};
+ghost use Rattle.words.specs.inner.Words.{Member, added};
+ghost use Rattle.graph.specs.Buffers.{buffers, marked, cleared, untargeted, keep, aim, due, join};
+ghost use Rattle.graph.specs.inner.Sized.{Sized};
+ghost use Rattle.graph.specs.inner.Tracks.{Covers, listedIf};
 use crate::inner::buffers;
 use chart::charts::Head;
 use chart::inner::pairs::kept;
@@ -31,7 +33,7 @@ pub fn is_marked(marks: &[u8], n: usize) -> bool
 // Pair n leaves all buffers.
 fn leave(marks: &mut [u8], targets: &mut [u16], sets: &mut [u64], waiting: &mut [u8], n: usize)
     requires { ⌜ n < 4096 ⌝ }
-    requires { ⌜ Sized (graph (now marks) (now targets) (now sets) (now waiting)) ⌝ }
+    requires { ⌜ Sized (buffers (now marks) (now targets) (now sets) (now waiting)) ⌝ }
     ensures { λ _. ⌜ (now (marks .exit) ≡ set (now (marks .entry)) n 0)
         × (now (targets .exit) ≡ set (set (now (targets .entry)) (index n 0) 65535) (index n 1) 65535)
         × (now (sets .exit) ≡ set (now (sets .entry)) n 0) × (now (waiting .exit) ≡ set (now (waiting .entry)) n 0) ⌝ }
@@ -54,8 +56,8 @@ fn leave_all(
     q: NewPlace,
 )
     requires { ⌜ q .0 < 64 ⌝ }
-    requires { ⌜ Sized (graph (now marks) (now targets) (now sets) (now waiting)) ⌝ }
-    requires { ⌜ Covers (now seen) (graph (now marks) (now targets) (now sets) (now waiting)) ⌝ }
+    requires { ⌜ Sized (buffers (now marks) (now targets) (now sets) (now waiting)) ⌝ }
+    requires { ⌜ Covers (now seen) (buffers (now marks) (now targets) (now sets) (now waiting)) ⌝ }
     ensures { λ _. ⌜ (now (marks .exit) ≡ cleared q (now (marks .entry))) × (now (targets .exit) ≡ untargeted q (now (targets .entry)))
         × (now (sets .exit) ≡ cleared q (now (sets .entry))) × (now (waiting .exit) ≡ cleared q (now (waiting .entry))) ⌝ }
 {
@@ -80,10 +82,10 @@ pub fn keep(
     q: NewPlace,
 )
     requires { ⌜ q .0 < 64 ⌝ }
-    requires { ⌜ Sized (graph (now marks) (now targets) (now sets) (now waiting)) ⌝ }
-    requires { ⌜ Covers (now seen) (graph (now marks) (now targets) (now sets) (now waiting)) ⌝ }
-    ensures { λ _. ⌜ graph (now (marks .exit)) (now (targets .exit)) (now (sets .exit)) (now (waiting .exit))
-        ≡ keep (graph (now (marks .entry)) (now (targets .entry)) (now (sets .entry)) (now (waiting .entry))) q ⌝ }
+    requires { ⌜ Sized (buffers (now marks) (now targets) (now sets) (now waiting)) ⌝ }
+    requires { ⌜ Covers (now seen) (buffers (now marks) (now targets) (now sets) (now waiting)) ⌝ }
+    ensures { λ _. ⌜ buffers (now (marks .exit)) (now (targets .exit)) (now (sets .exit)) (now (waiting .exit))
+        ≡ keep (buffers (now (marks .entry)) (now (targets .entry)) (now (sets .entry)) (now (waiting .entry))) q ⌝ }
 {
     leave_all(marks, targets, sets, waiting, seen, q);
     buffers::put8(marks, kept(q), 1);
@@ -93,7 +95,7 @@ pub fn keep(
 pub fn aim(marks: &[u8], targets: &mut [u16], n: usize, r: usize, to: usize)
     requires { ⌜ (n < 4096) × (r < 2) × (to < 65536) ⌝ }
     requires { ⌜ (length (now marks) ≡ 4160) × (length (now targets) ≡ 8192) ⌝ }
-    ensures { λ _. ⌜ ((s w : List ℕ) → graph (now (marks .entry)) (now (targets .exit)) s w ≡ aim (graph (now (marks .entry)) (now (targets .entry)) s w) n r to) ⌝ }
+    ensures { λ _. ⌜ ((s w : List ℕ) → buffers (now (marks .entry)) (now (targets .exit)) s w ≡ aim (buffers (now (marks .entry)) (now (targets .entry)) s w) n r to) ⌝ }
 {
     if marks[n] != 0 {
         let at = 2 * n + r;
@@ -126,8 +128,8 @@ pub fn join(
     requires { ⌜ (0 < getD (now marks) n 0 → Member (now seen) n) ⌝ }
     ensures { λ _. ⌜ (now (waits .exit) ≡ listedIf (due (old .alarm) (now (marks .entry)) (now (sets .entry)) n v) (now (waits .entry)) n)
         × (now (seen .exit) ≡ added (now (seen .entry)) n) ⌝ }
-    ensures { λ _. ⌜ ((t : List ℕ) → graph (now (marks .exit)) t (now (sets .exit)) (now (waiting .exit))
-        ≡ join (old .alarm) (graph (now (marks .entry)) t (now (sets .entry)) (now (waiting .entry))) n v) ⌝ }
+    ensures { λ _. ⌜ ((t : List ℕ) → buffers (now (marks .exit)) t (now (sets .exit)) (now (waiting .exit))
+        ≡ join (old .alarm) (buffers (now (marks .entry)) t (now (sets .entry)) (now (waiting .entry))) n v) ⌝ }
 {
     let there = is_marked(&*marks, n);
     buffers::put8(marks, n, 1);

@@ -3,13 +3,16 @@ ghost use mathlib.Core.Path.{_≡_};
 ghost use Prim.Native.Nat.{_+_, _*_, _≤_, _<_};
 ghost use lib.ListN.{length, getD, drop};
 ghost use Rattle.base.specs.Walks.{count};
-ghost use Rattle.words.specs.Words.{Member};
-ghost use Rattle.marker.specs.Spans.{remade, each};
-ghost use Rattle.marker.specs.Seen.{Holds, HoldsBeyond};
-ghost use Rattle.marker.specs.Marks.{plainAs, plainMarks, inQ, opening, Tried, Swept, allOpened};
-ghost use Rattle.marker.specs.Marks.{cover, coverFrom, allCovered, finalMarks};
-ghost use Rattle.marker.specs.Spreads.{Passed};
-ghost use Rattle.marker.specs.Counts.{Counted};
+ghost use Rattle.words.specs.inner.Words.{Member};
+ghost use Rattle.marker.specs.inner.Spans.{remade, each};
+ghost use Rattle.marker.specs.inner.Seen.{Holds, HoldsBeyond};
+ghost use Rattle.marker.specs.Marks.{plainMarks, allOpened};
+ghost use Rattle.marker.specs.inner.Parts.{plainAs, coverFrom};
+ghost use Rattle.marker.specs.inner.Openings.{Tried, Swept};
+ghost use Rattle.marker.specs.Marks.{cover, allCovered, finalMarks};
+ghost use Rattle.marker.specs.inner.Spreads.{Passed};
+ghost use Rattle.marker.specs.inner.Counts.{Counted};
+use crate::inner::openings::open_if;
 use crate::inner::spread::spread;
 use graph::inner::buffers;
 use sets::inner::bits::without;
@@ -52,46 +55,7 @@ fn plain(marks: &mut [u8], seen: &[u64])
     plain_row(marks, 4096, 2);
 }
 
-// Whether a target is an open or kept node.
-fn in_q(marks: &[u8], n: u16) -> bool
-    ensures { λ r. ⌜ r ≡ inQ (now (marks .entry)) n ⌝ }
-{
-    let at = n as usize;
-    if marks.len() <= at {
-        return false;
-    }
-    let x = marks[at];
-    if x == 1 {
-        return true;
-    }
-    x == 2
-}
-
-// Whether pair i is beyond and has such a target. Both targets are asked in any case, which spares a jump between them.
-fn opens(marks: &[u8], targets: &[u16], i: usize) -> bool
-    requires { ⌜ (length (now marks) ≡ 4160) × (length (now targets) ≡ 8192) × (i < 4096) ⌝ }
-    ensures { λ r. ⌜ r ≡ opening (now (targets .entry)) (now (marks .entry)) i (getD (now (marks .entry)) i 0) ⌝ }
-{
-    if marks[i] != 4 {
-        return false;
-    }
-    let at = 2 * i;
-    in_q(marks, targets[at]) | in_q(marks, targets[at + 1])
-}
-
-// Opens pair i, if it is to be opened, and says how many that were.
-pub fn open_if(marks: &mut [u8], targets: &[u16], i: usize) -> usize
-    requires { ⌜ (length (now marks) ≡ 4160) × (length (now targets) ≡ 8192) × (i < 4096) ⌝ }
-    ensures { λ r. ⌜ Tried (now (targets .entry)) (now (marks .entry)) i r (now (marks .exit)) ⌝ }
-{
-    if opens(&*marks, targets, i) {
-        buffers::put8(marks, i, 1);
-        return 1;
-    }
-    0
-}
-
-// The same; a pair that was opened leaves rest, the pairs that may still be.
+// Opens pair i, if it is to be opened; a pair that was opened leaves rest, the pairs that may still be.
 fn open_out(marks: &mut [u8], targets: &[u16], rest: &mut [u64], i: usize) -> usize
     requires { ⌜ (length (now marks) ≡ 4160) × (length (now targets) ≡ 8192) × (i < 64 * length (now rest)) × HoldsBeyond (now rest) (now marks) ⌝ }
     ensures { λ r. ⌜ Tried (now (targets .entry)) (now (marks .entry)) i r (now (marks .exit)) × HoldsBeyond (now (rest .exit)) (now (marks .exit)) ⌝ }

@@ -3,10 +3,10 @@
 ghost use mathlib.Core.Path.{_≡_};
 ghost use Prim.Native.Nat.{_*_, _<_};
 ghost use lib.ListN.{length};
-ghost use Rattle.marker.specs.Spans.{each};
-ghost use Rattle.marker.specs.Seen.{HoldsBeyond};
-ghost use Rattle.marker.specs.Spreads.{Spread, ledTo, ledFrom};
-use crate::inner::marks::open_if;
+ghost use Rattle.marker.specs.inner.Spans.{each};
+ghost use Rattle.marker.specs.inner.Seen.{HoldsBeyond};
+ghost use Rattle.marker.specs.inner.Spreads.{Spread, ledTo, ledFrom};
+use crate::inner::openings::open_if;
 use sets::inner::bits::alone;
 use sets::inner::bits::joined;
 use sets::inner::bits::meets;

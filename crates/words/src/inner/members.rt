@@ -4,7 +4,7 @@ ghost use mathlib.Core.Bool.{true};
 ghost use mathlib.Core.Logic.{_↔_};
 ghost use Prim.Native.Nat.{_+_, _*_, _/_, _≤_, _<_};
 ghost use lib.ListN.{length};
-ghost use Rattle.words.specs.Words.{Member, added, removed, gathered, listed, LowestFrom, HighestBefore};
+ghost use Rattle.words.specs.inner.Words.{Member, added, removed, gathered, listed, LowestFrom, HighestBefore};
 use sets::inner::bits::alone;
 use sets::inner::bits::joined;
 use sets::inner::bits::meets;

@@ -1,7 +1,7 @@
 -- `align::inner::follow::follow` meets its contract. The invariant: the walk from here on is the walk from the start. The measure is what is left of 64 rows. Assumes nothing.
 use mathlib.Core.Path.{ap}
 use Rattle.align.proofs.Moves.{Walk, walk-begins, walk-over, walk-ends, next-below, walk-twice, walk-on}
-use Rattle.align.specs.Steps.{toldOnward}
+use Rattle.align.specs.inner.Told.{toldOnward}
 use Rattle.chart.specs.Charts.{charted}
 use borrow.Author.Needs.{needs}
 use Rattle.align.proofs.inner.follow.follow.Statement.{statement}

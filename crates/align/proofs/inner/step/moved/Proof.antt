@@ -2,7 +2,7 @@
 use mathlib.Core.Path.{_≡_, sym, ap, subst, _∙_}
 use Rattle.base.proofs.OnSome.{on-at}
 use Rattle.align.proofs.Moves.{followed-below, moved-assigned, moved-twice, moved-assumed}
-use Rattle.align.specs.Steps.{toldFollowed}
+use Rattle.align.specs.inner.Told.{toldFollowed}
 use Rattle.operations.specs.declared.Operation.{Operation}
 use Rattle.align.proofs.ReadSets.{assuming}
 use Rattle.operations.specs.Operations.{isKnown, isAssignment, isAssumption}

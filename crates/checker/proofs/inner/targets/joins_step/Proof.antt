@@ -2,7 +2,7 @@
 use mathlib.Core.Path.{ap}
 use Rattle.checker.proofs.Targets.{row-right, row-below, pair-below, stepped-below, joins-failed, joins-stepped}
 use Rattle.records.specs.Records.{graphOf}
-use Rattle.align.specs.Steps.{told as stepTold}
+use Rattle.align.specs.inner.Told.{told as stepTold}
 use borrow.Author.Needs.{needs}
 use Rattle.checker.proofs.inner.targets.joins_step.Statement.{statement}
 use Rattle.checker.proofs.inner.targets.joins_step.Tie as tie

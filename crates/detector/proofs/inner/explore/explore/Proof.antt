@@ -1,7 +1,7 @@
 -- `detector::inner::explore::explore` meets its contract. Assumes nothing.
 use mathlib.Core.Path.{refl, sym, _∙_}
 use Rattle.chart.specs.Charts.{charted}
-use Rattle.graph.specs.Graphs.{graph}
+use Rattle.graph.specs.Buffers.{buffers}
 use Rattle.detector.proofs.Measure.{weight}
 use Rattle.detector.proofs.Exploring.{Building, build-begun, build-sized, build-looks, build-tracks, build-below, build-less, build-turn, build-done, same-marks, same-targets, same-sets, same-waiting}
 use native.Mathlib.Omega.{arith}
@@ -11,11 +11,11 @@ use Rattle.detector.proofs.inner.explore.explore.Tie as tie
 
 abbrev Inv-loop : tie.InvT-loop
 Inv-loop old old-rows new new-rows index marks₀ targets₀ sets₀ waiting₀ seen₀ waits₀ marks targets sets waiting seen waits =
-    Building (charted old old-rows) (charted new new-rows) (graph marks targets sets waiting) waits seen
+    Building (charted old old-rows) (charted new new-rows) (buffers marks targets sets waiting) waits seen
 
 abbrev μ-loop : tie.MeasureT-loop
 μ-loop old old-rows new new-rows index marks₀ targets₀ sets₀ waiting₀ seen₀ waits₀ marks targets sets waiting seen waits =
-    weight (graph marks targets sets waiting)
+    weight (buffers marks targets sets waiting)
 
 begin-requires : tie.Need-begin-requires Inv-loop μ-loop
 begin-requires c κs = search needs

@@ -1,6 +1,6 @@
 -- `detector::inner::turns::lowest` meets its contract. The invariant: whoever waits is in the list, whose last word gets less. Assumes nothing.
 use lib.ListN.{getD}
-use Rattle.graph.specs.Graphs.{Lists}
+use Rattle.graph.specs.inner.Tracks.{Lists}
 use Rattle.detector.proofs.Looking.{same-long, look-end, look-less, look-here, look-on}
 use native.Mathlib.Omega.{arith}
 use borrow.Author.Needs.{needs}

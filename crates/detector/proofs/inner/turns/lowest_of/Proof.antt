@@ -2,7 +2,7 @@
 use mathlib.Core.Path.{_≡_, refl, _∙_}
 use lib.ListN.{getD}
 use Rattle.words.proofs.Rests.{coming-start, coming-less}
-use Rattle.graph.specs.Graphs.{Lists}
+use Rattle.graph.specs.inner.Tracks.{Lists}
 use Rattle.detector.proofs.Looking.{Word, same-long, word-of, word-on, word-stored, last-stored, word-found, word-none, word-empty}
 use borrow.Author.Needs.{needs}
 use Rattle.detector.proofs.inner.turns.lowest_of.Statement.{statement}

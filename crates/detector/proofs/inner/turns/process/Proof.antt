@@ -1,6 +1,6 @@
 -- `detector::inner::turns::process` meets its contract: a step that came to a spot, or failed. Assumes nothing.
 use mathlib.Core.Path.{ap}
-use Rattle.align.specs.Steps.{told}
+use Rattle.align.specs.inner.Told.{told}
 use Rattle.detector.proofs.Processing.{came-is, process-fails}
 use borrow.Author.Needs.{needs}
 use Rattle.detector.proofs.inner.turns.process.Statement.{statement}

@@ -1,7 +1,7 @@
 -- `detector::inner::turns::turn` meets its contract. The invariant: the rows before r are done. Assumes nothing.
 use Prim.Native.Nat.{_-_}
 use Rattle.chart.specs.Charts.{charted}
-use Rattle.graph.specs.Graphs.{graph}
+use Rattle.graph.specs.Buffers.{buffers}
 use Rattle.detector.proofs.Rows.{Turning, turn-begins, turn-row, turn-done, unwait-sized, unwait-kept-up}
 use native.Mathlib.Omega.{arith}
 use borrow.Author.Needs.{needs}
@@ -10,7 +10,7 @@ use Rattle.detector.proofs.inner.turns.turn.Tie as tie
 
 abbrev Inv-loop : tie.InvT-loop
 Inv-loop old old-rows new new-rows index marks₀ targets₀ sets₀ waiting₀ waits₀ seen₀ n v₀ r₀ marks targets sets waiting waits seen v r =
-    Turning (charted old old-rows) (charted new new-rows) (graph marks₀ targets₀ sets₀ waiting₀) n r v (graph marks targets sets waiting) waits seen
+    Turning (charted old old-rows) (charted new new-rows) (buffers marks₀ targets₀ sets₀ waiting₀) n r v (buffers marks targets sets waiting) waits seen
 
 abbrev μ-loop : tie.MeasureT-loop
 μ-loop old old-rows new new-rows index marks₀ targets₀ sets₀ waiting₀ waits₀ seen₀ n v₀ r₀ marks targets sets waiting waits seen v r = 2 - r

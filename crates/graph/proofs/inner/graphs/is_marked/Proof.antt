@@ -1,6 +1,6 @@
 -- `graph::inner::graphs::is_marked` meets its contract. Assumes nothing.
 use mathlib.Core.Path.{refl}
-use Rattle.graph.specs.Graphs.{marked}
+use Rattle.graph.specs.Buffers.{marked}
 use borrow.Author.Needs.{needs}
 use Rattle.graph.proofs.inner.graphs.is_marked.Statement.{statement}
 use Rattle.graph.proofs.inner.graphs.is_marked.Tie as tie

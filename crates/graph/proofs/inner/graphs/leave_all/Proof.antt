@@ -2,7 +2,7 @@
 use mathlib.Core.Logic.{⊎-elim}
 use Prim.Native.Nat.{_-_}
 use borrow.Author.Tests.{not-true}
-use Rattle.graph.specs.Graphs.{graph}
+use Rattle.graph.specs.Buffers.{buffers}
 use Rattle.graph.proofs.Keeping.{Going, going-none, going-same, going-seen, going-unseen, left-all, left-none}
 use borrow.Author.Needs.{needs}
 use native.Mathlib.Omega.{arith}
@@ -10,7 +10,7 @@ use Rattle.graph.proofs.inner.graphs.leave_all.Statement.{statement}
 use Rattle.graph.proofs.inner.graphs.leave_all.Tie as tie
 
 abbrev Inv-loop : tie.InvT-loop
-Inv-loop marks₀ targets₀ sets₀ waiting₀ seen k p₀ marks targets sets waiting p = Going (record { 0 = k }) (graph marks₀ targets₀ sets₀ waiting₀) (graph marks targets sets waiting) p
+Inv-loop marks₀ targets₀ sets₀ waiting₀ seen k p₀ marks targets sets waiting p = Going (record { 0 = k }) (buffers marks₀ targets₀ sets₀ waiting₀) (buffers marks targets sets waiting) p
 
 abbrev μ-loop : tie.MeasureT-loop
 μ-loop marks₀ targets₀ sets₀ waiting₀ seen k p₀ marks targets sets waiting p = 64 - p

@@ -1,7 +1,7 @@
 -- `marker::inner::marks::open_rest` meets its contract. Assumes nothing.
 use mathlib.Core.Path.{_≡_, _∙_}
 use lib.ListN.{length}
-use Rattle.marker.specs.Seen.{HoldsBeyond}
+use Rattle.marker.specs.inner.Seen.{HoldsBeyond}
 use Rattle.marker.proofs.Marks.{fours}
 use Rattle.marker.proofs.Orders.{Sweeping, sweeping-start}
 use Rattle.marker.proofs.Spreads.{rounds-again, passes-done, passes-rest, passes-less}

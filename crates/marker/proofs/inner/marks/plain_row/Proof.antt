@@ -1,6 +1,6 @@
 -- `marker::inner::marks::plain_row` meets its contract. Assumes nothing.
 use Prim.Native.Nat.{_+_, _-_}
-use Rattle.marker.specs.Marks.{plainAs}
+use Rattle.marker.specs.inner.Parts.{plainAs}
 use Rattle.marker.proofs.Spans.{Remaking, remaking-start, remaking-more, remaking-end}
 use borrow.Author.Needs.{needs}
 use native.Mathlib.Omega.{arith}

@@ -2,8 +2,8 @@
 use mathlib.Core.Path.{_≡_}
 use Prim.Native.Nat.{_*_, _≤_}
 use lib.ListN.{length}
-use Rattle.marker.specs.Seen.{HoldsBeyond}
-use Rattle.marker.specs.Marks.{Swept}
+use Rattle.marker.specs.inner.Seen.{HoldsBeyond}
+use Rattle.marker.specs.inner.Openings.{Swept}
 use Rattle.marker.proofs.Sweeps.{down-start, down-more, down-end}
 use borrow.Author.Needs.{needs}
 use Rattle.marker.proofs.inner.marks.sweep_down.Statement.{statement}

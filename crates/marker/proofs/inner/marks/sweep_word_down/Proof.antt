@@ -1,7 +1,7 @@
 -- `marker::inner::marks::sweep_word_down` meets its contract. Assumes nothing.
 use mathlib.Core.Path.{_≡_}
 use lib.ListN.{length}
-use Rattle.marker.specs.Seen.{HoldsBeyond}
+use Rattle.marker.specs.inner.Seen.{HoldsBeyond}
 use Rattle.marker.proofs.Sweeps.{Downwards, downwards-start, downwards-less, downwards-more, downwards-end}
 use borrow.Author.Needs.{needs}
 use native.Mathlib.Omega.{arith}

@@ -2,7 +2,7 @@
 use Rattle.words.proofs.Rests.{coming-less}
 use mathlib.Core.Path.{_≡_}
 use lib.ListN.{length}
-use Rattle.marker.specs.Seen.{HoldsBeyond}
+use Rattle.marker.specs.inner.Seen.{HoldsBeyond}
 use Rattle.marker.proofs.Sweeps.{Upwards, upwards-start, upwards-more, upwards-end}
 use borrow.Author.Needs.{needs}
 use Rattle.marker.proofs.inner.marks.sweep_word_up.Statement.{statement}

@@ -1,6 +1,6 @@
 -- `marker::inner::spread::open_place` meets its contract. Assumes nothing.
 use Prim.Native.Nat.{_-_, _≤_}
-use Rattle.marker.specs.Spreads.{Spread}
+use Rattle.marker.specs.inner.Spreads.{Spread}
 use Rattle.marker.proofs.Spreads.{spread-none, spread-tried}
 use borrow.Author.Needs.{needs}
 use Rattle.marker.proofs.inner.spread.open_place.Statement.{statement}

@@ -1,6 +1,6 @@
 -- `marker::inner::spread::spread_once` meets its contract. Assumes nothing.
 use Prim.Native.Nat.{_-_}
-use Rattle.marker.specs.Spreads.{Spread}
+use Rattle.marker.specs.inner.Spreads.{Spread}
 use Rattle.marker.proofs.Spreads.{spread-none, spread-then}
 use borrow.Author.Needs.{needs}
 use Rattle.marker.proofs.inner.spread.spread_once.Statement.{statement}

@@ -1,8 +1,8 @@
--- `marker::inner::marks::opens` meets its contract. Assumes nothing.
+-- `marker::inner::openings::opens` meets its contract. Assumes nothing.
 use Rattle.marker.proofs.Ranking.{opens-not, opens-either}
 use borrow.Author.Needs.{needs}
-use Rattle.marker.proofs.inner.marks.opens.Statement.{statement}
-use Rattle.marker.proofs.inner.marks.opens.Tie as tie
+use Rattle.marker.proofs.inner.openings.opens.Statement.{statement}
+use Rattle.marker.proofs.inner.openings.opens.Tie as tie
 
 shared-slice-read-if1 : tie.Need-shared-slice-read-if1
 shared-slice-read-if1 c = search needs

@@ -1,8 +1,8 @@
--- `marker::inner::marks::open_if` meets its contract. Assumes nothing.
+-- `marker::inner::openings::open_if` meets its contract. Assumes nothing.
 use Rattle.marker.proofs.Orders.{tried-yes, tried-no}
 use borrow.Author.Needs.{needs}
-use Rattle.marker.proofs.inner.marks.open_if.Statement.{statement}
-use Rattle.marker.proofs.inner.marks.open_if.Tie as tie
+use Rattle.marker.proofs.inner.openings.open_if.Statement.{statement}
+use Rattle.marker.proofs.inner.openings.open_if.Tie as tie
 
 opens-requires : tie.Need-opens-requires
 opens-requires c κs = search needs

@@ -1,4 +1,5 @@
--- Sets of pairs as bits of words: 64, or 65 in a list. They only say where to look: no rule of document 01 speaks of them.
+-- Sets of pairs as bits of words: 64, or 65 in a list. They only say where to look: no rule of document 01 speaks of
+-- them.
 use mathlib.Core.Path.{_≡_}
 use mathlib.Core.List.{List}
 use Prim.Native.Nat.{ℕ, zero, suc, _-_, _/_, _%_, _≤_, _<_}
@@ -9,9 +10,11 @@ use Rattle.sets.specs.Sets.{bit, joined, with, without}
 abbrev pub Member : List ℕ → ℕ → Type 0
 Member w n = bit (getD w (n / 64) 0) (n % 64) ≡ 1
 
+-- pair n became one
 unfoldable pub added : List ℕ → ℕ → List ℕ
 added w n = set w (n / 64) (with (getD w (n / 64) 0) (n % 64))
 
+-- pair n is none any more
 unfoldable pub removed : List ℕ → ℕ → List ℕ
 removed w n = set w (n / 64) (without (getD w (n / 64) 0) (n % 64))
 
@@ -20,10 +23,12 @@ unfoldable pub gathered : List ℕ → ℕ → ℕ
 gathered w zero = 0
 gathered w (suc n) = joined (gathered w n) (getD w n 0)
 
--- ---- 65 words: the last has a bit for each of the others that may have one, so that the first of these is found at once
+-- ---- 65 words: the last has a bit for each of the others that may have one, so that the first of these is found at
+-- once
 abbrev pub Listed : List ℕ → ℕ → Type 0
 Listed w n = Member w n × (bit (getD w 64 0) (n / 64) ≡ 1)
 
+-- pair n was put in the list
 unfoldable pub listed : List ℕ → ℕ → List ℕ
 listed w n = set (added w n) 64 (with (getD (added w n) 64 0) (n / 64))
 

@@ -1,5 +1,5 @@
--- How many nodes have a mark, counted by the pass that covers: contracts of inner functions. The rule, "the counts of marks 1, 2 and 3", is `summary`
--- of condition/specs/Builds.antt.
+-- How many nodes have a mark, counted by the pass that covers: contracts of inner functions. The rule, "the counts of
+-- marks 1, 2 and 3", is `summary` of condition/specs/Builds.antt.
 use mathlib.Core.Path.{_≡_}
 use mathlib.Core.List.{List}
 use Prim.Native.Nat.{ℕ, _+_}

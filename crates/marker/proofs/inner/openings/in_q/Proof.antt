@@ -1,8 +1,8 @@
--- `marker::inner::marks::in_q` meets its contract. Assumes nothing.
+-- `marker::inner::openings::in_q` meets its contract. Assumes nothing.
 use Rattle.marker.proofs.Ranking.{in-past, in-one, in-two}
 use borrow.Author.Needs.{needs}
-use Rattle.marker.proofs.inner.marks.in_q.Statement.{statement}
-use Rattle.marker.proofs.inner.marks.in_q.Tie as tie
+use Rattle.marker.proofs.inner.openings.in_q.Statement.{statement}
+use Rattle.marker.proofs.inner.openings.in_q.Tie as tie
 
 returns : tie.Need-returns
 returns c = search in-past

@@ -1,5 +1,5 @@
--- Spans of a list, the elements from one index up to another, and work for each number of a span: how the parts of Algorithm 1 are said. No rule of
--- document 01 speaks of them.
+-- Spans of a list, the elements from one index up to another, and work for each number of a span: how the parts of
+-- Algorithm 1 are said. No rule of document 01 speaks of them.
 use mathlib.Core.Bool.{true, false}
 use mathlib.Core.List.{List}
 use Prim.Native.Nat.{ℕ, zero, suc, _+_}

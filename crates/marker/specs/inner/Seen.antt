@@ -1,9 +1,10 @@
--- Where Algorithm 1 has to look: sets of pairs, of 64 words at most, that have every pair that matters. No rule of document 01 speaks of them.
+-- Where Algorithm 1 has to look: sets of pairs, of 64 words at most, that have every pair that matters. No rule of
+-- document 01 speaks of them.
 use mathlib.Core.Path.{_≡_}
 use mathlib.Core.List.{List}
 use Prim.Native.Nat.{ℕ, _≤_, _<_}
 use lib.ListN.{length, getD}
-use Rattle.words.specs.Words.{Member}
+use Rattle.words.specs.inner.Words.{Member}
 
 -- every pair with a mark is a member of w
 pub record Holds (w m : List ℕ) : Type 0 where

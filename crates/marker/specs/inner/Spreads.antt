@@ -1,4 +1,5 @@
--- Pairs opened by passes and by rounds between them (lines 2 to 5 of Algorithm 1): contracts of inner functions, of which no rule speaks.
+-- Pairs opened by passes and by rounds between them (lines 2 to 5 of Algorithm 1): contracts of inner functions, of
+-- which no rule speaks.
 use mathlib.Core.Path.{_≡_}
 use mathlib.Core.Bool.{true, false}
 use mathlib.Core.List.{List}
@@ -8,7 +9,8 @@ use lib.Dec.{eqb, ltb}
 use lib.ListN.{length, getD, set}
 use Rattle.sets.specs.Sets.{with}
 use Rattle.records.specs.Records.{index}
-use Rattle.marker.specs.Marks.{nextOpening, Opened}
+use Rattle.marker.specs.Marks.{nextOpening}
+use Rattle.marker.specs.inner.Openings.{Opened}
 
 -- pairs were opened, one after another: y is what x has become. There was one at least, if r is not 0
 pub record Spread (t x : List ℕ) (r : ℕ) (y : List ℕ) : Type 0 where
@@ -29,4 +31,8 @@ ledTo l q n = elim (ltb n 4096) [ true ↦ set l q (with (getD l q 0) (n % 64)) 
 
 -- that of pair i's new place with those of its targets, if it is beyond
 unfoldable pub ledFrom : List ℕ → List ℕ → List ℕ → ℕ → List ℕ
-ledFrom t m l i = elim (eqb (getD m i 0) 4) [ true ↦ ledTo (ledTo l (i % 64) (getD t (index i 0) 0)) (i % 64) (getD t (index i 1) 0) | false ↦ l ]
+ledFrom t m l i =
+    elim (eqb (getD m i 0) 4) [
+      | true ↦ ledTo (ledTo l (i % 64) (getD t (index i 0) 0)) (i % 64) (getD t (index i 1) 0)
+      | false ↦ l
+    ]

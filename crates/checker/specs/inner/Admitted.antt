@@ -1,0 +1,17 @@
+-- What the rules are judged upon, once all other refusals have been tested: inner functions require it.
+use mathlib.Core.Path.{_≡_}
+use lib.ListN.{length}
+use Rattle.base.specs.Says.{Says}
+use Rattle.chart.specs.Charts.{Chart}
+use Rattle.chart.specs.Faultless.{FaultlessChart}
+use Rattle.records.specs.Records.{Graph}
+use Rattle.checker.specs.Rules.{targetsFit}
+
+-- two faultless charts, and a graph of the stated lengths whose targets are nodes or 65535
+pub record Admitted (old new : Chart) (G : Graph) : Type 0 where
+  pub old-faultless : FaultlessChart old
+  pub new-faultless : FaultlessChart new
+  pub marks-length : length (G .marks) ≡ 4160
+  pub targets-length : length (G .targets) ≡ 8192
+  pub sets-length : length (G .sets) ≡ 4096
+  pub targets-fit : Says (targetsFit (G .targets))

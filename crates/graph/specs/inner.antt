@@ -1,0 +1,3 @@
+-- What contracts of inner functions cite.
+pub mod Sized
+pub mod Tracks
