@@ -1,5 +1,5 @@
-// Places of the old and of the new chart: an old place number is never taken for a new one. A place is opened in three spots alone: here,
-// where it is compared with n, in the pair number and in the lookup.
+// Places of the old and of the new chart: an old place number is never taken for a new one. A place is opened in three
+// spots alone: here, where it is compared with n, in the pair number and in the lookup.
 ghost use mathlib.Core.Path.{_≡_};
 ghost use lib.Dec.{eqb, ltb};
 

@@ -1,2 +1,3 @@
-// What a build is made of. Its functions ask for the shape of the buffers and for who was seen: no entry point stands here.
+// What a build is made of. Its functions ask for the shape of the buffers and for who was seen: no entry point stands
+// here.
 pub mod finish; // finish.rt: the end of a build

@@ -45,8 +45,8 @@ pub fn meets_right(s: u64, o: Operation) -> bool
     meets(s, right(o))
 }
 
-// Whether some variable that an assumption compares is in s. One that compares with a constant has its variable for both, so that no
-// jump tells the kinds apart.
+// Whether some variable that an assumption compares is in s. One that compares with a constant has its variable for
+// both, so that no jump tells the kinds apart.
 pub fn meets_compared(s: u64, o: Operation) -> bool
     requires { ⌜ (isAssumption o ≡ true) × (operandsFit o ≡ true) ⌝ }
     ensures { λ r. ⌜ r ≡ meets s (readSet o) ⌝ }

@@ -51,8 +51,11 @@ fn assigned<'a>(
     requires { ⌜ FaultlessChart (charted old (now «old_rows»)) ⌝ }
     requires { ⌜ Indexed (now «old_rows») (now «new_rows») (now index) ⌝ }
     requires { ⌜ h .place .0 < 64 ⌝ }
-    requires { ⌜ (j < size (now part)) × (isAssignment (operation (now part) j) ≡ true) × (operandsFit (operation (now part) j) ≡ true) ⌝ }
-    ensures { λ r. ⌜ r ≡ assigned (charted old (now («old_rows» .entry))) h (operation (now (part .entry)) j) (find (rowsAt (charted old (now («old_rows» .entry))) (h .place)) (λ o. same o (operation (now (part .entry)) j))) ⌝ }
+    requires { ⌜ (j < size (now part)) × (isAssignment (operation (now part) j) ≡ true)
+        × (operandsFit (operation (now part) j) ≡ true) ⌝ }
+    ensures { λ r. ⌜ r ≡ assigned (charted old (now («old_rows» .entry))) h (operation (now (part .entry)) j)
+        (find (rowsAt (charted old (now («old_rows» .entry))) (h .place))
+        (λ o. same o (operation (now (part .entry)) j))) ⌝ }
 {
     let p = h.place;
     let rows = rows_of(old_rows, new_rows, index, Place::Old(p));
@@ -71,7 +74,8 @@ fn assigned<'a>(
 
 // By an assumption and row k of the old place, which is matched with it.
 fn matched(set: u64, rows: &[u32], k: usize, o: Operation) -> Aligned
-    requires { ⌜ (k < size (now rows)) × (isAssumption (operation (now rows) k) ≡ true) × (operandsFit (operation (now rows) k) ≡ true) ⌝ }
+    requires { ⌜ (k < size (now rows)) × (isAssumption (operation (now rows) k) ≡ true)
+        × (operandsFit (operation (now rows) k) ≡ true) ⌝ }
     requires { ⌜ (isAssumption o ≡ true) × (operandsFit o ≡ true) ⌝ }
     ensures { λ r. ⌜ told r ≡ matched set (now (rows .entry)) k o ⌝ }
 {
@@ -100,8 +104,10 @@ fn assumed<'a>(
     requires { ⌜ FaultlessChart (charted old (now «old_rows»)) ⌝ }
     requires { ⌜ Indexed (now «old_rows») (now «new_rows») (now index) ⌝ }
     requires { ⌜ h .place .0 < 64 ⌝ }
-    requires { ⌜ (j < size (now part)) × (isAssumption (operation (now part) j) ≡ true) × (operandsFit (operation (now part) j) ≡ true) ⌝ }
-    ensures { λ r. ⌜ told r ≡ assumed (charted old (now («old_rows» .entry))) h (operation (now (part .entry)) j) (counterpart (charted old (now («old_rows» .entry))) (h .place) (operation (now (part .entry)) j)) ⌝ }
+    requires { ⌜ (j < size (now part)) × (isAssumption (operation (now part) j) ≡ true)
+        × (operandsFit (operation (now part) j) ≡ true) ⌝ }
+    ensures { λ r. ⌜ told r ≡ assumed (charted old (now («old_rows» .entry))) h (operation (now (part .entry)) j)
+        (counterpart (charted old (now («old_rows» .entry))) (h .place) (operation (now (part .entry)) j)) ⌝ }
 {
     let p = h.place;
     if p.is(old.alarm) {
@@ -127,7 +133,8 @@ fn moved<'a>(
     requires { ⌜ FaultlessChart (charted old (now «old_rows»)) ⌝ }
     requires { ⌜ Indexed (now «old_rows») (now «new_rows») (now index) ⌝ }
     requires { ⌜ h .place .0 < 64 ⌝ }
-    requires { ⌜ (j < size (now part)) × (isKnown (operation (now part) j) ≡ true) × (operandsFit (operation (now part) j) ≡ true) ⌝ }
+    requires { ⌜ (j < size (now part)) × (isKnown (operation (now part) j) ≡ true)
+        × (operandsFit (operation (now part) j) ≡ true) ⌝ }
     ensures { λ r. ⌜ told r ≡ moved (charted old (now («old_rows» .entry))) h (operation (now (part .entry)) j) ⌝ }
 {
     if operations::is_assignment(operation_at(part, j)) {
@@ -163,8 +170,8 @@ fn arrived(old: Head, new: Head, q: NewPlace, came: Aligned) -> Aligned
     }
 }
 
-// The aligned step from an old place and its set by row j of the part. They come apart, each in a register: as a spot they would be written
-// narrow and read back wide, which stalls at each step.
+// The aligned step from an old place and its set by row j of the part. They come apart, each in a register: as a spot
+// they would be written narrow and read back wide, which stalls at each step.
 pub fn step<'a>(
     old: Head,
     old_rows: &'a [u32],
@@ -179,8 +186,11 @@ pub fn step<'a>(
     requires { ⌜ FaultlessChart (charted old (now «old_rows»)) ⌝ }
     requires { ⌜ Indexed (now «old_rows») (now «new_rows») (now index) ⌝ }
     requires { ⌜ p .0 < 64 ⌝ }
-    requires { ⌜ (j < size (now part)) × (isKnown (operation (now part) j) ≡ true) × (operandsFit (operation (now part) j) ≡ true) ⌝ }
-    ensures { λ r. ⌜ told r ≡ step (charted old (now («old_rows» .entry))) (charted new (now («new_rows» .entry))) (record { place = p; set = set }) (operation (now (part .entry)) j) (record { 0 = to (now (part .entry)) j }) ⌝ }
+    requires { ⌜ (j < size (now part)) × (isKnown (operation (now part) j) ≡ true)
+        × (operandsFit (operation (now part) j) ≡ true) ⌝ }
+    ensures { λ r. ⌜ told r ≡ step (charted old (now («old_rows» .entry))) (charted new (now («new_rows» .entry)))
+        (record { place = p; set = set }) (operation (now (part .entry)) j)
+        (record { 0 = to (now (part .entry)) j }) ⌝ }
 {
     let h = Spot { place: p, set };
     arrived(

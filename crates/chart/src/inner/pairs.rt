@@ -1,4 +1,5 @@
-// The numbers of nodes: a pair, where alone an old and a new place are joined, and a kept new place; and sets of old places.
+// The numbers of nodes: a pair, where alone an old and a new place are joined, and a kept new place; and sets of old
+// places.
 ghost use mathlib.Core.Path.{_≡_};
 ghost use Prim.Native.Nat.{_^_, _<_};
 ghost use Rattle.chart.specs.Places.{pairNumber, keptNumber, oldOf, newOf, startPair, startKept};

@@ -68,10 +68,13 @@ fn target_fault<'a>(
     rows: &'a [u32],
     k: usize,
 ) -> Found
-    requires { ⌜ Admitted (charted old (now «old_rows»)) (charted new (now «new_rows»)) (graphOf (now marks) (now targets) (now sets)) ⌝ }
+    requires { ⌜ Admitted (charted old (now «old_rows»)) (charted new (now «new_rows»))
+        (graphOf (now marks) (now targets) (now sets)) ⌝ }
     requires { ⌜ Indexed (now «old_rows») (now «new_rows») (now index) ⌝ }
     requires { ⌜ (m < 4096) × (now rows ≡ leaving (now «new_rows») (newOf m .0)) × (k < 2) ⌝ }
-    ensures { λ r. ⌜ toldFound r ≡ targetFault (charted old (now («old_rows» .entry))) (charted new (now («new_rows» .entry))) (graphOf (now (marks .entry)) (now (targets .entry)) (now (sets .entry))) m (now (rows .entry)) k ⌝ }
+    ensures { λ r. ⌜ toldFound r ≡ targetFault (charted old (now («old_rows» .entry)))
+        (charted new (now («new_rows» .entry))) (graphOf (now (marks .entry)) (now (targets .entry))
+        (now (sets .entry))) m (now (rows .entry)) k ⌝ }
 {
     let n = rows.len() / 6;
     if n <= k {
@@ -108,10 +111,13 @@ fn rows_fault<'a>(
     m: usize,
     rows: &'a [u32],
 ) -> Found
-    requires { ⌜ Admitted (charted old (now «old_rows»)) (charted new (now «new_rows»)) (graphOf (now marks) (now targets) (now sets)) ⌝ }
+    requires { ⌜ Admitted (charted old (now «old_rows»)) (charted new (now «new_rows»))
+        (graphOf (now marks) (now targets) (now sets)) ⌝ }
     requires { ⌜ Indexed (now «old_rows») (now «new_rows») (now index) ⌝ }
     requires { ⌜ (m < 4096) × (now rows ≡ leaving (now «new_rows») (newOf m .0)) ⌝ }
-    ensures { λ r. ⌜ toldFound r ≡ rowsFault (charted old (now («old_rows» .entry))) (charted new (now («new_rows» .entry))) (graphOf (now (marks .entry)) (now (targets .entry)) (now (sets .entry))) m (now (rows .entry)) ⌝ }
+    ensures { λ r. ⌜ toldFound r ≡ rowsFault (charted old (now («old_rows» .entry)))
+        (charted new (now («new_rows» .entry))) (graphOf (now (marks .entry)) (now (targets .entry))
+        (now (sets .entry))) m (now (rows .entry)) ⌝ }
 {
     let mut k = 0;
     while k < 2 {
@@ -148,10 +154,13 @@ fn pair_fault<'a>(
     sets: &[u64],
     m: usize,
 ) -> Found
-    requires { ⌜ Admitted (charted old (now «old_rows»)) (charted new (now «new_rows»)) (graphOf (now marks) (now targets) (now sets)) ⌝ }
+    requires { ⌜ Admitted (charted old (now «old_rows»)) (charted new (now «new_rows»))
+        (graphOf (now marks) (now targets) (now sets)) ⌝ }
     requires { ⌜ Indexed (now «old_rows») (now «new_rows») (now index) ⌝ }
     requires { ⌜ m < 4096 ⌝ }
-    ensures { λ r. ⌜ toldFound r ≡ pairFault (charted old (now («old_rows» .entry))) (charted new (now («new_rows» .entry))) (graphOf (now (marks .entry)) (now (targets .entry)) (now (sets .entry))) m ⌝ }
+    ensures { λ r. ⌜ toldFound r ≡ pairFault (charted old (now («old_rows» .entry)))
+        (charted new (now («new_rows» .entry))) (graphOf (now (marks .entry)) (now (targets .entry))
+        (now (sets .entry))) m ⌝ }
 {
     if marks[m] == 0 {
         return Found::Nothing;
@@ -195,7 +204,8 @@ fn eight(marks: &[u8], n: usize) -> u64
     four(marks, n) + 4294967296 * four(marks, n + 4)
 }
 
-// How many of the marks from n on are 0: of eight, those before the first that is not, else those up to the next group of eight.
+// How many of the marks from n on are 0: of eight, those before the first that is not, else those up to the next group
+// of eight.
 fn absent(marks: &[u8], n: usize) -> usize
     requires { ⌜ n + 8 ≤ length (now marks) ⌝ }
     ensures { λ r. ⌜ (r ≤ 8) × ((i : ℕ) → n ≤ i → i < n + r → getD (now (marks .entry)) i 0 ≡ 0) ⌝ }
@@ -247,9 +257,12 @@ fn first_fault<'a>(
     targets: &[u16],
     sets: &[u64],
 ) -> Found
-    requires { ⌜ Admitted (charted old (now «old_rows»)) (charted new (now «new_rows»)) (graphOf (now marks) (now targets) (now sets)) ⌝ }
+    requires { ⌜ Admitted (charted old (now «old_rows»)) (charted new (now «new_rows»))
+        (graphOf (now marks) (now targets) (now sets)) ⌝ }
     requires { ⌜ Indexed (now «old_rows») (now «new_rows») (now index) ⌝ }
-    ensures { λ r. ⌜ toldFound r ≡ firstOf 4096 (pairFault (charted old (now («old_rows» .entry))) (charted new (now («new_rows» .entry))) (graphOf (now (marks .entry)) (now (targets .entry)) (now (sets .entry)))) ⌝ }
+    ensures { λ r. ⌜ toldFound r ≡ firstOf 4096 (pairFault (charted old (now («old_rows» .entry)))
+        (charted new (now («new_rows» .entry))) (graphOf (now (marks .entry)) (now (targets .entry))
+        (now (sets .entry)))) ⌝ }
 {
     let mut m = 0;
     while m < 4096 {
@@ -274,9 +287,12 @@ pub fn broken<'a>(
     targets: &[u16],
     sets: &[u64],
 ) -> Found
-    requires { ⌜ Admitted (charted old (now «old_rows»)) (charted new (now «new_rows»)) (graphOf (now marks) (now targets) (now sets)) ⌝ }
+    requires { ⌜ Admitted (charted old (now «old_rows»)) (charted new (now «new_rows»))
+        (graphOf (now marks) (now targets) (now sets)) ⌝ }
     requires { ⌜ Indexed (now «old_rows») (now «new_rows») (now index) ⌝ }
-    ensures { λ r. ⌜ toldFound r ≡ broken (charted old (now («old_rows» .entry))) (charted new (now («new_rows» .entry))) (recordOf start (now (marks .entry)) (now (targets .entry)) (now (sets .entry))) ⌝ }
+    ensures { λ r. ⌜ toldFound r ≡ broken (charted old (now («old_rows» .entry)))
+        (charted new (now («new_rows» .entry))) (recordOf start (now (marks .entry)) (now (targets .entry))
+        (now (sets .entry))) ⌝ }
 {
     if !start_fits(old, new, start, marks) {
         return Found::At(8192);

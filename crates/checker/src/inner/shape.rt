@@ -42,11 +42,13 @@ fn rated(x: u8, never: u8) -> u8
     x
 }
 
-// The largest of n marks, 255 if one is `never`: at most k exactly where each is, and none is `never`. There is no early end, so that many
-// are taken at once.
+// The largest of n marks, 255 if one is `never`: at most k exactly where each is, and none is `never`. There is no
+// early end, so that many are taken at once.
 fn worst(marks: &[u8], from: usize, n: usize, never: u8) -> u8
     requires { ⌜ from + n ≤ length (now marks) ⌝ }
-    ensures { λ r. ⌜ ((k : ℕ) → k < 255 → leb r k ≡ bool (each n (λ j. ne (getD (now (marks .entry)) (from + j) 0) never and le (getD (now (marks .entry)) (from + j) 0) k))) ⌝ }
+    ensures { λ r. ⌜ ((k : ℕ) → k < 255 → leb r k ≡ bool
+        (each n (λ j. ne (getD (now (marks .entry)) (from + j) 0) never and le
+        (getD (now (marks .entry)) (from + j) 0) k))) ⌝ }
 {
     let mut w = 0;
     let mut j = 0;
@@ -60,7 +62,8 @@ fn worst(marks: &[u8], from: usize, n: usize, never: u8) -> u8
 // Of 64 marks, whether the first n are at most `most` and not `never`, and the others 0.
 fn line_fits(marks: &[u8], from: usize, n: usize, most: u8, never: u8) -> bool
     requires { ⌜ (from + 64 ≤ length (now marks)) × (n ≤ 64) × (most < 255) × (0 < never) ⌝ }
-    ensures { λ r. ⌜ r ≡ bool (each 64 (λ j. eq (getD (now (marks .entry)) (from + j) 0) 0 or below j n and ne (getD (now (marks .entry)) (from + j) 0) never and le (getD (now (marks .entry)) (from + j) 0) most)) ⌝ }
+    ensures { λ r. ⌜ r ≡ bool (each 64 (λ j. eq (getD (now (marks .entry)) (from + j) 0) 0 or below j n and ne
+        (getD (now (marks .entry)) (from + j) 0) never and le (getD (now (marks .entry)) (from + j) 0) most)) ⌝ }
 {
     if most < worst(marks, from, n, never) {
         return false;
@@ -81,7 +84,8 @@ fn shown(n: u32) -> usize
 // Whether the 64 nodes at old place p have marks that can be: for pairs 1, 3 or 4, and for the kept nodes, p = 64, 2.
 fn place_fits(old: Head, new: Head, marks: &[u8], p: usize) -> bool
     requires { ⌜ (p < 65) × (length (now marks) ≡ 4160) ⌝ }
-    ensures { λ r. ⌜ r ≡ bool (each 64 (λ j. markFits old new (64 * p + j) (getD (now (marks .entry)) (64 * p + j) 0))) ⌝ }
+    ensures { λ r. ⌜ r ≡ bool (each 64 (λ j. markFits old new (64 * p + j)
+        (getD (now (marks .entry)) (64 * p + j) 0))) ⌝ }
 {
     let from = 64 * p;
     let n = shown(new.places);

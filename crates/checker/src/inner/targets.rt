@@ -1,5 +1,5 @@
-// The rules for one target of a present pair (refusal 32). `rows` is the part of the new table that leaves the pair's new place, k the
-// row's number in it, t the target.
+// The rules for one target of a present pair (refusal 32). `rows` is the part of the new table that leaves the pair's
+// new place, k the row's number in it, t the target.
 ghost use mathlib.Core.Path.{_≡_};
 ghost use Prim.Native.Nat.{_<_};
 ghost use lib.ListN.{length};
@@ -108,10 +108,14 @@ fn joins_step<'a>(
     k: usize,
     t: usize,
 ) -> bool
-    requires { ⌜ Admitted (charted old (now «old_rows»)) (charted new (now «new_rows»)) (graphOf (now marks) (now targets) (now sets)) ⌝ }
+    requires { ⌜ Admitted (charted old (now «old_rows»)) (charted new (now «new_rows»))
+        (graphOf (now marks) (now targets) (now sets)) ⌝ }
     requires { ⌜ Indexed (now «old_rows») (now «new_rows») (now index) ⌝ }
     requires { ⌜ (m < 4096) × (now rows ≡ leaving (now «new_rows») (newOf m .0)) × (k < size (now rows)) ⌝ }
-    ensures { λ r. ⌜ r ≡ joinsStep (now (marks .entry)) (now (sets .entry)) (record { 0 = to (now (rows .entry)) k }) t (step (charted old (now («old_rows» .entry))) (charted new (now («new_rows» .entry))) (spot (graphOf (now (marks .entry)) (now (targets .entry)) (now (sets .entry))) m) (operation (now (rows .entry)) k) (record { 0 = to (now (rows .entry)) k })) ⌝ }
+    ensures { λ r. ⌜ r ≡ joinsStep (now (marks .entry)) (now (sets .entry)) (record { 0 = to (now (rows .entry)) k }) t
+        (step (charted old (now («old_rows» .entry))) (charted new (now («new_rows» .entry)))
+        (spot (graphOf (now (marks .entry)) (now (targets .entry)) (now (sets .entry))) m)
+        (operation (now (rows .entry)) k) (record { 0 = to (now (rows .entry)) k })) ⌝ }
 {
     match step(
         old,
@@ -144,10 +148,13 @@ fn leads<'a>(
     k: usize,
     t: usize,
 ) -> bool
-    requires { ⌜ Admitted (charted old (now «old_rows»)) (charted new (now «new_rows»)) (graphOf (now marks) (now targets) (now sets)) ⌝ }
+    requires { ⌜ Admitted (charted old (now «old_rows»)) (charted new (now «new_rows»))
+        (graphOf (now marks) (now targets) (now sets)) ⌝ }
     requires { ⌜ Indexed (now «old_rows») (now «new_rows») (now index) ⌝ }
     requires { ⌜ (m < 4096) × (now rows ≡ leaving (now «new_rows») (newOf m .0)) × (k < size (now rows)) ⌝ }
-    ensures { λ r. ⌜ r ≡ bool (leads (charted old (now («old_rows» .entry))) (charted new (now («new_rows» .entry))) (graphOf (now (marks .entry)) (now (targets .entry)) (now (sets .entry))) m (operation (now (rows .entry)) k) (record { 0 = to (now (rows .entry)) k }) t) ⌝ }
+    ensures { λ r. ⌜ r ≡ bool (leads (charted old (now («old_rows» .entry))) (charted new (now («new_rows» .entry)))
+        (graphOf (now (marks .entry)) (now (targets .entry)) (now (sets .entry))) m (operation (now (rows .entry)) k)
+        (record { 0 = to (now (rows .entry)) k }) t) ⌝ }
 {
     let p = old_of(m);
     let q = new_to(rows, k);
@@ -187,10 +194,12 @@ pub fn row_fits<'a>(
     rows: &'a [u32],
     k: usize,
 ) -> bool
-    requires { ⌜ Admitted (charted old (now «old_rows»)) (charted new (now «new_rows»)) (graphOf (now marks) (now targets) (now sets)) ⌝ }
+    requires { ⌜ Admitted (charted old (now «old_rows»)) (charted new (now «new_rows»))
+        (graphOf (now marks) (now targets) (now sets)) ⌝ }
     requires { ⌜ Indexed (now «old_rows») (now «new_rows») (now index) ⌝ }
     requires { ⌜ (m < 4096) × (now rows ≡ leaving (now «new_rows») (newOf m .0)) × (k < size (now rows)) × (k < 2) ⌝ }
-    ensures { λ r. ⌜ r ≡ bool (rowFits (charted old (now («old_rows» .entry))) (charted new (now («new_rows» .entry))) (graphOf (now (marks .entry)) (now (targets .entry)) (now (sets .entry))) m (now (rows .entry)) k) ⌝ }
+    ensures { λ r. ⌜ r ≡ bool (rowFits (charted old (now («old_rows» .entry))) (charted new (now («new_rows» .entry)))
+        (graphOf (now (marks .entry)) (now (targets .entry)) (now (sets .entry))) m (now (rows .entry)) k) ⌝ }
 {
     let at = 2 * m + k;
     let t = targets[at] as usize;

@@ -44,8 +44,10 @@ fn redirect(marks: &[u8], x: u16) -> u16
 // Both targets of the pairs with old place p that are bits of the word: no other has one.
 fn redirect_word(marks: &[u8], targets: &mut [u16], p: usize, word: u64)
     requires { ⌜ (length (now marks) ≡ 4160) × (length (now targets) ≡ 8192) × (p < 64) ⌝ }
-    requires { ⌜ ((i r : ℕ) → i < 64 → r < 2 → (getD (now targets) (index (64 * p + i) r) 0 ≡ 65535 → ⊥) → bit word i ≡ 1) ⌝ }
-    ensures { λ _. ⌜ now (targets .exit) ≡ remade (128 * p) (128 * p + 128) (redirected (now (marks .entry))) (now (targets .entry)) ⌝ }
+    requires { ⌜ ((i r : ℕ) → i < 64 → r < 2 → (getD (now targets) (index (64 * p + i) r) 0 ≡ 65535 → ⊥) → bit word i
+        ≡ 1) ⌝ }
+    ensures { λ _. ⌜ now (targets .exit) ≡ remade (128 * p) (128 * p + 128) (redirected (now (marks .entry)))
+        (now (targets .entry)) ⌝ }
 {
     let mut rest = word;
     while rest != 0 {
@@ -62,7 +64,8 @@ fn redirect_word(marks: &[u8], targets: &mut [u16], p: usize, word: u64)
 // Those of every pair that was seen.
 fn redirect_all(marks: &[u8], targets: &mut [u16], seen: &[u64])
     requires { ⌜ (length (now marks) ≡ 4160) × (length (now targets) ≡ 8192) × (length (now seen) ≤ 64) ⌝ }
-    requires { ⌜ ((i r : ℕ) → i < 4096 → r < 2 → (getD (now targets) (index i r) 0 ≡ 65535 → ⊥) → Member (now seen) i) ⌝ }
+    requires { ⌜ ((i r : ℕ) → i < 4096 → r < 2 → (getD (now targets) (index i r) 0 ≡ 65535 → ⊥)
+        → Member (now seen) i) ⌝ }
     ensures { λ _. ⌜ now (targets .exit) ≡ map (redirected (now (marks .entry))) (now (targets .entry)) ⌝ }
 {
     let mut p = 0;
@@ -75,7 +78,8 @@ fn redirect_all(marks: &[u8], targets: &mut [u16], seen: &[u64])
 // The same. Where no place is kept, which is soon seen, no target is redirected.
 fn redirect_kept(marks: &[u8], targets: &mut [u16], seen: &[u64])
     requires { ⌜ (length (now marks) ≡ 4160) × (length (now targets) ≡ 8192) × (length (now seen) ≤ 64) ⌝ }
-    requires { ⌜ ((i r : ℕ) → i < 4096 → r < 2 → (getD (now targets) (index i r) 0 ≡ 65535 → ⊥) → Member (now seen) i) ⌝ }
+    requires { ⌜ ((i r : ℕ) → i < 4096 → r < 2 → (getD (now targets) (index i r) 0 ≡ 65535 → ⊥)
+        → Member (now seen) i) ⌝ }
     ensures { λ _. ⌜ now (targets .exit) ≡ map (redirected (now (marks .entry))) (now (targets .entry)) ⌝ }
 {
     if blank(marks, 4096, 64) {
@@ -86,7 +90,8 @@ fn redirect_kept(marks: &[u8], targets: &mut [u16], seen: &[u64])
 
 // So many words from the first on have all members: those behind the last that is not 0 have none.
 fn used(seen: &[u64]) -> usize
-    ensures { λ r. ⌜ (r ≤ length (now (seen .entry))) × ((n : ℕ) → Member (now (seen .entry)) n → Member (take r (now (seen .entry))) n) ⌝ }
+    ensures { λ r. ⌜ (r ≤ length (now (seen .entry))) × ((n : ℕ) → Member (now (seen .entry)) n
+        → Member (take r (now (seen .entry))) n) ⌝ }
 {
     let mut n = seen.len();
     while 0 < n {
@@ -119,7 +124,8 @@ fn leave_alone(
     waiting: &mut [u8],
 )
     requires { ⌜ Sized (buffers (now marks) (now targets) (now sets) (now waiting)) ⌝ }
-    ensures { λ _. ⌜ buffers (now (marks .exit)) (now (targets .exit)) (now (sets .exit)) (now (waiting .exit)) ≡ lone new ⌝ }
+    ensures { λ _. ⌜ buffers (now (marks .exit)) (now (targets .exit)) (now (sets .exit)) (now (waiting .exit))
+        ≡ lone new ⌝ }
 {
     buffers::fill8(marks, 0);
     buffers::put8(marks, start_kept(new), 2);
@@ -141,7 +147,8 @@ fn one_if(x: u8, v: u8) -> u8
 // How many of the 64 marks from i on are v. Few enough for a small number, so that many are counted together.
 fn count_row(marks: &[u8], i: usize, v: u8) -> usize
     requires { ⌜ i + 64 ≤ length (now marks) ⌝ }
-    ensures { λ r. ⌜ (count v (drop i (now (marks .entry))) ≡ r + count v (drop (i + 64) (now (marks .entry)))) × (r ≤ 64) ⌝ }
+    ensures { λ r. ⌜ (count v (drop i (now (marks .entry))) ≡ r + count v (drop (i + 64) (now (marks .entry))))
+        × (r ≤ 64) ⌝ }
 {
     let mut n = 0;
     let mut k = i;
@@ -152,9 +159,9 @@ fn count_row(marks: &[u8], i: usize, v: u8) -> usize
     n as usize
 }
 
-// The final contents of the buffers, where no pair waits, and the start with the counts of marks 1, 2 and 3. Only pairs that were seen are looked
-// at, up to the last word that has one: all that have something in a buffer, the start pair unless its new place is left alone. Whoever has buffers as found hands over a set
-// with all pairs.
+// The final contents of the buffers, where no pair waits, and the start with the counts of marks 1, 2 and 3. Only pairs
+// that were seen are looked at, up to the last word that has one: all that have something in a buffer, the start pair
+// unless its new place is left alone. Whoever has buffers as found hands over a set with all pairs.
 pub fn finish(
     old: Head,
     new: Head,
@@ -165,9 +172,11 @@ pub fn finish(
     seen: &[u64],
 ) -> Summary
     requires { ⌜ Sized (buffers (now marks) (now targets) (now sets) (now waiting)) ⌝ }
-    requires { ⌜ Covers (now seen) (buffers (now marks) (now targets) (now sets) (now waiting)) × (alone old new (now marks) ≡ false → Member (now seen) (startPair old new)) ⌝ }
+    requires { ⌜ Covers (now seen) (buffers (now marks) (now targets) (now sets) (now waiting))
+        × (alone old new (now marks) ≡ false → Member (now seen) (startPair old new)) ⌝ }
     ensures { λ r. ⌜ (buffers (now (marks .exit)) (now (targets .exit)) (now (sets .exit)) (now (waiting .exit))
-        ≡ finished old new (buffers (now (marks .entry)) (now (targets .entry)) (now (sets .entry)) (now (waiting .entry))))
+        ≡ finished old new (buffers (now (marks .entry)) (now (targets .entry)) (now (sets .entry))
+        (now (waiting .entry))))
         × (r ≡ summary (startOf old new (now (marks .entry))) (now (marks .exit))) ⌝ }
 {
     if is_alone(old, new, &*marks) {

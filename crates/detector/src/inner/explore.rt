@@ -28,7 +28,8 @@ fn begin(
     waiting: &mut [u8],
 )
     requires { ⌜ Sized (buffers (now marks) (now targets) (now sets) (now waiting)) ⌝ }
-    ensures { λ _. ⌜ ((o n : List ℕ) → buffers (now (marks .exit)) (now (targets .exit)) (now (sets .exit)) (now (waiting .exit)) ≡ begun (charted old o) (charted new n)) ⌝ }
+    ensures { λ _. ⌜ ((o n : List ℕ) → buffers (now (marks .exit)) (now (targets .exit)) (now (sets .exit))
+        (now (waiting .exit)) ≡ begun (charted old o) (charted new n)) ⌝ }
 {
     let first = start_pair(old, new);
     buffers::fill8(marks, 0);
@@ -39,8 +40,8 @@ fn begin(
     buffers::put8(waiting, first, 1);
 }
 
-// Takes the lowest waiting pair up, as long as one waits. So that nobody looks at every pair, `waits` lists whoever waits, and
-// `seen` has whoever comes into the graph; what `seen` had before it keeps.
+// Takes the lowest waiting pair up, as long as one waits. So that nobody looks at every pair, `waits` lists whoever
+// waits, and `seen` has whoever comes into the graph; what `seen` had before it keeps.
 pub fn explore<'a>(
     old: Head,
     old_rows: &'a [u32],
@@ -57,7 +58,8 @@ pub fn explore<'a>(
     requires { ⌜ FaultlessChart (charted new (now «new_rows»)) ⌝ }
     requires { ⌜ Indexed (now «old_rows») (now «new_rows») (now index) ⌝ }
     requires { ⌜ Sized (buffers (now marks) (now targets) (now sets) (now waiting)) × (length (now seen) ≡ 64) ⌝ }
-    ensures { λ _. ⌜ Covers (now (seen .exit)) (buffers (now (marks .exit)) (now (targets .exit)) (now (sets .exit)) (now (waiting .exit))) ⌝ }
+    ensures { λ _. ⌜ Covers (now (seen .exit)) (buffers (now (marks .exit)) (now (targets .exit)) (now (sets .exit))
+        (now (waiting .exit))) ⌝ }
     ensures { λ _. ⌜ buffers (now (marks .exit)) (now (targets .exit)) (now (sets .exit)) (now (waiting .exit))
         ≡ explored (charted old (now («old_rows» .entry))) (charted new (now («new_rows» .entry))) ⌝ }
 {

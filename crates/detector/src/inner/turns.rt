@@ -44,7 +44,8 @@ fn next_pair(word: u64) -> usize
 // The lowest pair of old place p that waits. Bits of its word that wait no more are met once, and dropped.
 fn lowest_of(waits: &mut [u64], waiting: &[u8], p: usize) -> Found
     requires { ⌜ (length (now waiting) ≡ 4096) × (p < 64) × Lists (now waits) (now waiting) ⌝ }
-    ensures { λ r. ⌜ LowestOf (now (waiting .entry)) p (toldFound r) × Lists (now (waits .exit)) (now (waiting .entry)) ⌝ }
+    ensures { λ r. ⌜ LowestOf (now (waiting .entry)) p (toldFound r)
+        × Lists (now (waits .exit)) (now (waiting .entry)) ⌝ }
     ensures { λ _. ⌜ getD (now (waits .exit)) 64 0 ≡ getD (now (waits .entry)) 64 0 ⌝ }
 {
     let mut word = waits[p];
@@ -60,11 +61,12 @@ fn lowest_of(waits: &mut [u64], waiting: &[u8], p: usize) -> Found
     Found::Nothing
 }
 
-// The lowest pair that waits. Only the old places that the list's last word names may have one; those that have none are met
-// once, and dropped.
+// The lowest pair that waits. Only the old places that the list's last word names may have one; those that have none
+// are met once, and dropped.
 pub fn lowest(waits: &mut [u64], waiting: &[u8]) -> Found
     requires { ⌜ (length (now waiting) ≡ 4096) × Lists (now waits) (now waiting) ⌝ }
-    ensures { λ r. ⌜ (toldFound r ≡ lowest (now (waiting .entry))) × Lists (now (waits .exit)) (now (waiting .entry)) ⌝ }
+    ensures { λ r. ⌜ (toldFound r ≡ lowest (now (waiting .entry)))
+        × Lists (now (waits .exit)) (now (waiting .entry)) ⌝ }
 {
     while waits[64] != 0 {
         let p = members::lowest(waits[64]);
@@ -97,9 +99,11 @@ fn arrive(
     requires { ⌜ (n < 4096) × (r < 2) × (q .0 < 64) × (h .place .0 < 64) ⌝ }
     requires { ⌜ Sized (buffers (now marks) (now targets) (now sets) (now waiting)) ⌝ }
     requires { ⌜ Tracks (now waits) (now seen) (buffers (now marks) (now targets) (now sets) (now waiting)) ⌝ }
-    ensures { λ _. ⌜ Tracks (now (waits .exit)) (now (seen .exit)) (buffers (now (marks .exit)) (now (targets .exit)) (now (sets .exit)) (now (waiting .exit))) ⌝ }
+    ensures { λ _. ⌜ Tracks (now (waits .exit)) (now (seen .exit))
+        (buffers (now (marks .exit)) (now (targets .exit)) (now (sets .exit)) (now (waiting .exit))) ⌝ }
     ensures { λ _. ⌜ buffers (now (marks .exit)) (now (targets .exit)) (now (sets .exit)) (now (waiting .exit))
-        ≡ arrived (old .alarm) (buffers (now (marks .entry)) (now (targets .entry)) (now (sets .entry)) (now (waiting .entry))) n r q h ⌝ }
+        ≡ arrived (old .alarm) (buffers (now (marks .entry)) (now (targets .entry)) (now (sets .entry))
+        (now (waiting .entry))) n r q h ⌝ }
 {
     let node = kept(q);
     if graphs::is_marked(&*marks, node) {
@@ -129,9 +133,11 @@ fn process(
     requires { ⌜ ((h : Spot) → told came ≡ some h → h .place .0 < 64) ⌝ }
     requires { ⌜ Sized (buffers (now marks) (now targets) (now sets) (now waiting)) ⌝ }
     requires { ⌜ Tracks (now waits) (now seen) (buffers (now marks) (now targets) (now sets) (now waiting)) ⌝ }
-    ensures { λ _. ⌜ Tracks (now (waits .exit)) (now (seen .exit)) (buffers (now (marks .exit)) (now (targets .exit)) (now (sets .exit)) (now (waiting .exit))) ⌝ }
+    ensures { λ _. ⌜ Tracks (now (waits .exit)) (now (seen .exit))
+        (buffers (now (marks .exit)) (now (targets .exit)) (now (sets .exit)) (now (waiting .exit))) ⌝ }
     ensures { λ _. ⌜ buffers (now (marks .exit)) (now (targets .exit)) (now (sets .exit)) (now (waiting .exit))
-        ≡ processed (old .alarm) (buffers (now (marks .entry)) (now (targets .entry)) (now (sets .entry)) (now (waiting .entry))) n r q (told came) ⌝ }
+        ≡ processed (old .alarm) (buffers (now (marks .entry)) (now (targets .entry)) (now (sets .entry))
+        (now (waiting .entry))) n r q (told came) ⌝ }
 {
     match came {
         Aligned::To(h) => {
@@ -167,9 +173,11 @@ fn row<'a>(
     requires { ⌜ (n < 4096) × (r < 2) ⌝ }
     requires { ⌜ Sized (buffers (now marks) (now targets) (now sets) (now waiting)) ⌝ }
     requires { ⌜ Tracks (now waits) (now seen) (buffers (now marks) (now targets) (now sets) (now waiting)) ⌝ }
-    ensures { λ _. ⌜ Tracks (now (waits .exit)) (now (seen .exit)) (buffers (now (marks .exit)) (now (targets .exit)) (now (sets .exit)) (now (waiting .exit))) ⌝ }
+    ensures { λ _. ⌜ Tracks (now (waits .exit)) (now (seen .exit))
+        (buffers (now (marks .exit)) (now (targets .exit)) (now (sets .exit)) (now (waiting .exit))) ⌝ }
     ensures { λ _. ⌜ buffers (now (marks .exit)) (now (targets .exit)) (now (sets .exit)) (now (waiting .exit))
-        ≡ rowDone (charted old (now («old_rows» .entry))) (charted new (now («new_rows» .entry))) (buffers (now (marks .entry)) (now (targets .entry)) (now (sets .entry)) (now (waiting .entry))) n v r ⌝ }
+        ≡ rowDone (charted old (now («old_rows» .entry))) (charted new (now («new_rows» .entry)))
+        (buffers (now (marks .entry)) (now (targets .entry)) (now (sets .entry)) (now (waiting .entry))) n v r ⌝ }
 {
     let part = rows_of(old_rows, new_rows, index, Place::New(new_of(n)));
     if r < part.len() / 6 {
@@ -222,9 +230,11 @@ pub fn turn<'a>(
     requires { ⌜ n < 4096 ⌝ }
     requires { ⌜ Sized (buffers (now marks) (now targets) (now sets) (now waiting)) ⌝ }
     requires { ⌜ Tracks (now waits) (now seen) (buffers (now marks) (now targets) (now sets) (now waiting)) ⌝ }
-    ensures { λ _. ⌜ Tracks (now (waits .exit)) (now (seen .exit)) (buffers (now (marks .exit)) (now (targets .exit)) (now (sets .exit)) (now (waiting .exit))) ⌝ }
+    ensures { λ _. ⌜ Tracks (now (waits .exit)) (now (seen .exit))
+        (buffers (now (marks .exit)) (now (targets .exit)) (now (sets .exit)) (now (waiting .exit))) ⌝ }
     ensures { λ _. ⌜ buffers (now (marks .exit)) (now (targets .exit)) (now (sets .exit)) (now (waiting .exit))
-        ≡ taken (charted old (now («old_rows» .entry))) (charted new (now («new_rows» .entry))) (buffers (now (marks .entry)) (now (targets .entry)) (now (sets .entry)) (now (waiting .entry))) n ⌝ }
+        ≡ taken (charted old (now («old_rows» .entry))) (charted new (now («new_rows» .entry)))
+        (buffers (now (marks .entry)) (now (targets .entry)) (now (sets .entry)) (now (waiting .entry))) n ⌝ }
 {
     let mut v = sets[n];
     buffers::put8(waiting, n, 0);

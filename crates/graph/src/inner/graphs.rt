@@ -46,7 +46,8 @@ fn leave(marks: &mut [u8], targets: &mut [u16], sets: &mut [u64], waiting: &mut 
     waiting[n] = 0;
 }
 
-// All pairs with new place q leave. Those not seen have nothing to leave, and where none of them was seen, none is looked for.
+// All pairs with new place q leave. Those not seen have nothing to leave, and where none of them was seen, none is
+// looked for.
 fn leave_all(
     marks: &mut [u8],
     targets: &mut [u16],
@@ -58,8 +59,10 @@ fn leave_all(
     requires { ⌜ q .0 < 64 ⌝ }
     requires { ⌜ Sized (buffers (now marks) (now targets) (now sets) (now waiting)) ⌝ }
     requires { ⌜ Covers (now seen) (buffers (now marks) (now targets) (now sets) (now waiting)) ⌝ }
-    ensures { λ _. ⌜ (now (marks .exit) ≡ cleared q (now (marks .entry))) × (now (targets .exit) ≡ untargeted q (now (targets .entry)))
-        × (now (sets .exit) ≡ cleared q (now (sets .entry))) × (now (waiting .exit) ≡ cleared q (now (waiting .entry))) ⌝ }
+    ensures { λ _. ⌜ (now (marks .exit) ≡ cleared q (now (marks .entry)))
+        × (now (targets .exit) ≡ untargeted q (now (targets .entry)))
+        × (now (sets .exit) ≡ cleared q (now (sets .entry)))
+        × (now (waiting .exit) ≡ cleared q (now (waiting .entry))) ⌝ }
 {
     let k = pair(OldPlace(0), q);
     if !meets(members::gathered(seen), alone(k as u32)) {
@@ -95,7 +98,8 @@ pub fn keep(
 pub fn aim(marks: &[u8], targets: &mut [u16], n: usize, r: usize, to: usize)
     requires { ⌜ (n < 4096) × (r < 2) × (to < 65536) ⌝ }
     requires { ⌜ (length (now marks) ≡ 4160) × (length (now targets) ≡ 8192) ⌝ }
-    ensures { λ _. ⌜ ((s w : List ℕ) → buffers (now (marks .entry)) (now (targets .exit)) s w ≡ aim (buffers (now (marks .entry)) (now (targets .entry)) s w) n r to) ⌝ }
+    ensures { λ _. ⌜ ((s w : List ℕ) → buffers (now (marks .entry)) (now (targets .exit)) s w
+        ≡ aim (buffers (now (marks .entry)) (now (targets .entry)) s w) n r to) ⌝ }
 {
     if marks[n] != 0 {
         let at = 2 * n + r;
@@ -111,8 +115,8 @@ fn gain(sets: &mut [u64], n: usize, v: u64)
     sets[n] = joined(sets[n], v);
 }
 
-// Pair n joins the graph with the set v: it is seen, and in the list if it is to wait. Many pairs are there already with all of v: of
-// these only the mark is written.
+// Pair n joins the graph with the set v: it is seen, and in the list if it is to wait. Many pairs are there already
+// with all of v: of these only the mark is written.
 pub fn join(
     old: Head,
     marks: &mut [u8],
@@ -123,10 +127,12 @@ pub fn join(
     n: usize,
     v: u64,
 )
-    requires { ⌜ (n < 4096) × (length (now marks) ≡ 4160) × (length (now sets) ≡ 4096) × (length (now waiting) ≡ 4096) ⌝ }
+    requires { ⌜ (n < 4096) × (length (now marks) ≡ 4160) × (length (now sets) ≡ 4096)
+        × (length (now waiting) ≡ 4096) ⌝ }
     requires { ⌜ (length (now waits) ≡ 65) × (length (now seen) ≡ 64) ⌝ }
     requires { ⌜ (0 < getD (now marks) n 0 → Member (now seen) n) ⌝ }
-    ensures { λ _. ⌜ (now (waits .exit) ≡ listedIf (due (old .alarm) (now (marks .entry)) (now (sets .entry)) n v) (now (waits .entry)) n)
+    ensures { λ _. ⌜ (now (waits .exit) ≡ listedIf (due (old .alarm) (now (marks .entry)) (now (sets .entry)) n v)
+        (now (waits .entry)) n)
         × (now (seen .exit) ≡ added (now (seen .entry)) n) ⌝ }
     ensures { λ _. ⌜ ((t : List ℕ) → buffers (now (marks .exit)) t (now (sets .exit)) (now (waiting .exit))
         ≡ join (old .alarm) (buffers (now (marks .entry)) t (now (sets .entry)) (now (waiting .entry))) n v) ⌝ }

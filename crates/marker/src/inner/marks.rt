@@ -57,8 +57,10 @@ fn plain(marks: &mut [u8], seen: &[u64])
 
 // Opens pair i, if it is to be opened; a pair that was opened leaves rest, the pairs that may still be.
 fn open_out(marks: &mut [u8], targets: &[u16], rest: &mut [u64], i: usize) -> usize
-    requires { ⌜ (length (now marks) ≡ 4160) × (length (now targets) ≡ 8192) × (i < 64 * length (now rest)) × HoldsBeyond (now rest) (now marks) ⌝ }
-    ensures { λ r. ⌜ Tried (now (targets .entry)) (now (marks .entry)) i r (now (marks .exit)) × HoldsBeyond (now (rest .exit)) (now (marks .exit)) ⌝ }
+    requires { ⌜ (length (now marks) ≡ 4160) × (length (now targets) ≡ 8192) × (i < 64 * length (now rest))
+        × HoldsBeyond (now rest) (now marks) ⌝ }
+    ensures { λ r. ⌜ Tried (now (targets .entry)) (now (marks .entry)) i r (now (marks .exit))
+        × HoldsBeyond (now (rest .exit)) (now (marks .exit)) ⌝ }
 {
     let n = open_if(marks, targets, i);
     if n == 0 {
@@ -68,11 +70,13 @@ fn open_out(marks: &mut [u8], targets: &[u16], rest: &mut [u64], i: usize) -> us
     n
 }
 
-// Opens every pair of word p that is to be opened when its turn comes, from the highest down, and says how many that were. It goes through those
-// that are in rest when it begins: what is opened leaves rest, and none comes in.
+// Opens every pair of word p that is to be opened when its turn comes, from the highest down, and says how many that
+// were. It goes through those that are in rest when it begins: what is opened leaves rest, and none comes in.
 fn sweep_word_down(marks: &mut [u8], targets: &[u16], rest: &mut [u64], p: usize) -> usize
-    requires { ⌜ (length (now marks) ≡ 4160) × (length (now targets) ≡ 8192) × (p < length (now rest)) × HoldsBeyond (now rest) (now marks) ⌝ }
-    ensures { λ r. ⌜ Swept (now (targets .entry)) (now (marks .entry)) (64 * p) (64 * p + 64) r (now (marks .exit)) × HoldsBeyond (now (rest .exit)) (now (marks .exit)) ⌝ }
+    requires { ⌜ (length (now marks) ≡ 4160) × (length (now targets) ≡ 8192) × (p < length (now rest))
+        × HoldsBeyond (now rest) (now marks) ⌝ }
+    ensures { λ r. ⌜ Swept (now (targets .entry)) (now (marks .entry)) (64 * p) (64 * p + 64) r (now (marks .exit))
+        × HoldsBeyond (now (rest .exit)) (now (marks .exit)) ⌝ }
 {
     let mut n = 0;
     let mut word = rest[p];
@@ -86,8 +90,10 @@ fn sweep_word_down(marks: &mut [u8], targets: &[u16], rest: &mut [u64], p: usize
 
 // The same from the lowest up.
 fn sweep_word_up(marks: &mut [u8], targets: &[u16], rest: &mut [u64], p: usize) -> usize
-    requires { ⌜ (length (now marks) ≡ 4160) × (length (now targets) ≡ 8192) × (p < length (now rest)) × HoldsBeyond (now rest) (now marks) ⌝ }
-    ensures { λ r. ⌜ Swept (now (targets .entry)) (now (marks .entry)) (64 * p) (64 * p + 64) r (now (marks .exit)) × HoldsBeyond (now (rest .exit)) (now (marks .exit)) ⌝ }
+    requires { ⌜ (length (now marks) ≡ 4160) × (length (now targets) ≡ 8192) × (p < length (now rest))
+        × HoldsBeyond (now rest) (now marks) ⌝ }
+    ensures { λ r. ⌜ Swept (now (targets .entry)) (now (marks .entry)) (64 * p) (64 * p + 64) r (now (marks .exit))
+        × HoldsBeyond (now (rest .exit)) (now (marks .exit)) ⌝ }
 {
     let mut n = 0;
     let mut word = rest[p];
@@ -99,11 +105,12 @@ fn sweep_word_up(marks: &mut [u8], targets: &[u16], rest: &mut [u64], p: usize) 
     n
 }
 
-// Opens every pair that is to be opened when its turn comes, from the highest of rest down, and says how many that were. Rows mostly lead to
-// higher nodes, so that few such passes are needed.
+// Opens every pair that is to be opened when its turn comes, from the highest of rest down, and says how many that
+// were. Rows mostly lead to higher nodes, so that few such passes are needed.
 fn sweep_down(marks: &mut [u8], targets: &[u16], rest: &mut [u64]) -> usize
     requires { ⌜ (length (now marks) ≡ 4160) × (length (now targets) ≡ 8192) × HoldsBeyond (now rest) (now marks) ⌝ }
-    ensures { λ r. ⌜ Swept (now (targets .entry)) (now (marks .entry)) 0 4096 r (now (marks .exit)) × HoldsBeyond (now (rest .exit)) (now (marks .exit)) ⌝ }
+    ensures { λ r. ⌜ Swept (now (targets .entry)) (now (marks .entry)) 0 4096 r (now (marks .exit))
+        × HoldsBeyond (now (rest .exit)) (now (marks .exit)) ⌝ }
 {
     let mut n = 0;
     let mut p = rest.len();
@@ -117,7 +124,8 @@ fn sweep_down(marks: &mut [u8], targets: &[u16], rest: &mut [u64]) -> usize
 // The same from the lowest up, for chains that lead to lower nodes.
 fn sweep_up(marks: &mut [u8], targets: &[u16], rest: &mut [u64]) -> usize
     requires { ⌜ (length (now marks) ≡ 4160) × (length (now targets) ≡ 8192) × HoldsBeyond (now rest) (now marks) ⌝ }
-    ensures { λ r. ⌜ Swept (now (targets .entry)) (now (marks .entry)) 0 4096 r (now (marks .exit)) × HoldsBeyond (now (rest .exit)) (now (marks .exit)) ⌝ }
+    ensures { λ r. ⌜ Swept (now (targets .entry)) (now (marks .entry)) 0 4096 r (now (marks .exit))
+        × HoldsBeyond (now (rest .exit)) (now (marks .exit)) ⌝ }
 {
     let mut n = 0;
     let mut p = 0;
@@ -131,7 +139,8 @@ fn sweep_up(marks: &mut [u8], targets: &[u16], rest: &mut [u64]) -> usize
 // A pass down and, if it opens pairs, one up: 0, if the last of them opened none, which shows that none is left.
 fn sweep_both(marks: &mut [u8], targets: &[u16], rest: &mut [u64]) -> usize
     requires { ⌜ (length (now marks) ≡ 4160) × (length (now targets) ≡ 8192) × HoldsBeyond (now rest) (now marks) ⌝ }
-    ensures { λ r. ⌜ Passed (now (targets .entry)) (now (marks .entry)) r (now (marks .exit)) × HoldsBeyond (now (rest .exit)) (now (marks .exit)) ⌝ }
+    ensures { λ r. ⌜ Passed (now (targets .entry)) (now (marks .entry)) r (now (marks .exit))
+        × HoldsBeyond (now (rest .exit)) (now (marks .exit)) ⌝ }
 {
     if sweep_down(marks, targets, rest) == 0 {
         return 0;
@@ -139,8 +148,9 @@ fn sweep_both(marks: &mut [u8], targets: &[u16], rest: &mut [u64]) -> usize
     sweep_up(marks, targets, rest)
 }
 
-// All pairs from which an open or kept node is a target. Where three passes each way still open pairs, they stand on chains that go up and down,
-// which rounds over few new places follow with less work than passes. Few small charts have such chains.
+// All pairs from which an open or kept node is a target. Where three passes each way still open pairs, they stand on
+// chains that go up and down, which rounds over few new places follow with less work than passes. Few small charts have
+// such chains.
 fn open_rest(marks: &mut [u8], targets: &[u16], rest: &mut [u64])
     requires { ⌜ (length (now marks) ≡ 4160) × (length (now targets) ≡ 8192) × HoldsBeyond (now rest) (now marks) ⌝ }
     ensures { λ _. ⌜ now (marks .exit) ≡ allOpened (now (targets .entry)) (now (marks .entry)) ⌝ }
@@ -173,7 +183,8 @@ fn copy(from: &[u64], to: &mut [u64])
 // At first any pair seen may be opened.
 fn open_all(marks: &mut [u8], targets: &[u16], seen: &[u64])
     requires { ⌜ (length (now marks) ≡ 4160) × (length (now targets) ≡ 8192) × Holds (now seen) (now marks) ⌝ }
-    ensures { λ _. ⌜ (now (marks .exit) ≡ allOpened (now (targets .entry)) (now (marks .entry))) × Holds (now (seen .entry)) (now (marks .exit)) ⌝ }
+    ensures { λ _. ⌜ (now (marks .exit) ≡ allOpened (now (targets .entry)) (now (marks .entry)))
+        × Holds (now (seen .entry)) (now (marks .exit)) ⌝ }
 {
     let mut words = [0u64; 64];
     let rest = &mut words[..seen.len()];
@@ -189,7 +200,8 @@ pub struct Counts {
 
 // A target of an open pair that is beyond becomes covered: how many that were.
 fn cover(marks: &mut [u8], n: u16) -> usize
-    ensures { λ r. ⌜ (now (marks .exit) ≡ cover (now (marks .entry)) n) × (count 3 (now (marks .exit)) ≡ r + count 3 (now (marks .entry))) × (r ≤ 1) ⌝ }
+    ensures { λ r. ⌜ (now (marks .exit) ≡ cover (now (marks .entry)) n)
+        × (count 3 (now (marks .exit)) ≡ r + count 3 (now (marks .entry))) × (r ≤ 1) ⌝ }
 {
     let at = n as usize;
     if marks.len() <= at {
@@ -204,7 +216,8 @@ fn cover(marks: &mut [u8], n: u16) -> usize
 
 // The same of both targets of pair i, which is open.
 fn cover_from(marks: &mut [u8], targets: &[u16], i: usize) -> usize
-    requires { ⌜ (length (now marks) ≡ 4160) × (length (now targets) ≡ 8192) × (i < 4096) × (getD (now marks) i 0 ≡ 1) ⌝ }
+    requires { ⌜ (length (now marks) ≡ 4160) × (length (now targets) ≡ 8192) × (i < 4096)
+        × (getD (now marks) i 0 ≡ 1) ⌝ }
     ensures { λ r. ⌜ (now (marks .exit) ≡ coverFrom (now (targets .entry)) (now (marks .entry)) i)
         × (count 3 (now (marks .exit)) ≡ r + count 3 (now (marks .entry))) × (r ≤ 2) ⌝ }
 {
@@ -212,9 +225,11 @@ fn cover_from(marks: &mut [u8], targets: &[u16], i: usize) -> usize
     cover(marks, targets[at]) + cover(marks, targets[at + 1])
 }
 
-// The same of the open pairs of word p, which are counted too, from `so` on. Those not seen have no mark, and are not open.
+// The same of the open pairs of word p, which are counted too, from `so` on. Those not seen have no mark, and are not
+// open.
 fn cover_word(marks: &mut [u8], targets: &[u16], seen: &[u64], p: usize, so: Counts) -> Counts
-    requires { ⌜ (length (now marks) ≡ 4160) × (length (now targets) ≡ 8192) × (p < length (now seen)) × Holds (now seen) (now marks) ⌝ }
+    requires { ⌜ (length (now marks) ≡ 4160) × (length (now targets) ≡ 8192) × (p < length (now seen))
+        × Holds (now seen) (now marks) ⌝ }
     requires { ⌜ (so .opened ≤ 4160) × (so .covered ≤ 4160) ⌝ }
     ensures { λ r. ⌜ (now (marks .exit) ≡ each (coverFrom (now (targets .entry))) (64 * p) 64 (now (marks .entry)))
         × Counted (now (marks .entry)) (now (marks .exit)) (64 * p) (64 * p + 64) so r ⌝ }
@@ -252,9 +267,11 @@ fn cover_all(marks: &mut [u8], targets: &[u16], seen: &[u64]) -> Counts
     c
 }
 
-// All of it, from the start pair n, and the counts of marks 1 and 3. The pairs seen have every pair with a mark, and the start pair.
+// All of it, from the start pair n, and the counts of marks 1 and 3. The pairs seen have every pair with a mark, and
+// the start pair.
 pub fn rank(marks: &mut [u8], targets: &[u16], n: usize, seen: &[u64]) -> Counts
-    requires { ⌜ (length (now marks) ≡ 4160) × (length (now targets) ≡ 8192) × (n < 4096) × Holds (now seen) (now marks) × Member (now seen) n ⌝ }
+    requires { ⌜ (length (now marks) ≡ 4160) × (length (now targets) ≡ 8192) × (n < 4096) × Holds (now seen) (now marks)
+        × Member (now seen) n ⌝ }
     ensures { λ r. ⌜ (now (marks .exit) ≡ finalMarks n (now (targets .entry)) (now (marks .entry)))
         × (r .opened ≡ count 1 (now (marks .exit))) × (r .covered ≡ count 3 (now (marks .exit))) ⌝ }
 {

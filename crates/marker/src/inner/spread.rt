@@ -1,5 +1,6 @@
-// Open marks along chains of pairs, in rounds: each looks only at the new places from which a row leads to a new place where the round before
-// opened a pair. Which places these are changes no mark: it is each opening that has to be right.
+// Open marks along chains of pairs, in rounds: each looks only at the new places from which a row leads to a new place
+// where the round before opened a pair. Which places these are changes no mark: it is each opening that has to be
+// right.
 ghost use mathlib.Core.Path.{_≡_};
 ghost use Prim.Native.Nat.{_*_, _<_};
 ghost use lib.ListN.{length};
@@ -26,7 +27,8 @@ fn lead(leads: &mut [u64], q: usize, target: u16)
 
 // Likewise the targets of pair i, if it is beyond.
 fn lead_from(marks: &[u8], targets: &[u16], leads: &mut [u64], i: usize)
-    requires { ⌜ (length (now marks) ≡ 4160) × (length (now targets) ≡ 8192) × (length (now leads) ≡ 64) × (i < 4096) ⌝ }
+    requires { ⌜ (length (now marks) ≡ 4160) × (length (now targets) ≡ 8192) × (length (now leads) ≡ 64)
+        × (i < 4096) ⌝ }
     ensures { λ _. ⌜ now (leads .exit) ≡ ledFrom (now (targets .entry)) (now (marks .entry)) (now (leads .entry)) i ⌝ }
 {
     if marks[i] == 4 {
@@ -38,8 +40,10 @@ fn lead_from(marks: &[u8], targets: &[u16], leads: &mut [u64], i: usize)
 
 // Likewise the pairs of word p. All of these that are beyond are members of rest.
 fn lead_word(marks: &[u8], targets: &[u16], rest: &[u64], leads: &mut [u64], p: usize)
-    requires { ⌜ (length (now marks) ≡ 4160) × (length (now targets) ≡ 8192) × HoldsBeyond (now rest) (now marks) × (length (now leads) ≡ 64) × (p < length (now rest)) ⌝ }
-    ensures { λ _. ⌜ now (leads .exit) ≡ each (ledFrom (now (targets .entry)) (now (marks .entry))) (64 * p) 64 (now (leads .entry)) ⌝ }
+    requires { ⌜ (length (now marks) ≡ 4160) × (length (now targets) ≡ 8192) × HoldsBeyond (now rest) (now marks)
+        × (length (now leads) ≡ 64) × (p < length (now rest)) ⌝ }
+    ensures { λ _. ⌜ now (leads .exit) ≡ each (ledFrom (now (targets .entry)) (now (marks .entry))) (64 * p) 64
+        (now (leads .entry)) ⌝ }
 {
     let mut word = rest[p];
     while word != 0 {
@@ -51,8 +55,10 @@ fn lead_word(marks: &[u8], targets: &[u16], rest: &[u64], leads: &mut [u64], p: 
 
 // For each new place the set of those to which pairs beyond lead.
 fn lead_all(marks: &[u8], targets: &[u16], rest: &[u64], leads: &mut [u64])
-    requires { ⌜ (length (now marks) ≡ 4160) × (length (now targets) ≡ 8192) × HoldsBeyond (now rest) (now marks) × (length (now leads) ≡ 64) ⌝ }
-    ensures { λ _. ⌜ now (leads .exit) ≡ each (ledFrom (now (targets .entry)) (now (marks .entry))) 0 4096 (now (leads .entry)) ⌝ }
+    requires { ⌜ (length (now marks) ≡ 4160) × (length (now targets) ≡ 8192) × HoldsBeyond (now rest) (now marks)
+        × (length (now leads) ≡ 64) ⌝ }
+    ensures { λ _. ⌜ now (leads .exit) ≡ each (ledFrom (now (targets .entry)) (now (marks .entry))) 0 4096
+        (now (leads .entry)) ⌝ }
 {
     let mut p = 0;
     while p < rest.len() {
