@@ -5,21 +5,22 @@
 use mathlib.Core.Path.{_≡_, ap, _∙_}
 use mathlib.Core.Option.{none}
 use Rattle.base.specs.Answers.{given}
-use Rattle.base.specs.Says.{Test, bool}
+use Rattle.base.specs.Says.{bool}
 use Rattle.base.proofs.Says.{said}
 use Rattle.base.proofs.Tests.{is-true}
 use Rattle.chart.specs.Charts.{Chart}
 use Rattle.chart.proofs.Words.{Words}
 use Rattle.chart.specs.Faultless.{FaultlessChart}
+use Rattle.chart.proofs.Faultless.{none-judged}
 use Rattle.records.specs.Records.{Record, recordOf}
-use Rattle.checker.specs.Checks.{sized, refusal as checkRefusal}
+use Rattle.checker.specs.Checks.{refusal as checkRefusal}
 use Rattle.checker.specs.Promise.{Promise}
 use Rattle.checker.proofs.Demand3.{demand-3-first}
 use Rattle.graph.specs.Buffers.{Buffers}
 use Rattle.graph.specs.inner.Sized.{Sized}
 use Rattle.condition.specs.declared.Summary.{Summary}
 use Rattle.condition.specs.Builds.{recorded, summary}
-use Rattle.builder.proofs.Passing.{sound, record-passes}
+use Rattle.builder.proofs.Passing.{record-passes}
 use Rattle.builder.specs.Answers.{lent, refusal, answered, left}
 use Rattle.builder.proofs.Answering.{accepted}
 
@@ -32,18 +33,12 @@ module _ (old new : Chart) (g : Buffers) where
   abbrev pub leftWith : Summary → Record
   leftWith s = recordOf (s .start) (left old new g .marks) (left old new g .targets) (left old new g .sets)
 
-  abbrev lengths : Test
-  lengths = lent (old .table) (new .table) g
-
   -- faultless charts and buffers of the stated lengths are not refused
   pub never-refused : FaultlessChart old → FaultlessChart new → Sized g → refusal old new g ≡ none
-  unfolding refusal lent sized
+  unfolding refusal
   never-refused F H S =
-      rw (
-        is-true (bool lengths) (said lengths (S .waiting, (S .marks, (S .targets, (S .sets, (F .whole, H .whole)))))),
-        sound old F,
-        sound new H,
-      )
+      none-judged (bool (lent g)) old new
+      (is-true (bool (lent g)) (said (lent g) (S .waiting, (S .marks, (S .targets, S .sets)))), F, H)
 
   -- where none is refused, a build answers, and what it leaves in g, with the start that it answers, the check passes
   module _ (e : refusal old new g ≡ none) where

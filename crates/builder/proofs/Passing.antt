@@ -7,25 +7,21 @@ use mathlib.Core.Option.{Option, none}
 use Prim.Native.Nat.{ℕ, _/_, _%_, _≤_, _<_}
 use native.Mathlib.Omega.{arith}
 use native.Mathlib.Decide.{ℕ-discrete, decLt}
-use lib.Dec.{T, eqb}
+use lib.Dec.{T}
 use lib.ListN.{length, getD, set, replicate, length-set, length-replicate}
-use Rattle.base.specs.Refusals.{due}
 use Rattle.base.specs.Says.{Says}
 use Rattle.base.proofs.Ones.{one-there, one-only}
-use Rattle.base.proofs.Options.{both-missing}
 use Rattle.base.proofs.Says.{said}
 use Rattle.base.proofs.Tests.{T-true}
 use Rattle.base.proofs.Walks.{same-at}
 use Rattle.chart.specs.Charts.{Chart, size, operation}
-use Rattle.chart.specs.Faults.{fault, refusal as chartRefusal}
 use Rattle.chart.specs.Faultless.{FaultlessChart}
 use Rattle.chart.specs.Places.{keptNumber, oldOf, newOf, headOf}
-use Rattle.chart.proofs.Faultless.{no-refusal}
 use Rattle.align.specs.declared.spots.Spot.{Spot}
 use Rattle.align.specs.Steps.{step}
 use Rattle.records.specs.Records.{Graph, recordOf, graphOf, mark, index, target}
 use Rattle.checker.specs.Rules.{markFits, targetFits, marksFit, targetsFit, shaped, startFits, keeps, joins, joinsStep, restsAt, ranked, leads, rowFits, spot}
-use Rattle.checker.specs.Checks.{sized, refusal}
+use Rattle.checker.specs.Checks.{refusal}
 use Rattle.chart.proofs.Starts.{firstPair, firstKept}
 use Rattle.detector.specs.Turns.{rowsOf, leadsTo, stepOf, explored}
 use Rattle.condition.specs.Builds.{redirected, finalTargets, alone, recorded}
@@ -119,16 +115,15 @@ module _ (old new : Chart) (F : FaultlessChart old) (H : FaultlessChart new) (jo
           (λ l. inl (dite (ℕ-discrete (getD (explored old new .marks) (keptNumber (newOf t)) 0) 0) (λ z. omega (arith, not-kept (explored old new .marks) t l z)) (λ z. omega (arith, to-kept (explored old new .marks) t l (omega arith)))))
           (λ l. rw (far (explored old new .marks) t (omega arith)) d)
 
-  joint-passes : length (old .table) % 6 ≡ 0 → length (new .table) % 6 ≡ 0 → fault old ≡ none → fault new ≡ none
-      → refusal old new (recordOf (firstPair old new) marks (finalTargets (explored old new)) (explored old new .sets)) ≡ none
-  unfolding sized shaped marksFit targetsFit startFits
-  joint-passes wo wn fo fn =
+  joint-passes : refusal old new (recordOf (firstPair old new) marks (finalTargets (explored old new)) (explored old new .sets)) ≡ none
+  unfolding shaped marksFit targetsFit startFits
+  joint-passes =
       passes old new (recordOf (firstPair old new) marks (finalTargets (explored old new)) (explored old new .sets))
-      (final .ranks .long, (targets-length old new F H joint, (explored-inv old new F H .shaped .sized .sets, (wo, wn)))) fo fn
+      (final .ranks .long, (targets-length old new F H joint, explored-inv old new F H .shaped .sized .sets)) F H
       (inl refl, (mark-said, target-said)) (inl (refl, (final .start, starts old new F H joint .1))) rules
 
 -- ---- a build that leaves the lone kept start
-module _ (old new : Chart) (H : FaultlessChart new) where
+module _ (old new : Chart) (F : FaultlessChart old) (H : FaultlessChart new) where
   abbrev single : Graph
   single = graphOf (set (replicate 4160 0) (firstKept new) 2) (replicate 8192 65535) (replicate 4096 0)
 
@@ -143,25 +138,19 @@ module _ (old new : Chart) (H : FaultlessChart new) where
   single-length : length (single .marks) ≡ 4160
   single-length = let zeros : List ℕ = replicate 4160 0 in length-set zeros (firstKept new) 2 ∙ length-replicate {A = ℕ} 4160 0
 
-  single-passes : length (old .table) % 6 ≡ 0 → length (new .table) % 6 ≡ 0 → fault old ≡ none → fault new ≡ none
-      → refusal old new (recordOf (firstKept new) (set (replicate 4160 0) (firstKept new) 2) (replicate 8192 65535) (replicate 4096 0)) ≡ none
-  unfolding sized shaped marksFit targetsFit startFits
-  single-passes wo wn fo fn =
+  single-passes : refusal old new (recordOf (firstKept new) (set (replicate 4160 0) (firstKept new) 2) (replicate 8192 65535) (replicate 4096 0)) ≡ none
+  unfolding shaped marksFit targetsFit startFits
+  single-passes =
       passes old new (recordOf (firstKept new) (set (replicate 4160 0) (firstKept new) 2) (replicate 8192 65535) (replicate 4096 0))
-      (single-length, (length-replicate {A = ℕ} 8192 65535, (length-replicate {A = ℕ} 4096 0, (wo, wn)))) fo fn
+      (single-length, (length-replicate {A = ℕ} 8192 65535, length-replicate {A = ℕ} 4096 0)) F H
       (inr refl, (single-mark, λ j b. inr (same-at 8192 65535 j b)))
       (inr (refl, one-there 4160 (firstKept new) 2 (omega arith)))
       (λ m k b p c a. absurd (let z = only-kept m p in omega arith))
-
--- a faultless chart has none of the faults 1 to 8
-pub sound : (C : Chart) → FaultlessChart C → fault C ≡ none
-unfolding chartRefusal
-sound C F = both-missing (due (not (eqb (length (C .table) % 6) 0)) 21 0) (fault C) (no-refusal C F) .1
 
 -- for any two faultless charts no refusal of the check is due for what a build leaves
 pub record-passes : (old new : Chart) → FaultlessChart old → FaultlessChart new → refusal old new (recorded old new) ≡ none
 record-passes old new F H = go (alone (headOf old) (headOf new) (explored old new .marks)) refl
   where
     go : (b : Bool) → alone (headOf old) (headOf new) (explored old new .marks) ≡ b → refusal old new (recorded old new) ≡ none
-    go true e = rw (recorded-lone old new e) (single-passes old new H (F .whole) (H .whole) (sound old F) (sound new H))
-    go false e = rw (recorded-joint old new e) (joint-passes old new F H e (F .whole) (H .whole) (sound old F) (sound new H))
+    go true e = rw (recorded-lone old new e) (single-passes old new F H)
+    go false e = rw (recorded-joint old new e) (joint-passes old new F H e)

@@ -3,95 +3,32 @@ ghost use mathlib.Core.Path.{_≡_};
 ghost use mathlib.Core.Option.{none};
 ghost use Rattle.base.specs.Says.{bool};
 ghost use Rattle.chart.specs.Charts.{charted};
-ghost use Rattle.chart.specs.Faults.{told as chartTold};
 ghost use Rattle.chart.specs.Faultless.{FaultlessChart};
 ghost use Rattle.records.specs.Records.{recordOf};
-ghost use Rattle.checker.specs.Checks.{inChart, refusal as checkRefusal};
+ghost use Rattle.checker.specs.Checks.{refusal as checkRefusal};
 ghost use Rattle.builder.specs.declared.answers.Built.the-variants.{Done};
 ghost use Rattle.condition.specs.declared.Summary.{Summary};
 ghost use Rattle.graph.specs.Buffers.{buffers};
 ghost use Rattle.graph.specs.inner.Sized.{Sized};
 ghost use Rattle.condition.specs.Builds.{built, recorded, summary};
 ghost use Rattle.paper.specs.Returned.{Returned};
-ghost use Rattle.builder.specs.Answers.{told, lent, refusal, answered, left};
+ghost use Rattle.builder.specs.Answers.{told, lent, answered, left};
 use answers::Built;
-use base::Refusal;
 use chart::charts::Head;
 use chart::charts::Judged;
-use chart::inner::faults::fault;
-use chart::inner::faults::faulty;
-use chart::inner::faults::is_faultless;
 use chart::inner::rows;
+use checker::inner::lengths::sized;
 use condition::Summary;
 use condition::inner::finish::finish;
 use detector::inner::explore::explore;
 
 pub mod answers; // answers.rt: what a build answers
 
-// Whether every lent length is the stated one.
-fn lent(
-    old_rows: &[u32],
-    new_rows: &[u32],
-    marks: &[u8],
-    targets: &[u16],
-    sets: &[u64],
-    waiting: &[u8],
-) -> bool
-    ensures { λ r. ⌜ r ≡ bool (lent (now («old_rows» .entry)) (now («new_rows» .entry)) (buffers (now (marks .entry)) (now (targets .entry)) (now (sets .entry)) (now (waiting .entry)))) ⌝ }
+// Whether each of the four lent lengths is the stated one.
+fn lent(marks: &[u8], targets: &[u16], sets: &[u64], waiting: &[u8]) -> bool
+    ensures { λ r. ⌜ r ≡ bool (lent (buffers (now (marks .entry)) (now (targets .entry)) (now (sets .entry)) (now (waiting .entry)))) ⌝ }
 {
-    if waiting.len() != 4096 {
-        return false;
-    }
-    if marks.len() != 4160 {
-        return false;
-    }
-    if targets.len() != 8192 {
-        return false;
-    }
-    if sets.len() != 4096 {
-        return false;
-    }
-    if old_rows.len() % 6 != 0 {
-        return false;
-    }
-    new_rows.len() % 6 == 0
-}
-
-// A fault of the chart with this number.
-fn in_chart(chart: u32, j: Judged) -> Judged
-    ensures { λ r. ⌜ chartTold r ≡ inChart chart (chartTold j) ⌝ }
-{
-    match j {
-        Judged::Faultless => Judged::Faultless,
-        Judged::Refused(r) => Judged::Refused(Refusal {
-            number: r.number,
-            chart,
-            position: r.position,
-        }),
-    }
-}
-
-// The refusal that is due, if any.
-fn judge<'a>(
-    old: Head,
-    old_rows: &'a [u32],
-    new: Head,
-    new_rows: &'a [u32],
-    marks: &[u8],
-    targets: &[u16],
-    sets: &[u64],
-    waiting: &[u8],
-) -> Judged
-    ensures { λ r. ⌜ chartTold r ≡ refusal (charted old (now («old_rows» .entry))) (charted new (now («new_rows» .entry))) (buffers (now (marks .entry)) (now (targets .entry)) (now (sets .entry)) (now (waiting .entry))) ⌝ }
-{
-    if !lent(old_rows, new_rows, marks, targets, sets, waiting) {
-        return faulty(21, 0);
-    }
-    let first = in_chart(0, fault(old, old_rows));
-    if !is_faultless(first) {
-        return first;
-    }
-    in_chart(1, fault(new, new_rows))
+    (waiting.len() == 4096) & sized(marks, targets, sets)
 }
 
 // Both algorithms on faultless charts. Which pairs they saw is told from one to the other by a set of them, so that none looks at all pairs.
@@ -150,16 +87,8 @@ pub fn build<'a>(
         → Returned (charted old (now («old_rows» .entry))) (charted new (now («new_rows» .entry)))
         (recordOf (s .start) (now (marks .exit)) (now (targets .exit)) (now (sets .exit)))) ⌝ }
 {
-    match judge(
-        old,
-        old_rows,
-        new,
-        new_rows,
-        &*marks,
-        &*targets,
-        &*sets,
-        &*waiting,
-    ) {
+    let lengths = lent(&*marks, &*targets, &*sets, &*waiting);
+    match chart::judged(lengths, old, old_rows, new, new_rows) {
         Judged::Faultless => Built::Done(complete(
             old,
             old_rows,

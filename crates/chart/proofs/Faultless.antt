@@ -1,32 +1,33 @@
 -- A chart has no fault exactly where it is as Faultless.antt says. Assumes nothing.
-use mathlib.Core.Path.{_≡_}
-use mathlib.Core.Bool.{true, false, _||_, not}
+use mathlib.Core.Path.{_≡_, sym, _∙_}
+use mathlib.Core.Bool.{Bool, true, false, _&&_, not}
 use mathlib.Core.Logic.{_↔_}
-use mathlib.Core.Option.{none}
-use Prim.Native.Nat.{ℕ, zero, suc, _+_, _-_, _%_, _≤_, _<_}
+use mathlib.Core.Option.{Option, none}
+use Prim.Native.Nat.{ℕ, zero, suc, _+_, _-_, _≤_, _<_}
 use native.Mathlib.Nat.{add-suc, add-zero, add-sub-of-le, le-refl}
 use native.Mathlib.Decide.{ℕ-discrete}
 use native.Mathlib.Omega.{arith}
 use borrow.Author.Tests.{eq-eqb, ne-eqb, eqb-true, eqb-false, lt-leb, leb-false, le-ltb, ltb-false, not-false}
 use lib.Dec.{eqb, leb, ltb}
-use lib.ListN.{length}
-use Rattle.base.specs.Options.{missing, firstOf}
-use Rattle.base.specs.Refusals.{due}
+use Rattle.base.specs.Options.{when, missing, firstOf}
+use Rattle.base.specs.Refusals.{dueIn, due}
 use Rattle.base.proofs.Options.{missing-none, both-missing, not-due, none-of, none-if, none-everywhere}
 use Rattle.base.proofs.Tests.{and-true, or-false, not-both, none-below, none-below-at}
 use Rattle.operations.specs.Operations.{isKnown, isAssumption}
 use Rattle.chart.specs.Charts.{Chart, size, from, to, operation}
-use Rattle.chart.specs.Faults.{countFault, alarmFault, fromBefore, rowFault, clash, conflictFault, rowsFault, fault, refusal}
+use Rattle.chart.specs.Faults.{lacks, strays, fromBefore, descends, clash, whole, countFault, alarmFault, rowFault, conflictFault, rowsFault, fault, refusal, judged}
 use Rattle.chart.specs.Faultless.{FaultlessRow, Apart, FaultlessChart}
 use Rattle.chart.specs.Lookup.{openTo, Ascending, Indexable}
+use Rattle.chart.specs.inner.Faulty.{faulty}
+use Rattle.chart.proofs.Faults.{rows-by}
 
--- ---- from the test to what it says
-pub faultless-row : (C : Chart) (i : ℕ) → rowFault C i ≡ none → FaultlessRow C i
+-- ---- from the tests to what they say
+pub faultless-row : (k : ℕ) (C : Chart) (i : ℕ) → rowFault k C i ≡ none → FaultlessRow C i
 unfolding rowFault
-faultless-row C i e =
-    let a = both-missing (due (leb (C .places) (from (C .table) i) || leb (C .places) (to (C .table) i)) 4 i) _ e in
-    let b = both-missing (due (ltb (from (C .table) i) (fromBefore (C .table) i)) 5 i) _ (a .1) in
-    let c = both-missing (due (not (isKnown (operation (C .table) i))) 6 i) _ (b .1) in
+faultless-row k C i e =
+    let a = both-missing (dueIn k (strays C i) 4 i) _ e in
+    let b = both-missing (dueIn k (descends (C .table) i) 5 i) _ (a .1) in
+    let c = both-missing (dueIn k (not (isKnown (operation (C .table) i))) 6 i) _ (b .1) in
     let near = or-false (leb (C .places) (from (C .table) i)) _ (not-due _ _ (a .0)) in
     record {
       from-below = leb-false _ _ (near .0);
@@ -37,15 +38,19 @@ faultless-row C i e =
     }
 
 -- rows none of which is below the one before it stand by ascending "from"
-pub ascending : (C : Chart) → firstOf (size (C .table)) (rowFault C) ≡ none → Ascending (C .table)
-ascending C e = record { order = λ i j l u. (let r = rise i (j - i) (omega arith) in rw (add-sub-of-le l) at r) }
+pub ascending : (C : Chart) → ((i : ℕ) → i < size (C .table) → FaultlessRow C i) → Ascending (C .table)
+ascending C R = record { order = λ i j l u. (let r = rise i (j - i) (omega arith) in rw (add-sub-of-le l) at r) }
   where
     rise : (i d : ℕ) → i + d < size (C .table) → from (C .table) i ≤ from (C .table) (i + d)
     rise i zero l = rw add-zero (le-refl (from (C .table) i))
     rise i (suc d) l =
         let r = rise i d (omega arith) in
-        let s = faultless-row C (suc (i + d)) (none-of (rowFault C) (size (C .table)) (suc (i + d)) e (omega arith)) .ascends in
+        let s = R (suc (i + d)) (omega arith) .ascends in
         rw add-suc (omega arith)
+
+-- so do those among which no fault 4 to 7 is found
+pub unfound : (C : Chart) {o : Option ℕ} → o ≡ firstOf (size (C .table)) (λ i. when (faulty C i) i) → o ≡ none → Ascending (C .table)
+unfound C e q = ascending C (λ i l. faultless-row 0 C i (none-of (rowFault 0 C) (size (C .table)) i (rows-by 0 C (sym q ∙ e)) l))
 
 -- rows of one place that do not clash are apart
 apart-rows : (C : Chart) (i j : ℕ) → clash (C .table) i j ≡ false → from (C .table) j ≡ from (C .table) i → Apart C i j
@@ -56,44 +61,49 @@ apart-rows C i j e s =
     let b = and-true (isAssumption (operation (C .table) i)) _ (a .1) in
     record { earlier = a .0; later = b .0; one = b .1 }
 
-module _ (C : Chart) (e : refusal C ≡ none) where
-  parts : (length (C .table) % 6 ≡ 0) × (countFault C ≡ none) × (alarmFault (C .places) (C .alarm) ≡ none)
-      × (firstOf (size (C .table)) (rowFault C) ≡ none) × (firstOf (size (C .table)) (conflictFault (C .table)) ≡ none)
-  unfolding refusal fault rowsFault
+module _ (k : ℕ) (C : Chart) (w : whole (C .table) ≡ true) (e : fault k C ≡ none) where
+  parts : (countFault k C ≡ none) × (alarmFault k C ≡ none)
+      × (firstOf (size (C .table)) (rowFault k C) ≡ none) × (firstOf (size (C .table)) (conflictFault k (C .table)) ≡ none)
+  unfolding fault rowsFault
   parts =
-      let a = both-missing (due (not (eqb (length (C .table) % 6) 0)) 21 0) (fault C) e in
-      let b = both-missing (countFault C) _ (a .1) in
-      let c = both-missing (alarmFault (C .places) (C .alarm)) _ (b .1) in
-      let d = both-missing (firstOf (size (C .table)) (rowFault C)) _ (c .1) in
-      (eqb-true _ _ (not-false _ (not-due _ _ (a .0))), b .0, c .0, d .0, d .1)
+      let a = both-missing (countFault k C) _ e in
+      let b = both-missing (alarmFault k C) _ (a .1) in
+      let c = both-missing (firstOf (size (C .table)) (rowFault k C)) _ (b .1) in
+      (a .0, b .0, c .0, c .1)
 
-  pub ascends : Ascending (C .table)
-  ascends = ascending C (parts .3)
-
-  pub faultless : FaultlessChart C
+  unfaulted : FaultlessChart C
   unfolding countFault alarmFault conflictFault
-  faultless =
-      let a = both-missing (due (eqb (C .places) 0 || eqb (size (C .table)) 0) 1 0) _ (parts .1) in
+  unfaulted =
+      let a = both-missing (dueIn k (lacks C) 1 0) _ (parts .0) in
       let none-missing = or-false (eqb (C .places) 0) _ (not-due _ _ (a .0)) in
       let none-many = or-false (ltb 64 (C .places)) _ (not-due _ _ (a .1)) in
       let p : C .places ≡ 0 → ⊥ = eqb-false _ _ (none-missing .0) in
       let r : size (C .table) ≡ 0 → ⊥ = eqb-false _ _ (none-missing .1) in
       record {
-        whole = parts .0;
+        whole = eqb-true _ _ w;
         some-places = omega arith;
         few-places = ltb-false _ _ (none-many .0);
         some-rows = omega arith;
         few-rows = ltb-false _ _ (none-many .1);
-        alarm-below = leb-false _ _ (not-due _ _ (parts .2));
-        rows = λ i l. faultless-row C i (none-of (rowFault C) (size (C .table)) i (parts .3) l);
-        apart = λ i j h l s. apart-rows C i j (none-below-at (clash (C .table) i) i j (not-due _ _ (none-of (conflictFault (C .table)) (size (C .table)) i (parts .4) l)) h) s;
+        alarm-below = leb-false _ _ (not-due _ _ (parts .1));
+        rows = λ i l. faultless-row k C i (none-of (rowFault k C) (size (C .table)) i (parts .2) l);
+        apart = λ i j h l s. apart-rows C i j (none-below-at (clash (C .table) i) i j (not-due _ _ (none-of (conflictFault k (C .table)) (size (C .table)) i (parts .3) l)) h) s;
       }
+
+pub faultless : (C : Chart) → refusal C ≡ none → FaultlessChart C
+unfolding refusal
+faultless C e =
+    let a = both-missing (due (not (whole (C .table))) 21 0) (fault 0 C) e in
+    unfaulted 0 C (not-false _ (not-due _ _ (a .0))) (a .1)
+
+pub ascends : (C : Chart) → refusal C ≡ none → Ascending (C .table)
+ascends C e = ascending C (faultless C e .rows)
 
 -- ---- and back
 module _ (C : Chart) where
-  row-none : (i : ℕ) → FaultlessRow C i → rowFault C i ≡ none
+  row-none : (k i : ℕ) → FaultlessRow C i → rowFault k C i ≡ none
   unfolding rowFault
-  row-none i R =
+  row-none k i R =
       rw (
         lt-leb _ _ (R .from-below),
         lt-leb _ _ (R .to-below),
@@ -110,30 +120,56 @@ module _ (C : Chart) where
         | no n ↦ rw (ne-eqb _ _ n)
       ]
 
-  pub no-refusal : FaultlessChart C → refusal C ≡ none
-  unfolding refusal fault countFault alarmFault rowsFault conflictFault
-  no-refusal F =
-      rw (
-        eq-eqb _ _ (F .whole),
-        ne-eqb (C .places) 0 (let l = F .some-places in λ e. omega arith),
-        ne-eqb (size (C .table)) 0 (let l = F .some-rows in λ e. omega arith),
-        le-ltb 64 (C .places) (F .few-places),
-        le-ltb 128 (size (C .table)) (F .few-rows),
-        lt-leb (C .places) (C .alarm) (F .alarm-below),
-        none-everywhere (rowFault C) (size (C .table)) (λ i l. row-none i (F .rows i l)),
-      )
-      (none-everywhere (conflictFault (C .table)) (size (C .table))
-      (λ i l. none-if _ _ (none-below (clash (C .table) i) i (λ j h. no-clash i j (F .apart i j h l)))))
+  module _ (F : FaultlessChart C) where
+    is-whole : whole (C .table) ≡ true
+    is-whole = eq-eqb _ _ (F .whole)
+
+    pub no-fault : (k : ℕ) → fault k C ≡ none
+    unfolding fault countFault alarmFault rowsFault conflictFault
+    no-fault k =
+        rw (
+          ne-eqb (C .places) 0 (let l = F .some-places in λ e. omega arith),
+          ne-eqb (size (C .table)) 0 (let l = F .some-rows in λ e. omega arith),
+          le-ltb 64 (C .places) (F .few-places),
+          le-ltb 128 (size (C .table)) (F .few-rows),
+          lt-leb (C .places) (C .alarm) (F .alarm-below),
+          none-everywhere (rowFault k C) (size (C .table)) (λ i l. row-none k i (F .rows i l)),
+        )
+        (none-everywhere (conflictFault k (C .table)) (size (C .table))
+        (λ i l. none-if _ _ (none-below (clash (C .table) i) i (λ j h. no-clash i j (F .apart i j h l)))))
+
+    pub no-refusal : refusal C ≡ none
+    unfolding refusal
+    no-refusal = rw is-whole (no-fault 0)
 
   -- no refusal is due exactly where the chart is faultless
   pub faultless-exactly : (refusal C ≡ none) ↔ FaultlessChart C
   faultless-exactly = (faultless C, no-refusal)
 
+-- ---- two charts
+module _ (lent : Bool) (old new : Chart) where
+  pub none-judged : (lent ≡ true) × FaultlessChart old × FaultlessChart new → judged lent old new ≡ none
+  unfolding judged
+  none-judged (l, F, H) = rw (l, is-whole old F, is-whole new H, no-fault old F 0) (no-fault new H 1)
+
+  pub both-faultless : judged lent old new ≡ none → (lent ≡ true) × FaultlessChart old × FaultlessChart new
+  unfolding judged
+  both-faultless e =
+      let a = both-missing (due (not (lent && (whole (old .table) && whole (new .table)))) 21 0) _ e in
+      let b = both-missing (fault 0 old) (fault 1 new) (a .1) in
+      let l = and-true lent _ (not-false _ (not-due _ _ (a .0))) in
+      let w = and-true (whole (old .table)) (whole (new .table)) (l .1) in
+      (l .0, unfaulted 0 old (w .0) (b .0), unfaulted 1 new (w .1) (b .1))
+
+  -- none is due exactly where the lengths are the stated ones and both charts are faultless
+  pub judged-exactly : (judged lent old new ≡ none) ↔ ((lent ≡ true) × FaultlessChart old × FaultlessChart new)
+  judged-exactly = (both-faultless, none-judged)
+
 -- the rows of a faultless chart can be indexed
 pub indexable : (C : Chart) → FaultlessChart C → Indexable (C .table)
 indexable C F =
     record {
-      ascending = ascends C (no-refusal C F);
+      ascending = ascending C (F .rows);
       few-rows = F .few-rows;
       few-places = λ i l. omega (arith, F .rows i l .from-below, F .few-places);
     }

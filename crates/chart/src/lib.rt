@@ -4,35 +4,99 @@ ghost use mathlib.Core.Path.{_≡_};
 ghost use mathlib.Core.Bool.{cond};
 ghost use lib.Dec.{eqb};
 ghost use mathlib.Core.List.{[]};
+ghost use mathlib.Core.Option.{some};
 ghost use Rattle.chart.specs.Charts.{charted, leaving};
-ghost use Rattle.chart.specs.Faults.{refusal, told};
+ghost use Rattle.chart.specs.Faults.{told, rowsFault, fault, refusal, judged};
 ghost use Rattle.chart.specs.Lookup.{openTo, lookup, Stands};
+use base::Found;
+use base::Refusal;
 use charts::Head;
 use charts::Judged;
+use inner::faults;
 
 pub mod places; // places.rt: places of the old and of the new chart
 pub mod charts; // charts.rt: a chart's head, and what judging a chart answers
 pub mod inner; // inner.rt: for the crates above
+
+// The refusal with this number and position, of the chart with this number.
+fn refused(chart: u32, number: u32, position: usize) -> Judged
+    ensures { λ r. ⌜ told r ≡ some (record { number = number; chart = chart; position = position }) ⌝ }
+{
+    Judged::Refused(Refusal {
+        number,
+        chart,
+        position,
+    })
+}
+
+// 4 to 8, of the chart with this number.
+fn rows_fault(chart: u32, head: Head, rows: &[u32]) -> Judged
+    ensures { λ r. ⌜ told r ≡ rowsFault chart (charted head (now (rows .entry))) ⌝ }
+{
+    if let Found::At(i) = faults::first_faulty(head, rows) {
+        return refused(chart, faults::row_number(head, rows, i), i);
+    }
+    match faults::first_conflict(rows) {
+        Found::At(i) => refused(chart, 8, i),
+        Found::Nothing => Judged::Faultless,
+    }
+}
+
+// 1 to 8, of the chart with this number.
+fn fault(chart: u32, head: Head, rows: &[u32]) -> Judged
+    ensures { λ r. ⌜ told r ≡ fault chart (charted head (now (rows .entry))) ⌝ }
+{
+    if faults::lacks(head, rows) {
+        return refused(chart, 1, 0);
+    }
+    if faults::exceeds(head, rows) {
+        return refused(chart, 2, 0);
+    }
+    if faults::alarm_outside(head.places, head.alarm) {
+        return refused(chart, 3, 0);
+    }
+    rows_fault(chart, head, rows)
+}
 
 // The refusal that is due for a chart: 21, the caller's, for a table that is not whole rows, else the first fault, 1 to 8,
 // with its row.
 pub fn judge(head: Head, rows: &[u32]) -> Judged
     ensures { λ r. ⌜ told r ≡ refusal (charted head (now (rows .entry))) ⌝ }
 {
-    if rows.len() % 6 != 0 {
-        return inner::faults::faulty(21, 0);
+    if !faults::whole(rows) {
+        return refused(0, 21, 0);
     }
-    inner::faults::fault(head, rows)
+    fault(0, head, rows)
+}
+
+// The refusal that is due for two charts: 21, where a length of the caller's is not the stated one or a table is not whole rows,
+// else the old chart's first fault, with chart 0, else the new one's, with chart 1.
+pub fn judged<'a>(
+    lent: bool,
+    old: Head,
+    old_rows: &'a [u32],
+    new: Head,
+    new_rows: &'a [u32],
+) -> Judged
+    ensures { λ r. ⌜ told r ≡ judged lent (charted old (now («old_rows» .entry))) (charted new (now («new_rows» .entry))) ⌝ }
+{
+    if !(lent & (faults::whole(old_rows) & faults::whole(new_rows))) {
+        return refused(0, 21, 0);
+    }
+    match fault(0, old, old_rows) {
+        Judged::Refused(r) => Judged::Refused(r),
+        Judged::Faultless => fault(1, new, new_rows),
+    }
 }
 
 // Whether a chart is faultless and has the place.
 fn open_to(head: Head, rows: &[u32], place: u32) -> bool
     ensures { λ r. ⌜ r ≡ openTo (charted head (now (rows .entry))) place ⌝ }
 {
-    if inner::faults::is_faultless(judge(head, rows)) {
-        return place < head.places;
+    match judge(head, rows) {
+        Judged::Faultless => place < head.places,
+        Judged::Refused(_) => false,
     }
-    false
 }
 
 // The rows that leave a place of a chart, as a part of its table; an empty part where the chart is faulty or has no such place.

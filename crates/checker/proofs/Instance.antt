@@ -23,8 +23,9 @@ use Rattle.operations.specs.Trials as trials
 use Rattle.chart.specs.Charts.{Chart, size, leaving}
 use Rattle.chart.proofs.Words.{Words}
 use Rattle.chart.specs.Charts as charts
-use Rattle.chart.specs.Faults.{fault}
+use Rattle.chart.specs.Faultless.{FaultlessChart}
 use Rattle.chart.specs.Faults as faults
+use Rattle.chart.proofs.Faultless.{faultless}
 use Rattle.chart.specs.Places.{newOf, headOf}
 use Rattle.chart.specs.Runs.{begin, run, reaches}
 use Rattle.chart.specs.Runs as runs
@@ -72,13 +73,16 @@ is-marked n h =
     dite (ℕ-discrete n 0) (λ a. inl a)
     (λ a. dite (ℕ-discrete n 65) (λ b. inr (inl b)) (λ b. dite (ℕ-discrete n 4097) (λ c. inr (inr c)) (λ c. absurd (h (unmarked n a b c)))))
 
-sized-so : Says (sized (C .table) (C .table) (R .graph))
-unfolding sized marks targets
-sized-so = says (sized (C .table) (C .table) (R .graph)) tt
+sized-so : Says (sized (R .graph))
+unfolding marks targets
+sized-so = says (sized (R .graph)) tt
 
-no-fault : fault C ≡ none
-unfolding options.firstOf tests.someBelow charts.leavingOf charts.leaving faults.countFault faults.alarmFault faults.rowFault faults.clash faults.conflictFault faults.rowsFault faults.fault operations.kind operations.operandB operations.assignedC operations.operandC operations.operandsFit operations.reads operations.related operations.holds trials.seats trials.trial trials.shown trials.together
-no-fault = refl
+none-due : faults.refusal C ≡ none
+unfolding faults.refusal options.firstOf tests.someBelow charts.leavingOf charts.leaving faults.countFault faults.alarmFault faults.rowFault faults.clash faults.conflictFault faults.rowsFault faults.fault operations.kind operations.operandB operations.assignedC operations.operandC operations.operandsFit operations.reads operations.related operations.holds trials.seats trials.trial trials.shown trials.together
+none-due = refl
+
+sound : FaultlessChart C
+sound = faultless C none-due
 
 mark-at : (i : ℕ) → T (bool (markFits (headOf C) (headOf C) i (getD marks i 0))) → (n : ℕ) → n ≡ i
     → Says (markFits (headOf C) (headOf C) n (getD marks n 0))
@@ -123,7 +127,7 @@ rules-so m k l h two there =
 pub instance-passes : refusal C C R ≡ none
 unfolding shaped marksFit targetsFit startFits marks
 instance-passes =
-    passes C C R sized-so no-fault no-fault (inl refl, (marks-so, targets-so)) (inl (refl, (refl, inl (λ e. omega arith))))
+    passes C C R sized-so sound sound (inl refl, (marks-so, targets-so)) (inl (refl, (refl, inl (λ e. omega arith))))
     rules-so
 
 -- ---- what it promises

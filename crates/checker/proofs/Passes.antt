@@ -12,8 +12,9 @@ use Rattle.base.proofs.Options.{none-everywhere}
 use Rattle.base.proofs.Says.{said}
 use Rattle.base.proofs.Tests.{is-true}
 use Rattle.chart.specs.Charts.{Chart, size, leaving}
-use Rattle.chart.specs.Faults.{fault}
+use Rattle.chart.specs.Faultless.{FaultlessChart}
 use Rattle.chart.specs.Places.{newOf, headOf}
+use Rattle.chart.proofs.Faultless.{none-judged}
 use Rattle.records.specs.Records.{Graph, Record, mark}
 use Rattle.checker.specs.Rules.{shaped, startFits, rowFits}
 use Rattle.checker.specs.Checks.{sized, targetFault, rowsFault, pairFault, broken, ruleFault, recordFault, refusal}
@@ -43,17 +44,15 @@ module _ (old new : Chart) (G : Graph) (rules : Rules old new G) where
       (λ e. rw (ne-eqb (mark G m) 0 e, pairFault) (rw (row-off m 0 b e (omega arith), row-off m 1 b e (omega arith))))
 
 module _ (old new : Chart) (R : Record) where
-  pub passes : Says (sized (old .table) (new .table) (R .graph)) → fault old ≡ none → fault new ≡ none
+  pub passes : Says (sized (R .graph)) → FaultlessChart old → FaultlessChart new
       → Says (shaped (headOf old) (headOf new) (R .start) (R .graph .marks) (R .graph .targets))
       → Says (startFits (headOf old) (headOf new) (R .start) (R .graph .marks))
       → Rules old new (R .graph)
       → refusal old new R ≡ none
   unfolding refusal recordFault ruleFault broken
-  passes z fo fn sh st rules =
+  passes z F H sh st rules =
       rw (
-        met (sized (old .table) (new .table) (R .graph)) z,
-        fo,
-        fn,
+        none-judged (bool (sized (R .graph))) old new (met (sized (R .graph)) z, F, H),
         met (shaped (headOf old) (headOf new) (R .start) (R .graph .marks) (R .graph .targets)) sh,
         met (startFits (headOf old) (headOf new) (R .start) (R .graph .marks)) st,
         none-everywhere (pairFault old new (R .graph)) 4096 (λ m b. pair-off old new (R .graph) rules m b),

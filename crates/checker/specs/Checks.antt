@@ -2,7 +2,7 @@
 use mathlib.Core.Bool.{true, false, _&&_, not}
 use mathlib.Core.List.{List}
 use mathlib.Core.Option.{Option, none, some}
-use Prim.Native.Nat.{ℕ, _%_}
+use Prim.Native.Nat.{ℕ}
 use lib.Dec.{eqb, ltb}
 use lib.ListN.{length}
 use Rattle.base.specs.Options.{when, orElse, firstOf}
@@ -10,7 +10,7 @@ use Rattle.base.specs.declared.Refusal.{Refusal}
 use Rattle.base.specs.Refusals.{sole, due}
 use Rattle.base.specs.Says.{Test, eq, _and_, bool}
 use Rattle.chart.specs.Charts.{Chart, size, leaving}
-use Rattle.chart.specs.Faults.{fault}
+use Rattle.chart.specs.Faults.{judged}
 use Rattle.chart.specs.Places.{newOf, headOf}
 use Rattle.checker.specs.declared.answers.Checked.{Checked}
 use Rattle.checker.specs.declared.answers.Checked.the-variants.{Passed, Refused}
@@ -22,16 +22,9 @@ abbrev pub told : Checked → Option Refusal
 told Passed = none
 told (Refused r) = some r
 
--- "21, a lent length differs from the stated one [..], or a chart table's isn't a multiple of 6"
-unfoldable pub sized : List ℕ → List ℕ → Graph → Test
-sized old new G =
-    eq (length (G .marks)) 4160 and eq (length (G .targets)) 8192 and eq (length (G .sets)) 4096
-    and eq (length old % 6) 0 and eq (length new % 6) 0
-
--- a chart's fault, 1 to 8, in the old chart (0) or the new one (1)
-abbrev pub inChart : ℕ → Option Refusal → Option Refusal
-inChart chart none = none
-inChart chart (some r) = some (record { number = r .number; chart = chart; position = r .position })
+-- "marks (4,160 bytes), targets (8,192 u16, [..]), sets (4,096 u64, [..])": the stated lengths of a record
+abbrev pub sized : Graph → Test
+sized G = eq (length (G .marks)) 4160 and eq (length (G .targets)) 8192 and eq (length (G .sets)) 4096
 
 -- refusal 32, where a position is given
 abbrev pub ruleAt : Option ℕ → Option Refusal
@@ -67,8 +60,6 @@ module _ (old new : Chart) (R : Record) where
   recordFault =
       orElse (due (not (bool (shaped (headOf old) (headOf new) (R .start) (R .graph .marks) (R .graph .targets)))) 31 0) ruleFault
 
-  -- the refusal that is due, if any: 21 first, then "the old chart comes before the new"
+  -- the refusal that is due, if any: "A record's maker, after both charts"
   unfoldable pub refusal : Option Refusal
-  refusal =
-      orElse (due (not (bool (sized (old .table) (new .table) (R .graph)))) 21 0)
-      (orElse (inChart 0 (fault old)) (orElse (inChart 1 (fault new)) recordFault))
+  refusal = orElse (judged (bool (sized (R .graph))) old new) recordFault

@@ -1,52 +1,40 @@
 -- The answers of a build are small, and so is the number that each makes; what is below 2^56 tells the start.
 -- Assumes nothing.
 use mathlib.Core.Path.{_≡_, refl, sym, ap, subst, _∙_}
-use mathlib.Core.Bool.{not}
 use mathlib.Core.List.{List}
 use mathlib.Core.Logic.{⊎-elim}
 use mathlib.Core.Option.{Option, none, some}
 use Prim.Native.Nat.{ℕ, _%_, _^_, _≤_, _<_}
 use native.Mathlib.Omega.{arith}
-use borrow.Author.Tests.{not-false}
 use lib.ListN.{length}
 use Rattle.base.specs.Answers.{Answer, given, refused}
 use Rattle.base.specs.Chains.{mapped}
-use Rattle.base.specs.Options.{orElse}
 use Rattle.base.specs.declared.Refusal.{Refusal}
-use Rattle.base.specs.Refusals.{due, unless}
+use Rattle.base.specs.Refusals.{unless}
 use Rattle.base.specs.Says.{bool}
 use Rattle.base.proofs.Counts.{count-most}
-use Rattle.base.proofs.OnSome.{OnSome, or-on}
-use Rattle.base.proofs.Options.{both-missing, not-due}
-use Rattle.base.proofs.Says.{says}
-use Rattle.base.proofs.Tests.{T-true}
+use Rattle.base.proofs.OnSome.{OnSome}
 use Rattle.chart.specs.Charts.{Chart}
-use Rattle.chart.specs.Faults.{fault}
-use Rattle.chart.proofs.Bounds.{fault-slight}
-use Rattle.records.specs.Records.{Record, recordOf}
+use Rattle.checker.specs.Records.{Record, recordOf}
 use Rattle.checker.specs.Rules.{startFits}
-use Rattle.checker.specs.Checks.{sized, inChart, recordFault, refusal as checkRefusal}
-use Rattle.checker.proofs.Passed.{passed}
+use Rattle.checker.specs.Checks.{refusal as checkRefusal}
+use Rattle.checker.proofs.Passed.{lengths, passed}
 use Rattle.condition.specs.declared.Summary.{Summary}
 use Rattle.builder.specs.declared.answers.Built.{Built}
 use Rattle.builder.specs.declared.answers.Built.the-variants as builts
-use Rattle.graph.specs.Buffers.{Buffers}
+use Rattle.graph.specs.Graphs.{Graph}
 use Rattle.condition.specs.Builds.{recorded, summary}
-use Rattle.builder.proofs.Passing.{record-passes}
+use Rattle.condition.proofs.Demand3.{record-passes}
 use Rattle.paper.specs.Returned.{Returned}
 use Rattle.builder.specs.Answers.{told, lent, refusal, answered}
 use Rattle.builder.proofs.Answering.{accepted}
 use Rattle.picker.specs.Numbers.{number, Fits, ofBuild}
-use Rattle.picker.proofs.Refusals.{Small, small-fits, due-small, in-chart-small}
+use Rattle.picker.proofs.Refusals.{Small, small-fits, judged-small}
 
 -- ---- a record that passes
 module _ (old new : Chart) (R : Record) (e : checkRefusal old new R ≡ none) where
   marks-long : length (R .graph .marks) ≡ 4160
-  unfolding checkRefusal sized
-  marks-long =
-      let t = sized (old .table) (new .table) (R .graph) in
-      let a = both-missing (due (not (bool t)) 21 0) (orElse (inChart 0 (fault old)) (orElse (inChart 1 (fault new)) (recordFault old new R))) e in
-      says t (T-true (not-false (bool t) (not-due (not (bool t)) _ (a .0)))) .0
+  marks-long = lengths old new R e .0
 
   start-near : R .start ≤ 4096
   unfolding startFits
@@ -75,14 +63,10 @@ recorded-few old new e =
       covered = omega (arith, count-most 3 m);
     }
 
-module _ (old new : Chart) (g : Buffers) where
+module _ (old new : Chart) (g : Graph) where
   due-is-small : OnSome Small (refusal old new g)
   unfolding refusal
-  due-is-small =
-      let lengths = not (bool (lent (old .table) (new .table) g)) in
-      or-on Small (due lengths 21 0) (orElse (inChart 0 (fault old)) (inChart 1 (fault new))) (due-small lengths 21 0 (omega arith) (omega arith) (omega arith))
-      (λ _. or-on Small (inChart 0 (fault old)) (inChart 1 (fault new)) (in-chart-small 0 (omega arith) (fault old) (fault-slight old))
-      (λ _. in-chart-small 1 (omega arith) (fault new) (fault-slight new)))
+  due-is-small = judged-small (bool (lent g)) old new
 
   -- Whatever a build answers is small.
   build-small : SmallBuild (answered old new g)

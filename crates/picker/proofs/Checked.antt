@@ -7,22 +7,21 @@ use mathlib.Core.Option.{Option, none, some}
 use Prim.Native.Nat.{ℕ, _≤_, _<_}
 use native.Mathlib.Omega.{arith}
 use lib.Dec.{eqb, ltb}
-use Rattle.base.specs.Options.{when, orElse, firstOf}
+use Rattle.base.specs.Options.{when, firstOf}
 use Rattle.base.specs.declared.Refusal.{Refusal}
 use Rattle.base.specs.Refusals.{due, unless}
 use Rattle.base.specs.Says.{bool}
 use Rattle.base.proofs.OnSome.{OnSome, when-on, or-on, first-on}
 use Rattle.chart.specs.Charts.{Chart, size, leaving}
-use Rattle.chart.specs.Faults.{fault}
-use Rattle.chart.specs.Places.{newOf, headOf}
-use Rattle.chart.proofs.Bounds.{fault-slight}
-use Rattle.checker.specs.declared.answers.Checked.{Checked}
-use Rattle.records.specs.Records.{Graph, Record, mark, index}
-use Rattle.checker.specs.Rules.{shaped, startFits, rowFits}
-use Rattle.checker.specs.Checks.{told, sized, inChart, ruleAt, targetFault, rowsFault, pairFault, broken, ruleFault, recordFault, refusal}
+use Rattle.chart.specs.Faults.{judged}
+use Rattle.chart.specs.Places.{newOf}
+use Rattle.checker.specs.declared.records.Checked.{Checked}
+use Rattle.checker.specs.Records.{Graph, Record, mark, index}
+use Rattle.checker.specs.Rules.{headOf, shaped, startFits, rowFits}
+use Rattle.checker.specs.Checks.{told, sized, ruleAt, targetFault, rowsFault, pairFault, broken, ruleFault, recordFault, refusal}
 use Rattle.checker.specs.Promise.{Promise}
 use Rattle.picker.specs.Numbers.{number, zeros}
-use Rattle.picker.proofs.Refusals.{Small, due-small, in-chart-small, told-on, told-number}
+use Rattle.picker.proofs.Refusals.{Small, due-small, judged-small, told-on, told-number}
 
 -- a position that a rule is refused at
 Near : ℕ → Type 0
@@ -71,11 +70,8 @@ module _ (old new : Chart) (R : Record) where
   pub check-small : OnSome Small (refusal old new R)
   unfolding refusal
   check-small =
-      let lengths = not (bool (sized (old .table) (new .table) (R .graph))) in
-      or-on Small (due lengths 21 0) (orElse (inChart 0 (fault old)) (orElse (inChart 1 (fault new)) (recordFault old new R)))
-      (due-small lengths 21 0 (omega arith) (omega arith) (omega arith))
-      (λ _. or-on Small (inChart 0 (fault old)) (orElse (inChart 1 (fault new)) (recordFault old new R)) (in-chart-small 0 (omega arith) (fault old) (fault-slight old))
-      (λ _. or-on Small (inChart 1 (fault new)) (recordFault old new R) (in-chart-small 1 (omega arith) (fault new) (fault-slight new)) (λ _. record-small)))
+      or-on Small (judged (bool (sized (R .graph))) old new) (recordFault old new R) (judged-small (bool (sized (R .graph))) old new)
+      (λ _. record-small)
 
   -- the number of an answer is 0 only where none is due
   zero-passes : (o : Option Refusal) → OnSome Small o → number (unless o zeros) ≡ 0 → o ≡ none

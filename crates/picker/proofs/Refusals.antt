@@ -1,18 +1,20 @@
 -- The numbers of a refusal that a call gives: they are small, and fit the places that they have in one number.
 -- Assumes nothing.
 use mathlib.Core.Path.{_≡_, sym, ap, subst, _∙_}
-use mathlib.Core.Bool.{Bool}
+use mathlib.Core.Bool.{Bool, _&&_, not}
 use mathlib.Core.Option.{Option, none, some}
 use Prim.Native.Nat.{ℕ, _≤_}
 use native.Mathlib.Omega.{arith}
 use Rattle.base.specs.Answers.{Answer, given, refused}
 use Rattle.base.specs.Chains.{mapped}
+use Rattle.base.specs.Options.{orElse}
 use Rattle.base.specs.declared.Refusal.{Refusal}
 use Rattle.base.specs.Refusals.{sole, due, unless}
 use Rattle.base.proofs.Answers.{different}
-use Rattle.base.proofs.OnSome.{OnSome, when-on}
-use Rattle.chart.proofs.Bounds.{Slight}
-use Rattle.checker.specs.Checks.{inChart}
+use Rattle.base.proofs.OnSome.{OnSome, when-on, or-on}
+use Rattle.chart.specs.Charts.{Chart}
+use Rattle.chart.specs.Faults.{whole, fault, judged}
+use Rattle.chart.proofs.Bounds.{Slight, fault-slight}
 use Rattle.picker.specs.Numbers.{Four, number, Fits, zeros}
 
 -- ---- of a call with two charts
@@ -29,13 +31,21 @@ small-fits s = record { number = omega (arith, s .few); chart = omega (arith, s 
 pub due-small : (b : Bool) (n p : ℕ) → 1 ≤ n → n ≤ 32 → p ≤ 8192 → OnSome Small (due b n p)
 due-small b n p l h g = when-on Small b (sole n p) (record { some-number = l; few = h; one-of-two = omega arith; near = g })
 
-pub in-chart-small : (chart : ℕ) → chart ≤ 1 → (o : Option Refusal) → OnSome Slight o → OnSome Small (inChart chart o)
-in-chart-small chart l none s = tt
-in-chart-small chart l (some f) s =
-    record { some-number = s .some-number; few = omega (arith, s .few); one-of-two = l; near = omega (arith, s .row) }
+slight-small : (chart : ℕ) → chart ≤ 1 → (o : Option Refusal) → OnSome (Slight chart) o → OnSome Small o
+slight-small chart l none s = tt
+slight-small chart l (some f) s =
+    record { some-number = s .some-number; few = omega (arith, s .few); one-of-two = omega (arith, s .alone); near = omega (arith, s .row) }
+
+pub judged-small : (lent : Bool) (old new : Chart) → OnSome Small (judged lent old new)
+unfolding judged
+judged-small lent old new =
+    let unlent = not (lent && (whole (old .table) && whole (new .table))) in
+    or-on Small (due unlent 21 0) (orElse (fault 0 old) (fault 1 new)) (due-small unlent 21 0 (omega arith) (omega arith) (omega arith))
+    (λ _. or-on Small (fault 0 old) (fault 1 new) (slight-small 0 (omega arith) (fault 0 old) (fault-slight 0 old))
+    (λ _. slight-small 1 (omega arith) (fault 1 new) (fault-slight 1 new)))
 
 -- ---- of a call with one chart
-pub slight-fits : {r : Refusal} → Slight r → Fits r
+pub slight-fits : {r : Refusal} → Slight 0 r → Fits r
 slight-fits s = record { number = omega (arith, s .few); chart = omega (arith, s .alone); position = omega (arith, s .row) }
 
 -- ---- of an answer that tells only whether a refusal is due: of its case, what holds of the refusal told and which number it makes

@@ -1,7 +1,7 @@
 -- Laws of what a build answers: its numbers are small.
 -- Assumes nothing.
 use mathlib.Core.Path.{_≡_, sym, ap, subst, _∙_}
-use mathlib.Core.Bool.{Bool, true, false, not}
+use mathlib.Core.Bool.{Bool, true, false, not, _&&_}
 use mathlib.Core.List.{List}
 use mathlib.Core.Option.{Option, none, some}
 use Prim.Native.Nat.{ℕ, _^_, _≤_, _<_}
@@ -17,9 +17,8 @@ use Rattle.base.proofs.Counts.{count-most}
 use Rattle.base.proofs.Answers.{different}
 use Rattle.base.proofs.OnSome.{OnSome, when-on, or-on}
 use Rattle.chart.specs.Charts.{Chart}
-use Rattle.chart.specs.Faults.{fault}
+use Rattle.chart.specs.Faults.{whole, fault, judged}
 use Rattle.chart.proofs.Bounds.{Slight, fault-slight}
-use Rattle.checker.specs.Checks.{inChart}
 use Rattle.chart.specs.Places.{headOf, startPair, startKept}
 use Rattle.condition.specs.declared.Summary.{Summary}
 use Rattle.builder.specs.declared.answers.Built.{Built}
@@ -65,17 +64,17 @@ module _ (old new : Chart) (m t s w : List ℕ) (l : length m ≡ 4160) where
 pub record Low (q : Refusal) : Type 0 where
   pub position : q .position ≤ 128
 
-in-chart-low : (k : ℕ) (o : Option Refusal) → OnSome Slight o → OnSome Low (inChart k o)
-in-chart-low k none h = tt
-in-chart-low k (some r) h = record { position = omega (arith, h .row) }
+slight-low : (k : ℕ) (o : Option Refusal) → OnSome (Slight k) o → OnSome Low o
+slight-low k none h = tt
+slight-low k (some r) h = record { position = omega (arith, h .row) }
 
 refusal-low : (old new : Chart) (g : Buffers) → OnSome Low (refusal old new g)
-unfolding refusal
+unfolding refusal judged
 refusal-low old new g =
-    let unlent = not (bool (lent (old .table) (new .table) g)) in
-    or-on Low (due unlent 21 0) (orElse (inChart 0 (fault old)) (inChart 1 (fault new)))
+    let unlent = not (bool (lent g) && (whole (old .table) && whole (new .table))) in
+    or-on Low (due unlent 21 0) (orElse (fault 0 old) (fault 1 new))
     (when-on Low unlent (sole 21 0) (record { position = omega arith }))
-    (λ _. or-on Low (inChart 0 (fault old)) (inChart 1 (fault new)) (in-chart-low 0 (fault old) (fault-slight old)) (λ _. in-chart-low 1 (fault new) (fault-slight new)))
+    (λ _. or-on Low (fault 0 old) (fault 1 new) (slight-low 0 (fault 0 old) (fault-slight 0 old)) (λ _. slight-low 1 (fault 1 new) (fault-slight 1 new)))
 
 pub position-low : (old new : Chart) (g : Buffers) (r : Built) → told r ≡ answered old new g → (q : Refusal) → r ≡ builts.Refused q → q .position < 2 ^ 32
 unfolding answered

@@ -109,14 +109,14 @@ abbrev pub SmallRead : Answer Chart → Type 0
 SmallRead (given C) = (C .places ≤ 64) × ((C .alarm < 64) × (size (C .table) ≤ 128))
 SmallRead (refused r) = (r .number ≤ 21) × ((r .chart ≡ 0) × (r .position ≤ 10191))
 
-unless-small : (C : Chart) (o : Option Refusal) → OnSome Slight o → (o ≡ none → SmallRead (given C)) → SmallRead (unless o C)
+unless-small : (C : Chart) (o : Option Refusal) → OnSome (Slight 0) o → (o ≡ none → SmallRead (given C)) → SmallRead (unless o C)
 unless-small C none h g = g refl
 unless-small C (some f) h g = (h .few, (h .alone, omega (arith, h .row)))
 
-judged-small : (text : List ℕ) (a : Answer Chart) → a ≡ parsed text → Sole a → SmallRead (andThen a (λ (C : Chart). unless (fault C) C))
+judged-small : (text : List ℕ) (a : Answer Chart) → a ≡ parsed text → Sole a → SmallRead (andThen a (λ (C : Chart). unless (fault 0 C) C))
 judged-small text (refused r) e h = (h .0, (h .1, text-positions text r (sym e)))
 judged-small text (given C) e h =
-    unless-small C (fault C) (fault-slight C)
+    unless-small C (fault 0 C) (fault-slight 0 C)
     (λ z.
     let s = subst (OnGiven (Spells text)) (sym e) (parsed-shows text) in
     let w : length (C .table) % 6 ≡ 0 = omega (arith, s .rows) in
@@ -143,7 +143,7 @@ write-small C lent = go (leb 8643 lent)
   where
     unless-small : (o : Option Refusal) → o ≡ refusal C → SmallWrite (unless o (written C))
     unless-small none e = tt
-    unless-small (some f) e = let h : Slight f = subst (OnSome Slight) (sym e) (refusal-slight C) in (h .few, (h .alone, omega (arith, h .row)))
+    unless-small (some f) e = let h : Slight 0 f = subst (OnSome (Slight 0)) (sym e) (refusal-slight C) in (h .few, (h .alone, omega (arith, h .row)))
 
     go : (t : Bool) → SmallWrite (elim t as (λ _. Answer (List ℕ)) [ true ↦ unless (refusal C) (written C) | false ↦ refused (sole 21 0) ])
     go true = unless-small (refusal C) refl

@@ -79,11 +79,11 @@ parsed-shows [] = tt
 parsed-shows (b ∷ s) = on-then (Shown 6 0 (b ∷ s) 0 []) (Spells (b ∷ s)) (fieldsAt 6 0 (b ∷ s) 0 []) _ (fields-show 6 0 (b ∷ s) 0 []) (rows-show (b ∷ s))
 
 -- and the chart is without fault
-pub read-shows : (text : List ℕ) → OnGiven (λ (C : Chart). Spells text C × (fault C ≡ none)) (readText text)
+pub read-shows : (text : List ℕ) → OnGiven (λ (C : Chart). Spells text C × (fault 0 C ≡ none)) (readText text)
 unfolding readText
-read-shows text = on-then (Spells text) (λ (C : Chart). Spells text C × (fault C ≡ none)) (parsed text) _ (parsed-shows text) (λ C h. go C h (fault C) refl)
+read-shows text = on-then (Spells text) (λ (C : Chart). Spells text C × (fault 0 C ≡ none)) (parsed text) _ (parsed-shows text) (λ C h. go C h (fault 0 C) refl)
   where
-    go : (C : Chart) → Spells text C → (o : Option Refusal) → fault C ≡ o → OnGiven (λ (C : Chart). Spells text C × (fault C ≡ none)) (unless o C)
+    go : (C : Chart) → Spells text C → (o : Option Refusal) → fault 0 C ≡ o → OnGiven (λ (C : Chart). Spells text C × (fault 0 C ≡ none)) (unless o C)
     go C h none e = (h, e)
     go C h (some f) e = tt
 

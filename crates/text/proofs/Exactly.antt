@@ -49,7 +49,7 @@ file-read C text f =
 
 pub read-file : (C : Chart) (text : List ℕ) → readText text ≡ given C → FileOf C text
 read-file C text e =
-    let s = subst (OnGiven (λ (C : Chart). Spells text C × (fault C ≡ none))) e (read-shows text) in
+    let s = subst (OnGiven (λ (C : Chart). Spells text C × (fault 0 C ≡ none))) e (read-shows text) in
     let w : length (C .table) % 6 ≡ 0 = omega (arith, s .0 .rows) in
     record {
       file = items-file (size (C .table)) (numbers C) text (whole-size C w) (s .0 .items);

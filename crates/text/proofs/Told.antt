@@ -32,7 +32,7 @@ use Rattle.text.proofs.Sequences.{FitAll, Shown, fields-show, items-fit
 -- ---- faults
 
 -- of a table of whole rows only the chart's own faults are left
-pub whole-rows : (C : Chart) → length (C .table) % 6 ≡ 0 → refusal C ≡ fault C
+pub whole-rows : (C : Chart) → length (C .table) % 6 ≡ 0 → refusal C ≡ fault 0 C
 unfolding refusal
 whole-rows C h = rw (eq-eqb _ _ h, refusal)
 

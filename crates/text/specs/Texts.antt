@@ -33,7 +33,7 @@ parsed (b ∷ s) =
 
 -- ---- the chart's author: "The reader tests this once its text has been read to the end"
 abbrev pub faultless : Answer Chart → Answer Chart
-faultless a = andThen a (λ (C : Chart). unless (fault C) C)
+faultless a = andThen a (λ (C : Chart). unless (fault 0 C) C)
 
 -- the reader's answer as a function of the bytes
 unfoldable pub readText : List ℕ → Answer Chart

@@ -1,20 +1,26 @@
 -- `builder::build` meets its contract: the refusal that is due, or both algorithms, whose record the check passes and is
 -- what the source's algorithms return. Assumes nothing.
-use Rattle.builder.proofs.Answering.{judged-faultless, done-answers, done-leaves, done-passes, done-returned, refused-answers, refused-leaves, never-done}
+use mathlib.Core.Path.{ap}
+use Rattle.chart.specs.Faults.{told as chartTold}
+use Rattle.graph.specs.Buffers.{buffers}
+use Rattle.builder.proofs.Answering.{none-judged, some-judged, done-answers, done-leaves, done-passes, done-returned, refused-answers, refused-leaves, never-done}
 use native.Mathlib.Omega.{arith}
 use borrow.Author.Needs.{needs}
 use Rattle.builder.proofs.build.Statement.{statement}
 use Rattle.builder.proofs.build.Tie as tie
 
-judge-requires : tie.Need-judge-requires
-judge-requires c κs = search needs
+lent-requires : tie.Need-lent-requires
+lent-requires c κs = search needs
+
+judged-requires : tie.Need-judged-requires
+judged-requires c κs = search needs
 
 enum-told : tie.Need-enum-told
 enum-told c = search needs
 
 complete-requires : tie.Need-complete-requires
 complete-requires c κs =
-    let A = judged-faultless _ _ _ (c .before .before .before .before .before .before .judge .ensures) (c .before .before .before .before .enum-told .given .1) in
+    let A = none-judged _ _ (buffers _ _ _ _) (c .before .before .before .before .before .before .before .lent .ensures) (c .before .before .before .before .before .before .judged .ensures) (ap chartTold (c .before .before .before .before .enum-told .given .1)) in
     (A .old-faultless, (A .new-faultless, A .sized))
 
 enum-known-r : tie.Need-enum-known-r
@@ -34,10 +40,10 @@ same-length-4 c = search needs
 
 returns : tie.Need-returns
 returns c =
-    let A = judged-faultless _ _ _ (c .before .before .before .before .before .before .before .before .before .before .before .before .before .before .before .judge .ensures) (c .before .before .before .before .before .before .before .before .before .before .before .before .before .enum-told .given .1) in
+    let A = none-judged _ _ (buffers _ _ _ _) (c .before .before .before .before .before .before .before .before .before .before .before .before .before .before .before .before .lent .ensures) (c .before .before .before .before .before .before .before .before .before .before .before .before .before .before .before .judged .ensures) (ap chartTold (c .before .before .before .before .before .before .before .before .before .before .before .before .before .enum-told .given .1)) in
     let e = c .before .before .before .before .before .before .before .before .complete .ensures in
-    let known-old = c .before .before .before .before .before .before .before .before .before .before .before .before .before .before .before .before .before .before .before .before .before .before .before .before .before .shared-slice-known .given in
-    let known-new = c .before .before .before .before .before .before .before .before .before .before .before .before .before .before .before .before .before .before .before .before .before .before .before .before .shared-slice-known2 .given in (
+    let known-old = c .before .before .before .before .before .before .before .before .before .before .before .before .before .before .before .before .before .before .before .before .before .before .before .before .before .before .shared-slice-known .given in
+    let known-new = c .before .before .before .before .before .before .before .before .before .before .before .before .before .before .before .before .before .before .before .before .before .before .before .before .before .shared-slice-known2 .given in (
       done-answers _ _ _ A (e .0) (e .1),
       (
         done-leaves _ _ _ A (e .0) (e .1),
@@ -62,15 +68,15 @@ same-length-8 c = search needs
 
 returns-2 : tie.Need-returns-2
 returns-2 c =
-    let e = c .before .before .before .judge .ensures in
-    let q = c .before .r .given .1 in
-    (refused-answers _ _ _ e q, (refused-leaves _ _ _ e q, (λ x h. never-done _ x h, λ x h. never-done _ x h)))
+    let e = some-judged _ _ (buffers _ _ _ _) (c .before .before .before .before .lent .ensures) (c .before .before .before .judged .ensures) (ap chartTold (c .before .r .given .1)) in
+    (refused-answers _ _ _ e, (refused-leaves _ _ _ e, (λ x h. never-done _ x h, λ x h. never-done _ x h)))
 
 pub build-spec : {M : Type 1} → statement M
 build-spec =
     tie.close
     (tie.spec
-    judge-requires
+    lent-requires
+    judged-requires
     enum-told
     complete-requires
     enum-known-r

@@ -1,79 +1,65 @@
-// The first fault of a chart.
+// The tests for faults of a chart: what each says, or the index of the first row that it finds.
 ghost use mathlib.Core.Path.{_≡_};
-ghost use mathlib.Core.Bool.{true, false, _&&_, _||_};
-ghost use mathlib.Core.Option.{some};
+ghost use mathlib.Core.Bool.{true, false, _&&_};
 ghost use Prim.Native.Nat.{_-_, _<_};
-ghost use lib.Dec.{eqb, leb, ltb};
-ghost use Rattle.base.specs.Options.{missing, firstOf};
-ghost use Rattle.base.specs.Refusals.{sole};
-ghost use Rattle.base.specs.Tests.{someBelow};
+ghost use lib.Dec.{eqb, leb};
+ghost use Rattle.base.specs.inner.Found.{toldFound};
+ghost use Rattle.base.specs.Options.{when, firstOf};
 ghost use Rattle.operations.specs.Operations.{isAssumption};
 ghost use Rattle.operations.specs.Trials.{exclusive};
-ghost use Rattle.chart.specs.Charts.{charted, size, from, to};
-ghost use Rattle.chart.specs.Faults.{told, countFault, alarmFault, fromBefore, rowFault, clash, conflictFault, rowsFault, fault};
+ghost use Rattle.chart.specs.Charts.{charted, size, from};
+ghost use Rattle.chart.specs.Faults.{lacks, exceeds, alarmOutside, strays, descends, conflicts, whole};
 ghost use Rattle.chart.specs.Lookup.{Ascending};
+ghost use Rattle.chart.specs.inner.Faulty.{faulty, rowNumber};
 use crate::charts::Head;
-use crate::charts::Judged;
 use crate::inner::rows::from_at;
 use crate::inner::rows::operation_at;
 use crate::inner::rows::to_at;
-use base::sole;
+use base::Found;
 use operations::Operation;
 use operations::assumptions::exactly_one;
 use operations::inner::opposed::opposed;
 
-pub fn is_faultless(j: Judged) -> bool
-    ensures { λ r. ⌜ r ≡ missing (told j) ⌝ }
+// 21: whether a table is whole rows.
+pub fn whole(rows: &[u32]) -> bool
+    ensures { λ r. ⌜ r ≡ whole (now (rows .entry)) ⌝ }
 {
-    match j {
-        Judged::Faultless => true,
-        Judged::Refused(_) => false,
-    }
+    rows.len() % 6 == 0
 }
 
-// The fault with this number, at this row where one is named.
-pub fn faulty(number: u32, position: usize) -> Judged
-    ensures { λ r. ⌜ told r ≡ some (sole number position) ⌝ }
+// 1: whether places or rows are missing.
+pub fn lacks(head: Head, rows: &[u32]) -> bool
+    ensures { λ r. ⌜ r ≡ lacks (charted head (now (rows .entry))) ⌝ }
 {
-    Judged::Refused(sole(number, position))
+    (head.places == 0) | (rows.len() / 6 == 0)
 }
 
-// 1 and 2: the counts of places and rows.
-fn count_fault(head: Head, rows: &[u32]) -> Judged
-    ensures { λ r. ⌜ told r ≡ countFault (charted head (now (rows .entry))) ⌝ }
+// 2: whether there are too many of them.
+pub fn exceeds(head: Head, rows: &[u32]) -> bool
+    ensures { λ r. ⌜ r ≡ exceeds (charted head (now (rows .entry))) ⌝ }
 {
-    let n = rows.len() / 6;
-    if (head.places == 0) | (n == 0) {
-        return faulty(1, 0);
-    }
-    if (64 < head.places) | (128 < n) {
-        return faulty(2, 0);
-    }
-    Judged::Faultless
+    (64 < head.places) | (128 < rows.len() / 6)
 }
 
-// 3: the alarm.
-fn alarm_fault(head: Head) -> Judged
-    ensures { λ r. ⌜ told r ≡ alarmFault (head .places) (head .alarm) ⌝ }
+// 3: whether the alarm is no place.
+pub fn alarm_outside(places: u32, alarm: u32) -> bool
+    ensures { λ r. ⌜ r ≡ leb places alarm ⌝ }
 {
-    if head.places <= head.alarm {
-        return faulty(3, 0);
-    }
-    Judged::Faultless
+    places <= alarm
 }
 
-// Whether row i leaves or leads to a place that is not below n.
-fn strays(n: u32, rows: &[u32], i: usize) -> bool
+// 4: whether row i leaves or leads to a place that is not below n.
+fn strays(head: Head, rows: &[u32], i: usize) -> bool
     requires { ⌜ i < size (now rows) ⌝ }
-    ensures { λ r. ⌜ r ≡ leb n (from (now (rows .entry)) i) || leb n (to (now (rows .entry)) i) ⌝ }
+    ensures { λ r. ⌜ r ≡ strays (charted head (now (rows .entry))) i ⌝ }
 {
-    (n <= from_at(rows, i)) | (n <= to_at(rows, i))
+    (head.places <= from_at(rows, i)) | (head.places <= to_at(rows, i))
 }
 
-// Whether row i has a lower "from" than the row before it.
+// 5: whether row i has a lower "from" than the row before it.
 fn descends(rows: &[u32], i: usize) -> bool
     requires { ⌜ i < size (now rows) ⌝ }
-    ensures { λ r. ⌜ r ≡ ltb (from (now (rows .entry)) i) (fromBefore (now (rows .entry)) i) ⌝ }
+    ensures { λ r. ⌜ r ≡ descends (now (rows .entry)) i ⌝ }
 {
     if i == 0 {
         return false;
@@ -81,41 +67,44 @@ fn descends(rows: &[u32], i: usize) -> bool
     from_at(rows, i) < from_at(rows, i - 1)
 }
 
-// 4 to 7, of one row.
-fn row_fault(head: Head, rows: &[u32], i: usize) -> Judged
+// 4 to 7: whether row i has one of them.
+fn faulty(head: Head, rows: &[u32], i: usize) -> bool
     requires { ⌜ i < size (now rows) ⌝ }
-    ensures { λ r. ⌜ told r ≡ rowFault (charted head (now (rows .entry))) i ⌝ }
+    ensures { λ r. ⌜ r ≡ faulty (charted head (now (rows .entry))) i ⌝ }
 {
-    if strays(head.places, rows, i) {
-        return faulty(4, i);
-    }
-    if descends(rows, i) {
-        return faulty(5, i);
-    }
-    let o = operation_at(rows, i);
-    if operations::is_right(o) {
-        return Judged::Faultless;
-    }
-    if operations::is_known(o) {
-        return faulty(7, i);
-    }
-    faulty(6, i)
+    strays(head, rows, i) | (descends(rows, i) | !operations::is_right(operation_at(rows, i)))
 }
 
-// 4 to 7, of the first row that has one.
-fn first_row_fault(head: Head, rows: &[u32]) -> Judged
-    ensures { λ r. ⌜ told r ≡ firstOf (size (now (rows .entry))) (rowFault (charted head (now (rows .entry)))) ⌝ }
+// Which of 4 to 7 row i has, where it has one.
+pub fn row_number(head: Head, rows: &[u32], i: usize) -> u32
+    requires { ⌜ i < size (now rows) ⌝ }
+    ensures { λ r. ⌜ r ≡ rowNumber (charted head (now (rows .entry))) i ⌝ }
+{
+    if strays(head, rows, i) {
+        return 4;
+    }
+    if descends(rows, i) {
+        return 5;
+    }
+    if operations::is_known(operation_at(rows, i)) {
+        return 7;
+    }
+    6
+}
+
+// 4 to 7: the first row that has one.
+pub fn first_faulty(head: Head, rows: &[u32]) -> Found
+    ensures { λ r. ⌜ toldFound r ≡ firstOf (size (now (rows .entry))) (λ i. when (faulty (charted head (now (rows .entry))) i) i) ⌝ }
 {
     let n = rows.len() / 6;
     let mut i = 0;
     while i < n {
-        let f = row_fault(head, rows, i);
-        if !is_faultless(f) {
-            return f;
+        if faulty(head, rows, i) {
+            return Found::At(i);
         }
         i += 1;
     }
-    Judged::Faultless
+    Found::Nothing
 }
 
 // Whether two operations are assumptions of which exactly one holds.
@@ -132,7 +121,7 @@ fn one_of(f: Operation, g: Operation) -> bool
 fn in_conflict(rows: &[u32], i: usize) -> bool
     requires { ⌜ i < size (now rows) ⌝ }
     requires { ⌜ Ascending (now rows) ⌝ }
-    ensures { λ r. ⌜ r ≡ someBelow i (clash (now (rows .entry)) i) ⌝ }
+    ensures { λ r. ⌜ r ≡ conflicts (now (rows .entry)) i ⌝ }
 {
     let mut j = i;
     while 0 < j {
@@ -162,7 +151,7 @@ fn same_place(rows: &[u32], i: usize, k: usize) -> bool
 fn plainly_apart(rows: &[u32], i: usize) -> bool
     requires { ⌜ i < size (now rows) ⌝ }
     requires { ⌜ Ascending (now rows) ⌝ }
-    ensures { λ r. ⌜ (r ≡ true → someBelow i (clash (now (rows .entry)) i) ≡ false) ⌝ }
+    ensures { λ r. ⌜ (r ≡ true → conflicts (now (rows .entry)) i ≡ false) ⌝ }
 {
     if !same_place(rows, i, 1) {
         return true;
@@ -177,7 +166,7 @@ fn plainly_apart(rows: &[u32], i: usize) -> bool
 fn conflicts(rows: &[u32], i: usize) -> bool
     requires { ⌜ i < size (now rows) ⌝ }
     requires { ⌜ Ascending (now rows) ⌝ }
-    ensures { λ r. ⌜ r ≡ someBelow i (clash (now (rows .entry)) i) ⌝ }
+    ensures { λ r. ⌜ r ≡ conflicts (now (rows .entry)) i ⌝ }
 {
     if plainly_apart(rows, i) {
         return false;
@@ -185,44 +174,18 @@ fn conflicts(rows: &[u32], i: usize) -> bool
     in_conflict(rows, i)
 }
 
-// 8, of the first row that is in conflict with an earlier one.
-fn first_conflict(rows: &[u32]) -> Judged
+// 8: the first row that is in conflict with an earlier one.
+pub fn first_conflict(rows: &[u32]) -> Found
     requires { ⌜ Ascending (now rows) ⌝ }
-    ensures { λ r. ⌜ told r ≡ firstOf (size (now (rows .entry))) (conflictFault (now (rows .entry))) ⌝ }
+    ensures { λ r. ⌜ toldFound r ≡ firstOf (size (now (rows .entry))) (λ i. when (conflicts (now (rows .entry)) i) i) ⌝ }
 {
     let n = rows.len() / 6;
     let mut i = 0;
     while i < n {
         if conflicts(rows, i) {
-            return faulty(8, i);
+            return Found::At(i);
         }
         i += 1;
     }
-    Judged::Faultless
-}
-
-// 4 to 8.
-fn rows_fault(head: Head, rows: &[u32]) -> Judged
-    ensures { λ r. ⌜ told r ≡ rowsFault (charted head (now (rows .entry))) ⌝ }
-{
-    let f = first_row_fault(head, rows);
-    if is_faultless(f) {
-        return first_conflict(rows);
-    }
-    f
-}
-
-// 1 to 8.
-pub fn fault(head: Head, rows: &[u32]) -> Judged
-    ensures { λ r. ⌜ told r ≡ fault (charted head (now (rows .entry))) ⌝ }
-{
-    let counts = count_fault(head, rows);
-    if !is_faultless(counts) {
-        return counts;
-    }
-    let alarm = alarm_fault(head);
-    if !is_faultless(alarm) {
-        return alarm;
-    }
-    rows_fault(head, rows)
+    Found::Nothing
 }

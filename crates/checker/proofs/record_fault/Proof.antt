@@ -3,7 +3,7 @@ use mathlib.Core.Path.{sym, ap, _∙_}
 use borrow.Author.Tests.{not-true, not-false}
 use Rattle.chart.proofs.Faultless.{indexable}
 use Rattle.base.specs.inner.Found.{toldFound}
-use Rattle.checker.proofs.Answering.{shape-refused, rules-judged, judged}
+use Rattle.checker.proofs.Answering.{shape-refused, rules-judged, admitted}
 use Rattle.checker.specs.Rules.{shaped}
 use Rattle.records.specs.Records.{recordOf}
 use borrow.Author.Needs.{needs}
@@ -23,7 +23,7 @@ index-requires : tie.Need-index-requires
 index-requires c κs = (indexable _ (c .before .before .before .before .before .before .before .pre .0), indexable _ (c .before .before .before .before .before .before .before .pre .1 .0))
 
 broken-requires : tie.Need-broken-requires
-broken-requires c κs = (judged _ _ (recordOf _ _ _ _) (c .before .before .before .shaped .ensures) (not-false _ (c .before .before .if1 .left)) (c .before .before .before .before .before .before .before .before .before .pre .0) (c .before .before .before .before .before .before .before .before .before .pre .1 .0) (c .before .before .before .before .before .before .before .before .before .pre .1 .1 .0) (c .before .before .before .before .before .before .before .before .before .pre .1 .1 .1) (c .before .before .before .before .before .before .before .before .before .pre .1 .1 .2), c .before .index .ensures)
+broken-requires c κs = (admitted _ _ (recordOf _ _ _ _) (c .before .before .before .shaped .ensures) (not-false _ (c .before .before .if1 .left)) (c .before .before .before .before .before .before .before .before .before .pre .0) (c .before .before .before .before .before .before .before .before .before .pre .1 .0) (c .before .before .before .before .before .before .before .before .before .pre .1 .1), c .before .index .ensures)
 
 enum-known-position : tie.Need-enum-known-position
 enum-known-position c = search needs

@@ -1,19 +1,19 @@
 -- `chart::inner::faults::first_conflict` meets its contract. The invariant: no row passed is in conflict. Assumes nothing.
-use Rattle.chart.proofs.Faults.{conflict-here, no-conflict}
-use mathlib.Core.Path.{_≡_, sym, ap, _∙_}
+use mathlib.Core.Path.{_≡_}
 use mathlib.Core.Option.{none}
 use Prim.Native.Nat.{_≤_, _-_}
-use Rattle.base.specs.Options.{missing, firstOf}
+use Rattle.base.specs.Options.{when, firstOf}
+use Rattle.base.proofs.Options.{none-all}
 use Rattle.chart.specs.Charts.{size}
-use Rattle.chart.specs.Faults.{conflictFault}
-use Rattle.base.proofs.Options.{first-at, none-at, none-all}
+use Rattle.chart.specs.Faults.{conflicts}
+use Rattle.chart.proofs.Faults.{found-here, not-here}
 use borrow.Author.Needs.{needs}
 use native.Mathlib.Omega.{arith}
 use Rattle.chart.proofs.inner.faults.first_conflict.Statement.{statement}
 use Rattle.chart.proofs.inner.faults.first_conflict.Tie as tie
 
 abbrev Inv-loop : tie.InvT-loop
-Inv-loop rows n i₀ i = (i ≤ size rows) × (firstOf i (conflictFault rows) ≡ none)
+Inv-loop rows n i₀ i = (i ≤ size rows) × (firstOf i (λ i. when (conflicts rows i) i) ≡ none)
 
 abbrev μ-loop : tie.MeasureT-loop
 μ-loop rows n i₀ i = size rows - i
@@ -25,13 +25,8 @@ loop-holds c = search needs
 conflicts-requires : tie.Need-conflicts-requires Inv-loop μ-loop
 conflicts-requires c κs = (c .loop-test .taken, c .before .before .before .pre)
 
-faulty-requires : tie.Need-faulty-requires Inv-loop μ-loop
-faulty-requires c κs = search needs
-
 returns : tie.Need-returns Inv-loop μ-loop
-returns c =
-    let here = conflict-here _ (c .before .before .before .before .loop .i) (c .before .before .conflicts .ensures) (c .before .if1 .taken) in
-    c .faulty .ensures ∙ here ∙ sym (first-at _ _ (c .before .before .before .before .loop .i) (c .before .before .before .loop-test .taken) (c .before .before .before .before .loop .inv .1) (ap missing (sym here)))
+returns c = found-here (conflicts (c .before .before .before .before .before .args .rows .now)) _ (c .before .before .before .loop .inv .1) (c .before .conflicts .ensures) (c .before .before .loop-test .taken) (c .if1 .taken)
 
 add-i : tie.Need-add-i Inv-loop μ-loop
 add-i c = search needs
@@ -40,7 +35,7 @@ loop-less : tie.Need-loop-less Inv-loop μ-loop
 loop-less c = omega arith
 
 loop-again : tie.Need-loop-again Inv-loop μ-loop
-loop-again c = (omega arith, none-at _ (c .before .before .before .loop .i) (c .before .before .before .loop .inv .1) (no-conflict _ (c .before .before .before .loop .i) (c .before .conflicts .ensures) (c .if1 .left)))
+loop-again c = (omega arith, not-here (conflicts (c .before .before .before .before .before .args .rows .now)) _ (c .before .before .before .loop .inv .1) (c .before .conflicts .ensures) (c .if1 .left))
 
 returns-2 : tie.Need-returns-2 Inv-loop μ-loop
 returns-2 c = none-all _ _ _ (c .before .loop .inv .0) (c .loop-test .left) (c .before .loop .inv .1)
@@ -53,7 +48,6 @@ first-conflict-spec =
     μ-loop
     loop-holds
     conflicts-requires
-    faulty-requires
     returns
     add-i
     loop-less

@@ -10,7 +10,7 @@ to-at-requires : tie.Need-to-at-requires
 to-at-requires c κs = search needs
 
 returns : tie.Need-returns
-returns c = rw (c .before .from-at .ensures, c .to-at .ensures)
+returns c = rw (c .before .before .before .from-at .ensures, c .before .to-at .ensures)
 
 pub strays-spec : {M : Type 1} → statement M
 strays-spec = tie.close (tie.spec from-at-requires to-at-requires returns)

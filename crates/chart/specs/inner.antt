@@ -1,0 +1,2 @@
+-- Definitions that help the contracts of inner functions; no rule of the specification speaks of them.
+pub mod Faulty
