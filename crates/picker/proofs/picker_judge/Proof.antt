@@ -17,7 +17,7 @@ enum-known-r : tie.Need-enum-known-r
 enum-known-r c = search needs
 
 packed-requires : tie.Need-packed-requires
-packed-requires c κs = slight-fits (told-on told (c .before .before .before .judge .ensures) (c .before .r .given .1) Slight (refusal-slight _))
+packed-requires c κs = slight-fits (told-on told (c .before .before .before .judge .ensures) (c .before .r .given .1) (Slight 0) (refusal-slight _))
 
 returns : tie.Need-returns
 returns c = told-number told (c .before .before .judge .ensures) (c .enum-told .given .1) (omega arith)
