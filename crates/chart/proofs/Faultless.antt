@@ -96,8 +96,8 @@ faultless C e =
     let a = both-missing (due (not (whole (C .table))) 21 0) (fault 0 C) e in
     unfaulted 0 C (not-false _ (not-due _ _ (a .0))) (a .1)
 
-pub ascends : (C : Chart) → refusal C ≡ none → Ascending (C .table)
-ascends C e = ascending C (faultless C e .rows)
+pub ascends : (C : Chart) → FaultlessChart C → Ascending (C .table)
+ascends C F = ascending C (F .rows)
 
 -- ---- and back
 module _ (C : Chart) where
@@ -169,7 +169,7 @@ module _ (lent : Bool) (old new : Chart) where
 pub indexable : (C : Chart) → FaultlessChart C → Indexable (C .table)
 indexable C F =
     record {
-      ascending = ascending C (F .rows);
+      ascending = ascends C F;
       few-rows = F .few-rows;
       few-places = λ i l. omega (arith, F .rows i l .from-below, F .few-places);
     }
@@ -177,4 +177,5 @@ indexable C F =
 -- a place that lookup opens is one of a faultless chart
 pub opened : (C : Chart) (p : ℕ) → openTo C p ≡ true → Ascending (C .table)
 unfolding openTo
-opened C p e = ascends C (missing-none (refusal C) (and-true (missing (refusal C)) (ltb p (C .places)) e .0))
+opened C p e =
+    ascends C (faultless C (missing-none (refusal C) (and-true (missing (refusal C)) (ltb p (C .places)) e .0)))

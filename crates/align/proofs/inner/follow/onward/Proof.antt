@@ -6,7 +6,7 @@ use Rattle.base.specs.inner.Found.{toldFound}
 use Rattle.align.proofs.Seek.{found-inside, part-right, later-row}
 use Rattle.operations.specs.Operations.{isAssignment, operandsFit}
 use Rattle.chart.specs.Charts.{size, operation}
-use Rattle.chart.proofs.Faultless.{ascends, no-refusal}
+use Rattle.chart.proofs.Faultless.{ascends}
 use mathlib.Core.Bool.{true, false}
 use mathlib.Core.List.{List}
 use Prim.Native.Nat.{ℕ, _<_}
@@ -21,7 +21,7 @@ returns : tie.Need-returns
 returns c = onward-ends _ _ (sym (c .before .is .ensures) ∙ c .if1 .taken)
 
 rows-of-requires : tie.Need-rows-of-requires
-rows-of-requires c κs = (c .before .before .before .before .before .pre .1 .0, (ascends _ (no-refusal _ (c .before .before .before .before .before .pre .0)), c .before .before .before .before .before .pre .1 .1))
+rows-of-requires c κs = (c .before .before .before .before .before .pre .1 .0, (ascends _ (c .before .before .before .before .before .pre .0), c .before .before .before .before .before .pre .1 .1))
 
 assignment-requires : tie.Need-assignment-requires
 assignment-requires c κs = subst (λ (rows : List ℕ). (k : ℕ) → 0 < k → k < size rows → isAssignment (operation rows k) ≡ false) (sym (c .rows-of .ensures)) (λ k z l. later-row _ _ k (c .before .before .before .before .before .before .pre .0) z l)

@@ -5,7 +5,7 @@ use Rattle.base.specs.inner.Found.{toldFound}
 use Rattle.align.proofs.Seek.{found-inside}
 use Rattle.operations.specs.declared.Operation.{Operation}
 use Rattle.operations.specs.Operations.{isAssignment, operandsFit}
-use Rattle.chart.proofs.Faultless.{ascends, no-refusal}
+use Rattle.chart.proofs.Faultless.{ascends}
 use mathlib.Core.Bool.{true}
 use Prim.Native.Nat.{_<_}
 use Rattle.operations.proofs.Codes.{fit-a}
@@ -14,7 +14,7 @@ use Rattle.align.proofs.inner.step.assigned.Statement.{statement}
 use Rattle.align.proofs.inner.step.assigned.Tie as tie
 
 rows-of-requires : tie.Need-rows-of-requires
-rows-of-requires c κs = (c .before .before .before .before .pre .1 .0, (ascends _ (no-refusal _ (c .before .before .before .before .pre .0)), c .before .before .before .before .pre .1 .1 .0))
+rows-of-requires c κs = (c .before .before .before .before .pre .1 .0, (ascends _ (c .before .before .before .before .pre .0), c .before .before .before .before .pre .1 .1 .0))
 
 operation-at-requires : tie.Need-operation-at-requires
 operation-at-requires c κs = search needs

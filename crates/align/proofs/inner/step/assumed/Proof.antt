@@ -10,7 +10,7 @@ use Rattle.chart.specs.Charts.{size, operation}
 use mathlib.Core.Bool.{true}
 use mathlib.Core.List.{List}
 use Prim.Native.Nat.{ℕ, _<_}
-use Rattle.chart.proofs.Faultless.{ascends, no-refusal}
+use Rattle.chart.proofs.Faultless.{ascends}
 use borrow.Author.Needs.{needs}
 use Rattle.align.proofs.inner.step.assumed.Statement.{statement}
 use Rattle.align.proofs.inner.step.assumed.Tie as tie
@@ -22,7 +22,7 @@ returns : tie.Need-returns
 returns c = assumed-on _ _ _ (counterpart-none _ _ _ (sym (c .before .is .ensures) ∙ c .if1 .taken)) refl
 
 rows-of-requires : tie.Need-rows-of-requires
-rows-of-requires c κs = (c .before .before .before .before .before .before .pre .1 .0, (ascends _ (no-refusal _ (c .before .before .before .before .before .before .pre .0)), c .before .before .before .before .before .before .pre .1 .1 .0))
+rows-of-requires c κs = (c .before .before .before .before .before .before .pre .1 .0, (ascends _ (c .before .before .before .before .before .before .pre .0), c .before .before .before .before .before .before .pre .1 .1 .0))
 
 matching-requires : tie.Need-matching-requires
 matching-requires c κs = search needs

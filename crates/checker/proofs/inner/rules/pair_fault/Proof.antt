@@ -4,7 +4,7 @@ use Rattle.chart.specs.declared.places.NewPlace.{NewPlace}
 use native.Mathlib.Omega.{arith}
 use Rattle.checker.proofs.Targets.{absent, part-of, present}
 use Rattle.records.specs.Records.{graphOf}
-use Rattle.chart.proofs.Faultless.{ascends, no-refusal}
+use Rattle.chart.proofs.Faultless.{ascends}
 use borrow.Author.Needs.{needs}
 use Rattle.checker.proofs.inner.rules.pair_fault.Statement.{statement}
 use Rattle.checker.proofs.inner.rules.pair_fault.Tie as tie
@@ -19,7 +19,7 @@ new-of-requires : tie.Need-new-of-requires
 new-of-requires c κs = search needs
 
 rows-of-requires : tie.Need-rows-of-requires
-rows-of-requires c κs = (c .before .before .before .before .before .before .before .before .pre .1 .0, (ascends _ (no-refusal _ (c .before .before .before .before .before .before .before .before .pre .0 .new-faultless)), (let e = ap (λ (q : NewPlace). q .0) (c .new-of .ensures) in omega arith)))
+rows-of-requires c κs = (c .before .before .before .before .before .before .before .before .pre .1 .0, (ascends _ (c .before .before .before .before .before .before .before .before .pre .0 .new-faultless), (let e = ap (λ (q : NewPlace). q .0) (c .new-of .ensures) in omega arith)))
 
 rows-fault-requires : tie.Need-rows-fault-requires
 rows-fault-requires c κs = (c .before .before .before .before .before .before .before .before .before .pre .0, (c .before .before .before .before .before .before .before .before .before .pre .1 .0, (c .before .before .before .before .before .before .before .before .before .pre .1 .1, part-of _ _ (c .before .new-of .ensures) (c .rows-of .ensures))))

@@ -2,7 +2,7 @@
 use mathlib.Core.Path.{ap}
 use Rattle.chart.specs.declared.places.OldPlace.{OldPlace}
 use Rattle.chart.specs.declared.places.NewPlace.{NewPlace}
-use Rattle.chart.proofs.Faultless.{ascends, no-refusal}
+use Rattle.chart.proofs.Faultless.{ascends}
 use Rattle.detector.proofs.Rows.{row-right, part-below, came-fits, row-there, row-spare}
 use native.Mathlib.Omega.{arith}
 use borrow.Author.Needs.{needs}
@@ -13,7 +13,7 @@ new-of-requires : tie.Need-new-of-requires
 new-of-requires c κs = search needs
 
 rows-of-requires : tie.Need-rows-of-requires
-rows-of-requires c κs = (c .before .before .before .before .before .before .before .before .before .pre .1 .1 .0, (ascends _ (no-refusal _ (c .before .before .before .before .before .before .before .before .before .pre .1 .0)), (let e = ap (λ (q : NewPlace). q .0) (c .new-of .ensures) in omega arith)))
+rows-of-requires c κs = (c .before .before .before .before .before .before .before .before .before .pre .1 .1 .0, (ascends _ (c .before .before .before .before .before .before .before .before .before .pre .1 .0), (let e = ap (λ (q : NewPlace). q .0) (c .new-of .ensures) in omega arith)))
 
 old-of-requires : tie.Need-old-of-requires
 old-of-requires c κs = search needs
