@@ -1,4 +1,5 @@
--- What a build answers, and what it leaves in the four buffers ("Who can cause a refusal", "Four questions for each public call").
+-- What a build answers, and what it leaves in the four buffers ("Who can cause a refusal", "Four questions for each
+-- public call").
 use mathlib.Core.Option.{Option, none, some}
 use lib.ListN.{length}
 use Rattle.base.specs.Answers.{Answer, given, refused}
@@ -19,12 +20,14 @@ abbrev pub told : Built → Answer Summary
 told (builts.Done s) = given s
 told (builts.Refused r) = refused r
 
--- "Lent: marks (4,160 bytes), targets (8,192 u16, [..]), sets (4,096 u64, [..]), waiting (4,096 bytes)": the stated lengths
+-- "Lent: marks (4,160 bytes), targets (8,192 u16, [..]), sets (4,096 u64, [..]), waiting (4,096 bytes)": the stated
+-- lengths
 abbrev pub lent : Buffers → Test
 lent g = eq (length (g .waiting)) 4096 and sized (graphIn g)
 
 module _ (old new : Chart) (g : Buffers) where
-  -- the refusal that is due, if any: "21, a lent length differs from the stated one", and what the charts' authors can cause
+  -- the refusal that is due, if any: "21, a lent length differs from the stated one", and what the charts' authors can
+  -- cause
   unfoldable pub refusal : Option Refusal
   refusal = judged (bool (lent g)) old new
 

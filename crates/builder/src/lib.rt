@@ -1,4 +1,5 @@
-// The builder: the condition of Algorithms 2 and 1, over four lent buffers. Here stands the entry point, which refuses bad input itself.
+// The builder: the condition of Algorithms 2 and 1, over four lent buffers. Here stands the entry point, which refuses
+// bad input itself.
 ghost use mathlib.Core.Path.{_≡_};
 ghost use mathlib.Core.Option.{none};
 ghost use Rattle.base.specs.Says.{bool};
@@ -26,12 +27,14 @@ pub mod answers; // answers.rt: what a build answers
 
 // Whether each of the four lent lengths is the stated one.
 fn lent(marks: &[u8], targets: &[u16], sets: &[u64], waiting: &[u8]) -> bool
-    ensures { λ r. ⌜ r ≡ bool (lent (buffers (now (marks .entry)) (now (targets .entry)) (now (sets .entry)) (now (waiting .entry)))) ⌝ }
+    ensures { λ r. ⌜ r
+        ≡ bool (lent (buffers (now (marks .entry)) (now (targets .entry)) (now (sets .entry)) (now (waiting .entry)))) ⌝ }
 {
     (waiting.len() == 4096) & sized(marks, targets, sets)
 }
 
-// Both algorithms on faultless charts. Which pairs they saw is told from one to the other by a set of them, so that none looks at all pairs.
+// Both algorithms on faultless charts. Which pairs they saw is told from one to the other by a set of them, so that
+// none looks at all pairs.
 fn complete<'a>(
     old: Head,
     old_rows: &'a [u32],
@@ -47,7 +50,9 @@ fn complete<'a>(
     requires { ⌜ Sized (buffers (now marks) (now targets) (now sets) (now waiting)) ⌝ }
     ensures { λ r. ⌜ (buffers (now (marks .exit)) (now (targets .exit)) (now (sets .exit)) (now (waiting .exit))
         ≡ built (charted old (now («old_rows» .entry))) (charted new (now («new_rows» .entry))))
-        × (r ≡ summary (recorded (charted old (now («old_rows» .entry))) (charted new (now («new_rows» .entry))) .start) (now (marks .exit))) ⌝ }
+        × (r ≡ summary
+        (recorded (charted old (now («old_rows» .entry))) (charted new (now («new_rows» .entry))) .start)
+        (now (marks .exit))) ⌝ }
 {
     let index = rows::index(old_rows, new_rows);
     let mut seen = [0u64; 64];
@@ -78,11 +83,15 @@ pub fn build<'a>(
     sets: &mut [u64],
     waiting: &mut [u8],
 ) -> Built
-    ensures answer { λ r. ⌜ told r ≡ answered (charted old (now («old_rows» .entry))) (charted new (now («new_rows» .entry))) (buffers (now (marks .entry)) (now (targets .entry)) (now (sets .entry)) (now (waiting .entry))) ⌝ }
+    ensures answer { λ r. ⌜ told r
+        ≡ answered (charted old (now («old_rows» .entry))) (charted new (now («new_rows» .entry)))
+        (buffers (now (marks .entry)) (now (targets .entry)) (now (sets .entry)) (now (waiting .entry))) ⌝ }
     ensures leaves { λ _. ⌜ buffers (now (marks .exit)) (now (targets .exit)) (now (sets .exit)) (now (waiting .exit))
-        ≡ left (charted old (now («old_rows» .entry))) (charted new (now («new_rows» .entry))) (buffers (now (marks .entry)) (now (targets .entry)) (now (sets .entry)) (now (waiting .entry))) ⌝ }
+        ≡ left (charted old (now («old_rows» .entry))) (charted new (now («new_rows» .entry)))
+        (buffers (now (marks .entry)) (now (targets .entry)) (now (sets .entry)) (now (waiting .entry))) ⌝ }
     ensures passes { λ r. ⌜ ((s : Summary) → r ≡ Done s
-        → checkRefusal (charted old (now («old_rows» .entry))) (charted new (now («new_rows» .entry))) (recordOf (s .start) (now (marks .exit)) (now (targets .exit)) (now (sets .exit))) ≡ none) ⌝ }
+        → checkRefusal (charted old (now («old_rows» .entry))) (charted new (now («new_rows» .entry)))
+        (recordOf (s .start) (now (marks .exit)) (now (targets .exit)) (now (sets .exit))) ≡ none) ⌝ }
     ensures algorithms { λ r. ⌜ ((s : Summary) → r ≡ Done s
         → Returned (charted old (now («old_rows» .entry))) (charted new (now («new_rows» .entry)))
         (recordOf (s .start) (now (marks .exit)) (now (targets .exit)) (now (sets .exit)))) ⌝ }

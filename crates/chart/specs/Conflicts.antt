@@ -1,5 +1,5 @@
--- What fault 8 says of the values ("Charts and rows"): `clash` of Faults.antt is this for rows that have passed 4 to 7, which
--- is proved in proofs/Conflicts.antt.
+-- What fault 8 says of the values ("Charts and rows"): `clash` of Faults.antt is this for rows that have passed 4 to
+-- 7, which is proved in proofs/Conflicts.antt.
 use mathlib.Core.Path.{_≡_}
 use mathlib.Core.Bool.{true}
 use mathlib.Core.List.{List}

@@ -1,5 +1,5 @@
--- What a chart is like for which no refusal is due: each number of "the chart's author" read as what it rules out. That this is so exactly
--- where the computed test finds no fault is proved, in proofs/Faultless.antt.
+-- What a chart is like for which no refusal is due: each number of "the chart's author" read as what it rules out.
+-- That this is so exactly where the computed test finds no fault is proved, in proofs/Faultless.antt.
 use mathlib.Core.Path.{_≡_}
 use mathlib.Core.Bool.{true}
 use Prim.Native.Nat.{ℕ, _%_, _≤_, _<_}

@@ -1,4 +1,5 @@
--- The faults of a chart, by number, chart and position, and the calls that judge ("Who can cause a refusal": the chart's author).
+-- The faults of a chart, by number, chart and position, and what the calls that judge say ("Who can cause a
+-- refusal": the chart's author).
 use mathlib.Core.Bool.{Bool, _&&_, _||_, not}
 use mathlib.Core.List.{List}
 use mathlib.Core.Option.{Option, none, some}
@@ -64,8 +65,8 @@ countFault k C = orElse (dueIn k (lacks C) 1 0) (dueIn k (exceeds C) 2 0)
 unfoldable pub alarmFault : ℕ → Chart → Option Refusal
 alarmFault k C = dueIn k (alarmOutside C) 3 0
 
--- "Then per row (position: row from 0): 4 a place not below n; 5 "from" below the previous row's; 6 unknown op; 7 variable above 63 or an
--- unused operand not 0"
+-- "Then per row (position: row from 0): 4 a place not below n; 5 "from" below the previous row's; 6 unknown op; 7
+-- variable above 63 or an unused operand not 0"
 unfoldable pub rowFault : ℕ → Chart → ℕ → Option Refusal
 rowFault k C i =
     orElse (dueIn k (strays C i) 4 i)
@@ -79,7 +80,8 @@ conflictFault k t i = dueIn k (conflicts t i) 8 i
 
 -- 4 to 8
 unfoldable pub rowsFault : ℕ → Chart → Option Refusal
-rowsFault k C = orElse (firstOf (size (C .table)) (rowFault k C)) (firstOf (size (C .table)) (conflictFault k (C .table)))
+rowsFault k C =
+    orElse (firstOf (size (C .table)) (rowFault k C)) (firstOf (size (C .table)) (conflictFault k (C .table)))
 
 -- the chart's first fault, 1 to 8
 unfoldable pub fault : ℕ → Chart → Option Refusal
@@ -90,8 +92,9 @@ fault k C = orElse (countFault k C) (orElse (alarmFault k C) (rowsFault k C))
 unfoldable pub refusal : Chart → Option Refusal
 refusal C = orElse (due (not (whole (C .table))) 21 0) (fault 0 C)
 
--- of two charts, where `lent` says whether the caller's other lengths are the stated ones: "21, a lent length differs from the
--- stated one [..], or a chart table's isn't a multiple of 6. Always first"; "elsewhere the old chart comes before the new"
+-- of two charts, where `lent` says whether the caller's other lengths are the stated ones: "21, a lent length differs
+-- from the stated one [..], or a chart table's isn't a multiple of 6. Always first"; "elsewhere the old chart comes
+-- before the new"
 unfoldable pub judged : Bool → Chart → Chart → Option Refusal
 judged lent old new =
     orElse (due (not (lent && (whole (old .table) && whole (new .table)))) 21 0) (orElse (fault 0 old) (fault 1 new))

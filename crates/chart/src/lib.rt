@@ -58,8 +58,8 @@ fn fault(chart: u32, head: Head, rows: &[u32]) -> Judged
     rows_fault(chart, head, rows)
 }
 
-// The refusal that is due for a chart: 21, the caller's, for a table that is not whole rows, else the first fault, 1 to 8,
-// with its row.
+// The refusal that is due for a chart: 21, the caller's, for a table that is not whole rows, else the first fault, 1 to
+// 8, with its row.
 pub fn judge(head: Head, rows: &[u32]) -> Judged
     ensures { λ r. ⌜ told r ≡ refusal (charted head (now (rows .entry))) ⌝ }
 {
@@ -69,8 +69,8 @@ pub fn judge(head: Head, rows: &[u32]) -> Judged
     fault(0, head, rows)
 }
 
-// The refusal that is due for two charts: 21, where a length of the caller's is not the stated one or a table is not whole rows,
-// else the old chart's first fault, with chart 0, else the new one's, with chart 1.
+// The refusal that is due for two charts: 21, where another length of the caller's is not the stated one or a table is
+// not whole rows, else the old chart's first fault, with chart 0, else the new one's, with chart 1.
 pub fn judged<'a>(
     lent: bool,
     old: Head,
@@ -78,7 +78,8 @@ pub fn judged<'a>(
     new: Head,
     new_rows: &'a [u32],
 ) -> Judged
-    ensures { λ r. ⌜ told r ≡ judged lent (charted old (now («old_rows» .entry))) (charted new (now («new_rows» .entry))) ⌝ }
+    ensures { λ r. ⌜ told r
+        ≡ judged lent (charted old (now («old_rows» .entry))) (charted new (now («new_rows» .entry))) ⌝ }
 {
     if !(lent & (faults::whole(old_rows) & faults::whole(new_rows))) {
         return refused(0, 21, 0);
@@ -99,10 +100,12 @@ fn open_to(head: Head, rows: &[u32], place: u32) -> bool
     }
 }
 
-// The rows that leave a place of a chart, as a part of its table; an empty part where the chart is faulty or has no such place.
+// The rows that leave a place of a chart, as a part of its table; an empty part where the chart is faulty or has no
+// such place.
 fn rows_open(head: Head, rows: &[u32], place: u32) -> &[u32]
     ensures stands { λ r. ⌜ Stands (r .ptr) (rows .entry .ptr) (now r) (now (rows .entry)) ⌝ }
-    ensures is { λ r. ⌜ now r ≡ cond (openTo (charted head (now (rows .entry))) place) (leaving (now (rows .entry)) place) [] ⌝ }
+    ensures is { λ r. ⌜ now r
+        ≡ cond (openTo (charted head (now (rows .entry))) place) (leaving (now (rows .entry)) place) [] ⌝ }
 {
     if open_to(head, rows, place) {
         return inner::rows::rows_in(rows, place);
@@ -110,8 +113,8 @@ fn rows_open(head: Head, rows: &[u32], place: u32) -> &[u32]
     &rows[0..0]
 }
 
-// The rows that leave a place of the chart named (0 old, 1 new), as a part of its table; an empty part where there is no such chart or
-// place, or the chart named is faulty.
+// The rows that leave a place of the chart named (0 old, 1 new), as a part of its table; an empty part where there is
+// no such chart or place, or the chart named is faulty.
 pub fn lookup<'a>(
     old: Head,
     old_rows: &'a [u32],
@@ -122,7 +125,8 @@ pub fn lookup<'a>(
 ) -> &'a [u32]
     ensures stands { λ r. ⌜ Stands (r .ptr) (cond (eqb chart 1) («new_rows» .entry .ptr) («old_rows» .entry .ptr))
         (now r) (cond (eqb chart 1) (now («new_rows» .entry)) (now («old_rows» .entry))) ⌝ }
-    ensures is { λ r. ⌜ now r ≡ lookup (charted old (now («old_rows» .entry))) (charted new (now («new_rows» .entry))) chart place ⌝ }
+    ensures is { λ r. ⌜ now r
+        ≡ lookup (charted old (now («old_rows» .entry))) (charted new (now («new_rows» .entry))) chart place ⌝ }
 {
     if chart == 0 {
         return rows_open(old, old_rows, place);

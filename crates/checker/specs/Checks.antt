@@ -58,7 +58,8 @@ module _ (old new : Chart) (R : Record) where
   -- "A record's maker, after both charts: 31 [..]. Then 32"
   unfoldable pub recordFault : Option Refusal
   recordFault =
-      orElse (due (not (bool (shaped (headOf old) (headOf new) (R .start) (R .graph .marks) (R .graph .targets)))) 31 0) ruleFault
+      orElse (due (not (bool (shaped (headOf old) (headOf new) (R .start) (R .graph .marks) (R .graph .targets)))) 31 0)
+      ruleFault
 
   -- the refusal that is due, if any: "A record's maker, after both charts"
   unfoldable pub refusal : Option Refusal

@@ -1,5 +1,6 @@
-// The check of a record against two charts, and what a record that passes it promises. Here stands the entry point, which refuses bad
-// input itself; `inner` is what the crates above may call once charts and lengths are known to be right.
+// The check of a record against two charts, and what a record that passes it promises. Here stands the entry point,
+// which refuses bad input itself; `inner` is what the crates above may call once charts and lengths are known to be
+// right.
 ghost use mathlib.Core.Path.{_≡_};
 ghost use mathlib.Core.Option.{none, some};
 ghost use Rattle.base.specs.Refusals.{sole};
@@ -43,7 +44,9 @@ fn record_fault<'a>(
     requires { ⌜ FaultlessChart (charted old (now «old_rows»)) ⌝ }
     requires { ⌜ FaultlessChart (charted new (now «new_rows»)) ⌝ }
     requires { ⌜ Says (sized (graphOf (now marks) (now targets) (now sets))) ⌝ }
-    ensures { λ r. ⌜ told r ≡ recordFault (charted old (now («old_rows» .entry))) (charted new (now («new_rows» .entry))) (recordOf start (now (marks .entry)) (now (targets .entry)) (now (sets .entry))) ⌝ }
+    ensures { λ r. ⌜ told r
+        ≡ recordFault (charted old (now («old_rows» .entry))) (charted new (now («new_rows» .entry)))
+        (recordOf start (now (marks .entry)) (now (targets .entry)) (now (sets .entry))) ⌝ }
 {
     if !shaped(old, new, start, marks, targets) {
         return refused(31, 0);
@@ -65,8 +68,8 @@ fn record_fault<'a>(
     }
 }
 
-// The check: the refusal that is due, if any. What passes keeps the promise: a run of the new chart that reaches its alarm and that the
-// record covers has a run of the old chart, from the same values, that reaches the old alarm.
+// The check: the refusal that is due, if any. What passes keeps the promise: a run of the new chart that reaches its
+// alarm and that the record covers has a run of the old chart, from the same values, that reaches the old alarm.
 pub fn check<'a>(
     old: Head,
     old_rows: &'a [u32],
@@ -77,8 +80,12 @@ pub fn check<'a>(
     targets: &[u16],
     sets: &[u64],
 ) -> Checked
-    ensures is { λ r. ⌜ told r ≡ refusal (charted old (now («old_rows» .entry))) (charted new (now («new_rows» .entry))) (recordOf start (now (marks .entry)) (now (targets .entry)) (now (sets .entry))) ⌝ }
-    ensures promise { λ r. ⌜ (told r ≡ none → Promise (charted old (now («old_rows» .entry))) (charted new (now («new_rows» .entry))) (recordOf start (now (marks .entry)) (now (targets .entry)) (now (sets .entry)))) ⌝ }
+    ensures is { λ r. ⌜ told r
+        ≡ refusal (charted old (now («old_rows» .entry))) (charted new (now («new_rows» .entry)))
+        (recordOf start (now (marks .entry)) (now (targets .entry)) (now (sets .entry))) ⌝ }
+    ensures promise { λ r. ⌜ (told r ≡ none
+        → Promise (charted old (now («old_rows» .entry))) (charted new (now («new_rows» .entry)))
+        (recordOf start (now (marks .entry)) (now (targets .entry)) (now (sets .entry)))) ⌝ }
 {
     match chart::judged(sized(marks, targets, sets), old, old_rows, new, new_rows) {
         Judged::Refused(r) => Checked::Refused(r),

@@ -8,7 +8,8 @@ use Rattle.chart.specs.Faults.{strays, descends}
 -- whether row i has one of the faults 4 to 7
 abbrev pub faulty : Chart → ℕ → Bool
 faulty C i =
-    strays C i || (descends (C .table) i || not (isKnown (operation (C .table) i) && operandsFit (operation (C .table) i)))
+    strays C i
+    || (descends (C .table) i || not (isKnown (operation (C .table) i) && operandsFit (operation (C .table) i)))
 
 -- the first of the numbers 4 to 7 that fits row i, where one does
 abbrev pub rowNumber : Chart → ℕ → ℕ

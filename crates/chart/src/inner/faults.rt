@@ -94,7 +94,8 @@ pub fn row_number(head: Head, rows: &[u32], i: usize) -> u32
 
 // 4 to 7: the first row that has one.
 pub fn first_faulty(head: Head, rows: &[u32]) -> Found
-    ensures { λ r. ⌜ toldFound r ≡ firstOf (size (now (rows .entry))) (λ i. when (faulty (charted head (now (rows .entry))) i) i) ⌝ }
+    ensures { λ r. ⌜ toldFound r
+        ≡ firstOf (size (now (rows .entry))) (λ i. when (faulty (charted head (now (rows .entry))) i) i) ⌝ }
 {
     let n = rows.len() / 6;
     let mut i = 0;
@@ -117,7 +118,8 @@ fn one_of(f: Operation, g: Operation) -> bool
     false
 }
 
-// Whether row i is in conflict with an earlier one: rows of one place stand together, so it is enough to go back to the first of them.
+// Whether row i is in conflict with an earlier one: rows of one place stand together, so it is enough to go back to the
+// first of them.
 fn in_conflict(rows: &[u32], i: usize) -> bool
     requires { ⌜ i < size (now rows) ⌝ }
     requires { ⌜ Ascending (now rows) ⌝ }
@@ -147,7 +149,8 @@ fn same_place(rows: &[u32], i: usize, k: usize) -> bool
     from_at(rows, i - k) == from_at(rows, i)
 }
 
-// Whether row i is plainly in no conflict, as nearly every row: the first of its place, or the second and opposed to the first.
+// Whether row i is plainly in no conflict, as nearly every row: the first of its place, or the second and opposed to
+// the first.
 fn plainly_apart(rows: &[u32], i: usize) -> bool
     requires { ⌜ i < size (now rows) ⌝ }
     requires { ⌜ Ascending (now rows) ⌝ }
@@ -177,7 +180,8 @@ fn conflicts(rows: &[u32], i: usize) -> bool
 // 8: the first row that is in conflict with an earlier one.
 pub fn first_conflict(rows: &[u32]) -> Found
     requires { ⌜ Ascending (now rows) ⌝ }
-    ensures { λ r. ⌜ toldFound r ≡ firstOf (size (now (rows .entry))) (λ i. when (conflicts (now (rows .entry)) i) i) ⌝ }
+    ensures { λ r. ⌜ toldFound r
+        ≡ firstOf (size (now (rows .entry))) (λ i. when (conflicts (now (rows .entry)) i) i) ⌝ }
 {
     let n = rows.len() / 6;
     let mut i = 0;
