@@ -17,7 +17,9 @@ use Rattle.operations.specs.Operations.{isKnown, isAssumption}
 use Rattle.chart.specs.Charts.{Chart, size, from, to, operation}
 use Rattle.chart.specs.Faults.{lacks, strays, fromBefore, descends, clash, whole, countFault, alarmFault, rowFault, conflictFault, rowsFault, fault, refusal, judged}
 use Rattle.chart.specs.Faultless.{FaultlessRow, Apart, FaultlessChart}
-use Rattle.chart.specs.Lookup.{openTo, Ascending, Indexable}
+use Rattle.chart.specs.Lookup.{openTo}
+use Rattle.chart.specs.inner.Ascending.{Ascending}
+use Rattle.chart.specs.inner.Index.{Indexable}
 use Rattle.chart.specs.inner.Faulty.{faulty}
 use Rattle.chart.proofs.Faults.{rows-by}
 

@@ -22,7 +22,7 @@ use Rattle.operations.specs.Trials.{exclusive}
 use Rattle.operations.proofs.Opposed.{opposed-one}
 use Rattle.chart.specs.Charts.{Chart, size, from, operation}
 use Rattle.chart.specs.Faults.{strays, fromBefore, descends, clash, conflicts, rowFault, conflictFault, rowsFault}
-use Rattle.chart.specs.Lookup.{Ascending}
+use Rattle.chart.specs.inner.Ascending.{Ascending}
 use Rattle.chart.specs.inner.Faulty.{faulty, rowNumber}
 
 -- ---- fault 5

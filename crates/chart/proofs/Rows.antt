@@ -12,7 +12,8 @@ use lib.Dec.{eqb}
 use lib.ListN.{length, getD, set, take, drop, length-set, length-take, length-drop}
 use lib.Seq.{take-add, drop-drop, getD-set-same, getD-set-other}
 use Rattle.chart.specs.Charts.{size, from, leavingOf, leaving}
-use Rattle.chart.specs.Lookup.{Ascending, Lower, Indexable, End, Ends, lastOf, Carried, Indexed}
+use Rattle.chart.specs.inner.Ascending.{Ascending}
+use Rattle.chart.specs.inner.Index.{Lower, Indexable, End, Ends, lastOf, Carried, Indexed}
 
 -- rows that do not leave p add nothing
 skip : (t : List ℕ) (p m k : ℕ) → ((j : ℕ) → m ≤ j → j < m + k → from t j ≡ p → ⊥) → leavingOf t p (m + k) ≡ leavingOf t p m

@@ -1,2 +1,4 @@
 -- Definitions that help the contracts of inner functions; no rule of the specification speaks of them.
 pub mod Faulty
+pub mod Ascending
+pub mod Index

@@ -9,7 +9,7 @@ use native.Mathlib.Decide.{decLt}
 use native.Mathlib.Omega.{arith}
 use borrow.Author.Tests.{lt-ltb, le-ltb}
 use Rattle.chart.specs.Charts.{size, from, leavingOf}
-use Rattle.chart.specs.Lookup.{Ascending}
+use Rattle.chart.specs.inner.Ascending.{Ascending}
 use Rattle.records.specs.Records.{rank}
 use Rattle.align.proofs.Parts.{before, before-longer, before-same}
 use Rattle.report.specs.Transitions.{rowsBelow, firstRow}

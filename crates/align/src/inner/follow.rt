@@ -6,7 +6,7 @@ ghost use Prim.Native.Nat.{_<_};
 ghost use Rattle.operations.specs.Operations.{operandsFit};
 ghost use Rattle.chart.specs.Charts.{charted, size, operation};
 ghost use Rattle.chart.specs.Faultless.{FaultlessChart};
-ghost use Rattle.chart.specs.Lookup.{Indexed};
+ghost use Rattle.chart.specs.inner.Index.{Indexed};
 ghost use Rattle.align.specs.Steps.{along, onward, followed};
 ghost use Rattle.align.specs.inner.Told.{toldOnward, toldFollowed};
 use crate::inner::seek;

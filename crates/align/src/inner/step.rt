@@ -6,7 +6,7 @@ ghost use Rattle.base.specs.Says.{bool};
 ghost use Rattle.operations.specs.Operations.{isKnown, isAssignment, isAssumption, same, operandsFit};
 ghost use Rattle.chart.specs.Charts.{charted, size, to, operation};
 ghost use Rattle.chart.specs.Faultless.{FaultlessChart};
-ghost use Rattle.chart.specs.Lookup.{Indexed};
+ghost use Rattle.chart.specs.inner.Index.{Indexed};
 ghost use Rattle.align.specs.Steps.{find, rewritten, assigned, matched, counterpart, assumed, moved, fair, arrived, rowsAt, step};
 ghost use Rattle.align.specs.inner.Told.{told};
 use crate::inner::follow::follow;

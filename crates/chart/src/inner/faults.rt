@@ -9,7 +9,7 @@ ghost use Rattle.operations.specs.Operations.{isAssumption};
 ghost use Rattle.operations.specs.Trials.{exclusive};
 ghost use Rattle.chart.specs.Charts.{charted, size, from};
 ghost use Rattle.chart.specs.Faults.{lacks, exceeds, alarmOutside, strays, descends, conflicts, whole};
-ghost use Rattle.chart.specs.Lookup.{Ascending};
+ghost use Rattle.chart.specs.inner.Ascending.{Ascending};
 ghost use Rattle.chart.specs.inner.Faulty.{faulty, rowNumber};
 use crate::charts::Head;
 use crate::inner::rows::from_at;

@@ -5,7 +5,7 @@ ghost use lib.ListN.{length, getD};
 ghost use Rattle.base.specs.Options.{missing, firstOf};
 ghost use Rattle.base.specs.Says.{bool};
 ghost use Rattle.chart.specs.Charts.{charted, leaving};
-ghost use Rattle.chart.specs.Lookup.{Indexed};
+ghost use Rattle.chart.specs.inner.Index.{Indexed};
 ghost use Rattle.chart.specs.Places.{newOf};
 ghost use Rattle.base.specs.inner.Found.{toldFound};
 ghost use Rattle.records.specs.Records.{graphOf, recordOf};

@@ -6,7 +6,7 @@ ghost use lib.ListN.{length};
 ghost use Rattle.base.specs.Says.{bool, Says};
 ghost use Rattle.base.specs.Tests.{within};
 ghost use Rattle.chart.specs.Charts.{charted, size, to, operation, leaving};
-ghost use Rattle.chart.specs.Lookup.{Indexed};
+ghost use Rattle.chart.specs.inner.Index.{Indexed};
 ghost use Rattle.chart.specs.Places.{newOf};
 ghost use Rattle.align.specs.Steps.{step};
 ghost use Rattle.records.specs.Records.{graphOf};

@@ -5,7 +5,7 @@ ghost use Prim.Native.Nat.{_<_};
 ghost use lib.ListN.{length, getD};
 ghost use Rattle.chart.specs.Charts.{charted};
 ghost use Rattle.chart.specs.Faultless.{FaultlessChart};
-ghost use Rattle.chart.specs.Lookup.{Indexed};
+ghost use Rattle.chart.specs.inner.Index.{Indexed};
 ghost use Rattle.align.specs.declared.spots.Spot.{Spot};
 ghost use Rattle.align.specs.inner.Told.{told};
 ghost use Rattle.base.specs.inner.Found.{toldFound};

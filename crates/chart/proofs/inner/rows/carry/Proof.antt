@@ -1,7 +1,7 @@
 -- `chart::inner::rows::carry` meets its contract. The invariant: the entries of the places passed are there. Assumes nothing.
 use mathlib.Core.Path.{_≡_, refl}
 use Prim.Native.Nat.{_-_, _≤_}
-use Rattle.chart.specs.Lookup.{lastOf, Carried}
+use Rattle.chart.specs.inner.Index.{lastOf, Carried}
 use Rattle.chart.proofs.Rows.{carried-none, last-more, carried-more}
 use borrow.Author.Needs.{needs}
 use native.Mathlib.Omega.{arith}

@@ -2,7 +2,7 @@
 use mathlib.Core.Path.{_≡_}
 use Prim.Native.Nat.{_-_, _≤_}
 use Rattle.chart.specs.Charts.{size}
-use Rattle.chart.specs.Lookup.{Ends}
+use Rattle.chart.specs.inner.Index.{Ends}
 use Rattle.chart.proofs.Rows.{ends-none, ends-more}
 use borrow.Author.Needs.{needs}
 use native.Mathlib.Omega.{arith}
