@@ -22,7 +22,7 @@ use Rattle.sets.specs.Sets.{alone, joined, with, without, meets}
 use Rattle.align.specs.Reads.{readSet}
 use Rattle.align.specs.Steps.{find, isImplied, along, matching, matched, rewritten, rowsAt, atAlarm, assigned, onward, follow, followed, counterpart, assumed, moved, fair, arrived, step}
 use Rattle.align.proofs.Onto.{same→eq, Among, found}
-use Rattle.align.proofs.Parts.{row-of, row-same}
+use Rattle.chart.proofs.Parts.{row-of, row-same}
 
 -- ---- lines 7 and 8
 module _ (s : ℕ) (o : Operation) {m : Bool} (t : m ≡ meets s (readSet o)) where

@@ -30,9 +30,10 @@ use Rattle.align.specs.Reads.{readSet}
 use Rattle.align.specs.Steps.{find, isImplied, along, matching, matched, rewritten, rowsAt, atAlarm, assigned, onward, follow, followed, counterpart, assumed, moved, fair, arrived, step}
 use Rattle.sets.proofs.Sets.{with-here}
 use Rattle.chart.proofs.Conflicts.{operands}
-use Rattle.align.proofs.Parts.{row-of, row-same}
-use Rattle.align.proofs.Agree.{Agree, value-agrees, holds-agrees, write-new, write-old, agree-with, agree-both, after-assignment, after-other, lets-assignment, lets-assumption, let-other, not-assignment}
-use Rattle.align.proofs.Reach.{Hits, hits-row}
+use Rattle.chart.proofs.Parts.{row-of, row-same}
+use Rattle.align.proofs.Agree.{Agree, value-agrees, holds-agrees, write-new, write-old, agree-with, agree-both}
+use Rattle.chart.proofs.Taken.{after-assignment, after-other, lets-assignment, lets-assumption, let-other, not-assignment}
+use Rattle.chart.proofs.Reach.{Hits, hits-row}
 
 -- ---- what is found
 pub same→eq : (o o′ : Operation) → same o o′ ≡ true → o ≡ o′

@@ -1,26 +1,21 @@
 -- The loop that looks for the first row of a place that is as sought. Assumes nothing.
-use mathlib.Core.Path.{_≡_, refl, sym, ap, subst, _∙_}
+use mathlib.Core.Path.{_≡_, refl, sym, ap, _∙_}
 use mathlib.Core.Bool.{Bool, true, false, cond, _&&_}
 use mathlib.Core.List.{List}
 use mathlib.Core.Option.{none, some}
 use Prim.Native.Nat.{ℕ, zero, suc, _+_, _≤_, _<_}
-use mathlib.Core.Logic.{dite}
-use native.Mathlib.Decide.{decLt}
 use native.Mathlib.Omega.{arith}
 use Rattle.base.specs.Options.{when, missing, firstOf}
 use Rattle.base.proofs.OnSome.{on-at}
 use Rattle.base.proofs.Tests.{and-false}
 use Rattle.base.proofs.Options.{first-at, none-at, none-all, none-everywhere}
 use Rattle.operations.specs.declared.Operation.{Operation}
-use Rattle.operations.specs.Operations.{isKnown, isAssignment, isAssumption, operandsFit}
+use Rattle.operations.specs.Operations.{isAssumption}
 use Rattle.operations.specs.Trials.{never, implies, implication}
 use Rattle.operations.specs.declared.assumptions.Implication.the-variants.{Implied, NotImplied}
-use Rattle.chart.specs.Charts.{Chart, size, operation, leaving}
-use Rattle.chart.specs.Faultless.{FaultlessChart}
+use Rattle.chart.specs.Charts.{size, operation}
 use Rattle.align.specs.Steps.{find, isImplied}
 use Rattle.align.proofs.Onto.{found}
-use Rattle.align.proofs.Agree.{not-assignment}
-use Rattle.align.proofs.Parts.{before-mono, row-of, row-same}
 
 module _ (rows : List ℕ) (p : Operation → Bool) where
   -- no row before row k is as sought
@@ -74,21 +69,3 @@ met-implies o o2 n = rw n (go (implies o o2))
     go : (b : Bool) → b ≡ isImplied (cond b Implied NotImplied)
     go true = refl
     go false = refl
-
--- ---- the rows of a place of a faultless chart
--- the code of a row of a place of a faultless chart is known, and its operands fit
-pub part-right : (C : Chart) (p k : ℕ) → FaultlessChart C → k < size (leaving (C .table) p)
-    → (isKnown (operation (leaving (C .table) p) k) ≡ true) × (operandsFit (operation (leaving (C .table) p) k) ≡ true)
-part-right C p k F l =
-    let (i, r) = row-of (C .table) p k l in
-    subst (λ (o : Operation). (isKnown o ≡ true) × (operandsFit o ≡ true)) (sym (row-same (C .table) p r .operation-same)) (F .rows i (r .inside) .known, F .rows i (r .inside) .fit)
-
--- a row after the first of its place is no assignment: both are assumptions
-pub later-row : (C : Chart) (p k : ℕ) → FaultlessChart C → 0 < k → k < size (leaving (C .table) p) → isAssignment (operation (leaving (C .table) p) k) ≡ false
-later-row C p k F z l =
-    let t = C .table in
-    let (i, a) = row-of t p 0 (omega arith) in
-    let (j, b) = row-of t p k l in
-    let ij : i < j = dite (decLt i j) (λ h. h) (λ h. absurd (omega (arith, before-mono t p j i (omega arith) (omega (arith, a .inside)), a .place, b .place))) in
-    subst (λ (o : Operation). isAssignment o ≡ false) (sym (row-same t p b .operation-same))
-    (not-assignment (operation t j) (F .apart j i ij (b .inside) (a .from-here ∙ sym (b .from-here)) .later))

@@ -4,6 +4,9 @@ pub mod Rows
 pub mod Faults
 pub mod Faultless
 pub mod Conflicts
+pub mod Taken
+pub mod Parts
+pub mod Reach
 pub mod Bounds
 pub mod Told
 pub mod Starts

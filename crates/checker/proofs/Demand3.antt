@@ -23,11 +23,12 @@ use Rattle.chart.specs.Places.{oldOf, newOf}
 use Rattle.chart.specs.Runs.{State, lets, after, taken, begin, ready}
 use Rattle.align.specs.declared.spots.Spot.{Spot}
 use Rattle.align.specs.Steps.{fair, step}
-use Rattle.align.proofs.Agree.{agree-wider, agree-same-values, values-after}
+use Rattle.align.proofs.Agree.{agree-wider, agree-same-values}
+use Rattle.chart.proofs.Taken.{values-after}
 use Rattle.align.proofs.Onto.{Onto, step-onto}
 use Rattle.chart.proofs.Conflicts.{operands}
-use Rattle.align.proofs.Parts.{before, stands, same-row, two-at-most}
-use Rattle.align.proofs.Reach.{reachesFrom, from-begin, reaches-nil, reaches-cons, Hits, hits-here}
+use Rattle.chart.proofs.Parts.{before, stands, same-row, two-at-most}
+use Rattle.chart.proofs.Reach.{reachesFrom, from-begin, reaches-nil, reaches-cons, Hits, hits-here}
 use Rattle.records.specs.Records.{Graph, Record, mark, setAt, target, rank, targetOf}
 use Rattle.checker.specs.Following.{goesOn, nodes, covered}
 use Rattle.checker.specs.Rules.{startFits, keeps, joins, joinsStep, ranked, leads, rowFits, spot}

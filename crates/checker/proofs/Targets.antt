@@ -28,7 +28,7 @@ use Rattle.align.specs.declared.spots.Spot.{Spot}
 use Rattle.sets.specs.Sets.{holdsAll}
 use Rattle.align.specs.Steps.{step}
 use Rattle.align.proofs.Moves.{part-below, step-below}
-use Rattle.align.proofs.Seek.{part-right}
+use Rattle.chart.proofs.Parts.{part-right}
 use Rattle.records.specs.Records.{Graph, mark, setAt, target, index}
 use Rattle.checker.specs.Rules.{targetFits, keeps, joins, joinsStep, restsAt, ranked, leads, rowFits, spot}
 use Rattle.checker.specs.Checks.{targetFault, rowsFault, pairFault}

@@ -19,14 +19,14 @@ use Rattle.chart.specs.Faultless.{FaultlessChart}
 use Rattle.chart.specs.Places.{pairNumber, keptNumber, oldOf, newOf}
 use Rattle.align.specs.declared.spots.Spot.{Spot}
 use Rattle.sets.specs.Sets.{joined, holdsAll}
-use Rattle.sets.proofs.Sets.{holds-in, holds-all, joined-left, joined-right}
+use Rattle.sets.proofs.Sets.{holds-in, holds-all, joined-left, joined-right, join-small}
 use Rattle.records.specs.Records.{index}
 use Rattle.graph.specs.Buffers.{Buffers, keep, aim, due, join, unwait}
 use Rattle.graph.specs.inner.Sized.{Sized}
 use Rattle.chart.proofs.Starts.{firstPair, firstKept}
 use Rattle.detector.specs.Turns.{rowsOf, leadsTo, next, setNow, begun, stepOf, rowDone, secondDone, taken, explored}
-use Rattle.detector.proofs.Steps.{Fits}
-use Rattle.graph.proofs.Graphs.{markAt, setAt, waitAt, targetAt, Shaped, keep-node, keep-nodes, keep-kept, keep-mark, keep-set, keep-wait, keep-target, keep-mark-other, keep-set-other, keep-wait-other, keep-target-other, keep-shaped, aimed, by-aim, aimed-shaped, join-mark, join-set, join-due, join-not-due, join-mark-other, join-set-other, join-wait-other, join-there, join-target, join-shaped, join-small, held, not-due-why, unwait-shaped}
+use Rattle.align.proofs.Steps.{Fits}
+use Rattle.graph.proofs.Graphs.{markAt, setAt, waitAt, targetAt, Shaped, keep-node, keep-nodes, keep-kept, keep-mark, keep-set, keep-wait, keep-target, keep-mark-other, keep-set-other, keep-wait-other, keep-target-other, keep-shaped, aimed, by-aim, aimed-shaped, join-mark, join-set, join-due, join-not-due, join-mark-other, join-set-other, join-wait-other, join-there, join-target, join-shaped, held, not-due-why, unwait-shaped}
 use Rattle.detector.proofs.Turns.{by-row, set-now, set-now-small, leads-below, step-of-fits, next-waits}
 use Rattle.detector.proofs.Measure.{begun-shaped}
 

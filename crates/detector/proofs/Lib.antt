@@ -1,5 +1,4 @@
 -- Laws of Algorithm 2.
-pub mod Steps
 pub mod Turns
 pub mod Measure
 pub mod Invariant

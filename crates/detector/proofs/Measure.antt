@@ -19,8 +19,9 @@ use Rattle.sets.specs.Sets.{joined}
 use Rattle.graph.specs.Buffers.{Buffers, marked, keep, aim, due, join, unwait}
 use Rattle.graph.specs.inner.Sized.{Sized}
 use Rattle.detector.specs.Turns.{rowsOf, leadsTo, next, setNow, begun, rowDone, secondDone, taken, explored}
-use Rattle.detector.proofs.Steps.{Fits}
-use Rattle.graph.proofs.Graphs.{markAt, setAt, waitAt, Shaped, marked-yes, marked-no, marked-same, keep-node, keep-nodes, keep-wait, keep-mark-other, keep-set-other, keep-wait-other, keep-shaped, aimed, by-aim, aimed-shaped, join-mark, join-set, join-due, join-not-due, join-mark-other, join-set-other, join-wait-other, join-shaped, join-more, join-small, grown, due-why, unwait-shaped}
+use Rattle.align.proofs.Steps.{Fits}
+use Rattle.sets.proofs.Sets.{join-small}
+use Rattle.graph.proofs.Graphs.{markAt, setAt, waitAt, Shaped, marked-yes, marked-no, marked-same, keep-node, keep-nodes, keep-wait, keep-mark-other, keep-set-other, keep-wait-other, keep-shaped, aimed, by-aim, aimed-shaped, join-mark, join-set, join-due, join-not-due, join-mark-other, join-set-other, join-wait-other, join-shaped, join-more, grown, due-why, unwait-shaped}
 use Rattle.detector.proofs.Turns.{by-row, set-now-small, leads-below, step-of-fits, next-waits, none-waits}
 
 -- what a pair has left: nothing more where its new place is kept; else twice the number of sets above its own, and its flag

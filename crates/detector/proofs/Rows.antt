@@ -17,7 +17,7 @@ use Rattle.align.specs.declared.spots.Spot.{Spot}
 use Rattle.align.specs.declared.spots.Aligned.{Aligned}
 use Rattle.align.specs.Steps.{step}
 use Rattle.align.specs.inner.Told.{told}
-use Rattle.align.proofs.Seek.{part-right}
+use Rattle.chart.proofs.Parts.{part-right, row-to}
 use Rattle.words.specs.inner.Words.{removed}
 use Rattle.graph.specs.Buffers.{Buffers, buffers, marked, unwait}
 use Rattle.graph.specs.inner.Sized.{Sized}
@@ -25,7 +25,6 @@ use Rattle.graph.specs.inner.Tracks.{Tracks}
 use Rattle.detector.specs.Turns.{rowsOf, leadsTo, setNow, stepOf, processed, rowDone, secondDone, taken}
 use Rattle.graph.proofs.Graphs.{marked-yes, marked-no}
 use Rattle.graph.proofs.Tracking.{unwait-tracks}
-use Rattle.detector.proofs.Steps.{row-to}
 use Rattle.detector.proofs.Turns.{step-of-fits}
 
 module _ (new : Chart) (n r : ℕ) {q′ : NewPlace} {part : List ℕ} (a : q′ ≡ newOf n) (b : part ≡ leaving (new .table) (q′ .0)) where

@@ -16,7 +16,8 @@ use Rattle.chart.specs.Places.{pairNumber, keptNumber, oldOf, newOf}
 use Rattle.align.specs.declared.spots.Spot.{Spot}
 use Rattle.graph.specs.Buffers.{Buffers, marked, keep, aim, join}
 use Rattle.detector.specs.Turns.{rowsOf, leadsTo, lowest, next, setNow, stepOf, arrived, processed, rowDone}
-use Rattle.detector.proofs.Steps.{Fits, row-to, row-a, step-fits}
+use Rattle.align.proofs.Steps.{Fits, step-fits}
+use Rattle.chart.proofs.Parts.{row-to, row-a}
 use Rattle.graph.proofs.Graphs.{markAt, setAt, waitAt, marked-yes, marked-no, is-marked, not-marked, Shaped}
 
 module _ (old new : Chart) (g : Buffers) (n v r : ℕ) where

@@ -293,10 +293,6 @@ pub join-more : (s v : ℕ) → s ≤ joined s v
 unfolding joined
 join-more s v = omega (arith, or-add-and s v, and-le-r s v)
 
-pub join-small : (s v : ℕ) → s < 2 ^ 64 → v < 2 ^ 64 → joined s v < 2 ^ 64
-unfolding joined
-join-small s v a b = or-lt 64 s v a b
-
 module _ (s v : ℕ) where
   pub held : holdsAll s v ≡ true → joined s v ≡ s
   unfolding holdsAll joined

@@ -21,7 +21,7 @@ use Rattle.graph.specs.inner.Sized.{Sized}
 use Rattle.detector.specs.Turns.{leadsTo}
 use Rattle.graph.proofs.Graphs.{markAt, keep-target-other, by-aim}
 use Rattle.paper.specs.Nodes.{SetOf, _isIn_, _isNotIn_, _plus_, Pair, Node, aligned, indicator, Edge, edge, onlyPlace, onlyEdge, pairOf}
-use Rattle.paper.proofs.Successors.{successor}
+use Rattle.align.proofs.Successors.{successor}
 use Rattle.paper.proofs.Members.{in-either, in-first, in-neither, only-edge, the-edge, other-edge, other-pair}
 
 module _ (old new : Chart) where

@@ -19,13 +19,13 @@ use Rattle.align.specs.declared.spots.Spot.{Spot}
 use Rattle.sets.specs.Sets.{alone, with, without, meets}
 use Rattle.align.specs.Reads.{readSet}
 use Rattle.align.specs.Steps.{find, oldTo, matching, matched, rewritten, rowsAt, atAlarm, assigned, onward, follow, followed, counterpart, assumed, moved}
-use Rattle.sets.proofs.Sets.{In, alone-here, alone-only, with-here, with-old, with-only, meet-some, meet-none}
+use Rattle.sets.proofs.Sets.{In, alone-here, alone-only, with-here, with-old, with-only, meet-some, meet-none, alone-small, with-small}
 use Rattle.align.proofs.Onto.{same→eq}
 use Rattle.align.proofs.Moves.{follow-ends, follow-twice, follow-on, moved-assigned, moved-twice, moved-assumed}
 use Rattle.paper.specs.Nodes.{SetOf, _isIn_, _isNotIn_, _plus_}
 use Rattle.paper.specs.Lines5to18.{IsWith, onlyOld, InG, Line13, Loop, line12, line14, Lines5and6, Lines11to14, Line15, Line16, Lines5to18, line7, line8, line10, line16, line17, line18, line13-cut}
 use Rattle.paper.proofs.Members.{in-either, in-first, in-second, not-in, in-or-not}
-use Rattle.paper.proofs.Stepping.{same-self, alone-small, with-small, onlyOld-is, unmet, unmet-less, unmet-few, row-edge, no-edge, an-edge, edge-operands, no-match, a-match}
+use Rattle.paper.proofs.Stepping.{same-self, onlyOld-is, unmet, unmet-less, unmet-few, row-edge, no-edge, an-edge, edge-operands, no-match, a-match}
 use Rattle.paper.proofs.Single.{at, with-is, without-is, does-meet, does-not, one-assignment, one-match, onward-is, onward-none}
 
 module _ (old : Chart) (F : FaultlessChart old) (words : Words (old .table)) where

@@ -17,7 +17,7 @@ use Rattle.chart.specs.Places.{keptNumber, newOf, headOf}
 use Rattle.chart.specs.Charts.{Chart, size}
 use Rattle.chart.proofs.Words.{Words}
 use Rattle.chart.specs.Faultless.{FaultlessChart}
-use Rattle.align.proofs.Parts.{two-at-most}
+use Rattle.chart.proofs.Parts.{two-at-most}
 use Rattle.records.specs.Records.{Record, recordOf, mark, target, index}
 use Rattle.graph.specs.Buffers.{marked}
 use Rattle.chart.proofs.Starts.{firstPair, firstKept}

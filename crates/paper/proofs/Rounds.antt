@@ -19,7 +19,7 @@ use Rattle.chart.specs.Charts.{Chart, size, operation}
 use Rattle.chart.proofs.Words.{Words}
 use Rattle.chart.specs.Faultless.{FaultlessChart}
 use Rattle.align.specs.declared.spots.Spot.{Spot}
-use Rattle.align.proofs.Parts.{two-at-most}
+use Rattle.chart.proofs.Parts.{two-at-most}
 use Rattle.records.specs.Records.{index}
 use Rattle.graph.specs.Buffers.{Buffers, marked, unwait}
 use Rattle.detector.specs.Turns.{rowsOf, next, lowest, setNow, begun, rowDone, secondDone, taken, explored}

@@ -21,17 +21,17 @@ use Rattle.chart.specs.Faultless.{FaultlessChart}
 use Rattle.align.specs.declared.spots.Spot.{Spot}
 use Rattle.align.specs.Steps.{moved, arrived, step}
 use Rattle.chart.proofs.Conflicts.{operands}
-use Rattle.align.proofs.Parts.{row-of, row-same}
+use Rattle.chart.proofs.Parts.{row-of, row-same}
 use Rattle.graph.specs.Buffers.{Buffers, marked, keep, aim, join, unwait}
 use Rattle.detector.specs.Turns.{rowsOf, leadsTo, stepOf, processed, rowDone}
 use Rattle.detector.specs.Turns as turns
-use Rattle.detector.proofs.Steps.{Fits}
+use Rattle.align.proofs.Steps.{Fits}
 use Rattle.graph.proofs.Graphs.{markAt, Shaped, not-marked, keep-node, keep-nodes, keep-mark, keep-mark-other, keep-shaped, by-aim, join-mark, join-mark-other, join-target, join-shaped}
 use Rattle.detector.proofs.Turns.{leads-below, step-of-fits}
 use Rattle.paper.specs.Nodes.{_isIn_, _isNotIn_, _plus_, Pair, pair, aligned, indicator, edge, onlyPlace, pairOf}
 use Rattle.paper.specs.Lines5to18.{Lines5to18}
 use Rattle.paper.specs.Algorithm2.{State, toPlace, line27, toPair, process, called}
-use Rattle.paper.proofs.Successors.{successor, one-successor}
+use Rattle.align.proofs.Successors.{successor, one-successor}
 use Rattle.paper.proofs.Members.{the-place, pair-is, other-pair}
 use Rattle.paper.proofs.Stepping.{step-lines}
 use Rattle.paper.proofs.Outcomes.{one-outcome}

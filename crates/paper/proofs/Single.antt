@@ -26,7 +26,7 @@ use Rattle.align.specs.declared.spots.Spot.{Spot}
 use Rattle.sets.specs.Sets.{bit, with, without, meets}
 use Rattle.align.specs.Steps.{find, oldTo, along, rowsAt, atAlarm, onward}
 use Rattle.sets.proofs.Sets.{same-set}
-use Rattle.align.proofs.Agree.{not-assignment}
+use Rattle.chart.proofs.Taken.{not-assignment}
 use Rattle.paper.specs.Lines5to18.{Has, Meet, IsWith, IsWithout, InG, Line13, Line15}
 use Rattle.paper.proofs.Members.{in-or-not}
 use Rattle.paper.proofs.Stepping.{is-with, is-without, meeting, not-meeting, row-edge, no-edge, an-edge}

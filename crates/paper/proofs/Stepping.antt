@@ -7,10 +7,10 @@ use mathlib.Core.Option.{Option, none, some, Option·none-ne-some, Option·some-
 use Prim.Native.Nat.{ℕ, zero, suc, _-_, _%_, _^_, _≤_, _<_}
 use native.Mathlib.Omega.{arith}
 use native.Mathlib.Decide.{ℕ-discrete, decLt}
-use native.Mathlib.Nat.{lt-of-lt-of-le, lt-of-le-of-lt, div-eq-of-lt}
+use native.Mathlib.Nat.{lt-of-lt-of-le, div-eq-of-lt}
 use borrow.Author.Tests.{eq-eqb, eqb-true, eqb-false}
-use lib.Bits.{or-zero-l, and-le-l}
-use lib.Pow.{pow-lt, pow-mono}
+use lib.Bits.{or-zero-l}
+use lib.Pow.{pow-mono}
 use Rattle.base.specs.Options.{when, orElse}
 use Rattle.base.proofs.OnSome.{on-at}
 use Rattle.base.proofs.Options.{none-of, not-due, both-missing}
@@ -33,13 +33,11 @@ use Rattle.align.specs.declared.spots.Spot.{Spot}
 use Rattle.sets.specs.Sets.{bit, alone, joined, with, without, meets}
 use Rattle.align.specs.Reads.{readSet}
 use Rattle.align.specs.Steps.{find, oldTo, isImplied, along, matching, matched, rewritten, rowsAt, atAlarm, assigned, onward, follow, followed, counterpart, assumed, moved}
-use Rattle.sets.proofs.Sets.{In, bit-none, alone-here, alone-only, with-here, with-old, with-only, without-in, without-kept, meet-some, meet-none}
+use Rattle.sets.proofs.Sets.{In, bit-none, alone-here, alone-only, with-here, with-old, with-only, without-in, without-kept, meet-some, meet-none, alone-small, with-small, without-small}
 use Rattle.align.proofs.Onto.{same→eq, found}
 use Rattle.align.proofs.Moves.{onward-below}
 use Rattle.chart.proofs.Conflicts.{operands}
-use Rattle.align.proofs.Parts.{before, stands, same-row, row-of, row-same}
-use Rattle.detector.proofs.Steps.{row-a}
-use Rattle.graph.proofs.Graphs.{join-small}
+use Rattle.chart.proofs.Parts.{before, stands, same-row, row-of, row-same, row-a}
 use Rattle.paper.specs.Nodes.{SetOf, _isIn_, emptySet, _plus_}
 use Rattle.paper.specs.Lines5to18.{Meet, IsWith, IsWithout, onlyOld, InG, Line13, Loop, line12, line14, Lines11to14, Line15, Lines5to18, line7, line8, line10, line16, line17, line18, line13-cut}
 use Rattle.paper.proofs.Members.{in-first, in-second}
@@ -51,10 +49,6 @@ is-with s v i = (λ h. ⊎-elim (λ e. inr e) (λ p. inl p) (with-only i s v h),
 -- a set of 64 variables has no other
 no-other : (s i : ℕ) → s < 2 ^ 64 → 64 ≤ i → In i s → ⊥
 no-other s i b l h = let z : bit s i ≡ 0 = ap (λ (n : ℕ). n % 2) (div-eq-of-lt (lt-of-lt-of-le b (pow-mono l))) in omega arith
-
-without-small : (s v : ℕ) → s < 2 ^ 64 → without s v < 2 ^ 64
-unfolding without
-without-small s v b = lt-of-le-of-lt (and-le-l s (2 ^ 64 - 1 - alone v)) b
 
 pub is-without : (s v : ℕ) → s < 2 ^ 64 → v < 64 → IsWithout s v (without s v)
 is-without s v b k i =
@@ -70,14 +64,6 @@ not-meeting s t e m = meet-none s t (m .variable) e (m .first) (m .second)
 pub same-self : (o : Operation) → same o o ≡ true
 unfolding same
 same-self o = rw (eq-eqb (o .code) (o .code) refl, eq-eqb (o .a) (o .a) refl, eq-eqb (o .b) (o .b) refl, eq-eqb (o .c) (o .c) refl)
-
-pub alone-small : (v : ℕ) → v < 64 → alone v < 2 ^ 64
-unfolding alone
-alone-small v l = pow-lt l
-
-pub with-small : (s v : ℕ) → s < 2 ^ 64 → v < 64 → with s v < 2 ^ 64
-unfolding with
-with-small s v b l = join-small s (alone v) b (alone-small v l)
 
 pub onlyOld-is : (p : OldPlace) (i : ℕ) → i ≡ p .0 → record { 0 = i } isIn onlyOld p
 unfolding onlyOld

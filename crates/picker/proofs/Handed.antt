@@ -19,7 +19,7 @@ use Rattle.chart.specs.Charts.{Chart, size, leaving}
 use Rattle.chart.specs.Faults.{refusal}
 use Rattle.chart.specs.Lookup.{openTo, lookup}
 use Rattle.chart.proofs.Faultless.{faultless}
-use Rattle.align.proofs.Parts.{whole, two-at-most}
+use Rattle.chart.proofs.Parts.{whole, two-at-most}
 use Rattle.picker.specs.Numbers.{number, Fits}
 use Rattle.picker.specs.Lookups.{lookedUp, handed, ofRows}
 

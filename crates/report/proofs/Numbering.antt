@@ -11,7 +11,7 @@ use borrow.Author.Tests.{lt-ltb, le-ltb}
 use Rattle.chart.specs.Charts.{size, from, leavingOf}
 use Rattle.chart.specs.inner.Ascending.{Ascending}
 use Rattle.records.specs.Records.{rank}
-use Rattle.align.proofs.Parts.{before, before-longer, before-same}
+use Rattle.chart.proofs.Parts.{before, before-longer, before-same}
 use Rattle.report.specs.Transitions.{rowsBelow, firstRow}
 
 module _ (t : List ℕ) (A : Ascending t) (i : ℕ) (inside : i < size t) where

@@ -157,3 +157,20 @@ pub set-of-in : (l : List ℕ) (i : ℕ) → T (among l i) → In i (setOf l)
 unfolding setOf
 set-of-in [] i t = absurd t
 set-of-in (v ∷ l) i t = elim (T-or (eqb i v) (among l i) t) [ inl e ↦ joined-left i (alone v) (setOf l) (rw (eqb→eq i v e) (alone-here v)) | inr k ↦ joined-right i (alone v) (setOf l) (set-of-in l i k) ]
+
+-- ---- sets of 64 variables
+pub alone-small : (v : ℕ) → v < 64 → alone v < 2 ^ 64
+unfolding alone
+alone-small v l = pow-lt l
+
+pub join-small : (s v : ℕ) → s < 2 ^ 64 → v < 2 ^ 64 → joined s v < 2 ^ 64
+unfolding joined
+join-small s v a b = or-lt 64 s v a b
+
+pub with-small : (s v : ℕ) → s < 2 ^ 64 → v < 64 → with s v < 2 ^ 64
+unfolding with
+with-small s v b l = join-small s (alone v) b (alone-small v l)
+
+pub without-small : (s v : ℕ) → s < 2 ^ 64 → without s v < 2 ^ 64
+unfolding without
+without-small s v b = lt-of-le-of-lt (and-le-l s (2 ^ 64 - 1 - alone v)) b

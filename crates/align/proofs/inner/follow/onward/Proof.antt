@@ -3,7 +3,8 @@ use mathlib.Core.Path.{_≡_, sym, ap, subst, _∙_}
 use Rattle.align.proofs.Moves.{onward-ends, onward-by}
 use Rattle.align.specs.Steps.{along}
 use Rattle.base.specs.inner.Found.{toldFound}
-use Rattle.align.proofs.Seek.{found-inside, part-right, later-row}
+use Rattle.align.proofs.Seek.{found-inside}
+use Rattle.chart.proofs.Parts.{part-right, later-row}
 use Rattle.operations.specs.Operations.{isAssignment, operandsFit}
 use Rattle.chart.specs.Charts.{size, operation}
 use Rattle.chart.proofs.Faultless.{ascends}

@@ -3,7 +3,7 @@ use mathlib.Core.Path.{_≡_, refl, sym, ap, subst, _∙_}
 use Rattle.align.proofs.Moves.{counterpart-none, counterpart-by, matching-inside, matched-assumes, assumed-on, assumed-by}
 use Rattle.align.specs.Steps.{matching, matched}
 use Rattle.base.specs.inner.Found.{toldFound}
-use Rattle.align.proofs.Seek.{part-right}
+use Rattle.chart.proofs.Parts.{part-right}
 use Rattle.operations.specs.declared.Operation.{Operation}
 use Rattle.operations.specs.Operations.{isAssumption, operandsFit}
 use Rattle.chart.specs.Charts.{size, operation}

@@ -10,11 +10,14 @@ use borrow.Author.Tests.{eq-eqb, ne-eqb}
 use lib.ListN.{length, getD, take, drop, length-append, length-take, length-drop, List·getD-append}
 use lib.Seq.{getD-append-add, getD-drop, getD-take}
 use Rattle.base.proofs.Tests.{differ}
-use Rattle.operations.specs.Operations.{holds}
+use Rattle.operations.specs.declared.Operation.{Operation}
+use Rattle.operations.specs.Operations.{isKnown, isAssignment, operandsFit, holds}
 use Rattle.operations.specs.Values.{var}
+use Rattle.operations.proofs.Codes.{fit-a}
 use Rattle.chart.specs.Charts.{Chart, size, from, to, operation, leavingOf, leaving}
 use Rattle.chart.specs.Faultless.{FaultlessChart}
 use Rattle.chart.proofs.Conflicts.{opposite}
+use Rattle.chart.proofs.Taken.{not-assignment}
 
 -- row k of one table is row i of another
 pub record SameRow (part : List ℕ) (k : ℕ) (t : List ℕ) (i : ℕ) : Type 0 where
@@ -171,3 +174,31 @@ module _ (C : Chart) (F : FaultlessChart C) (words : (k : ℕ) → getD (C .tabl
       (one-of j i ij (b .inside) (a .from-here ∙ sym (b .from-here)))
       (one-of k i (omega arith) (c .inside) (a .from-here ∙ sym (c .from-here)))
       (one-of k j jk (c .inside) (b .from-here ∙ sym (c .from-here)))))
+
+-- ---- the rows of a place of a faultless chart
+-- the code of a row of a place of a faultless chart is known, and its operands fit
+pub part-right : (C : Chart) (p k : ℕ) → FaultlessChart C → k < size (leaving (C .table) p)
+    → (isKnown (operation (leaving (C .table) p) k) ≡ true) × (operandsFit (operation (leaving (C .table) p) k) ≡ true)
+part-right C p k F l =
+    let (i, r) = row-of (C .table) p k l in
+    subst (λ (o : Operation). (isKnown o ≡ true) × (operandsFit o ≡ true)) (sym (row-same (C .table) p r .operation-same)) (F .rows i (r .inside) .known, F .rows i (r .inside) .fit)
+
+-- a row after the first of its place is no assignment: both are assumptions
+pub later-row : (C : Chart) (p k : ℕ) → FaultlessChart C → 0 < k → k < size (leaving (C .table) p) → isAssignment (operation (leaving (C .table) p) k) ≡ false
+later-row C p k F z l =
+    let t = C .table in
+    let (i, a) = row-of t p 0 (omega arith) in
+    let (j, b) = row-of t p k l in
+    let ij : i < j = dite (decLt i j) (λ h. h) (λ h. absurd (omega (arith, before-mono t p j i (omega arith) (omega (arith, a .inside)), a .place, b .place))) in
+    subst (λ (o : Operation). isAssignment o ≡ false) (sym (row-same t p b .operation-same))
+    (not-assignment (operation t j) (F .apart j i ij (b .inside) (a .from-here ∙ sym (b .from-here)) .later))
+
+-- a row of a faultless chart leads to one of its places, and writes or compares one of 64 variables
+module _ (C : Chart) (F : FaultlessChart C) (p k : ℕ) (l : k < size (leaving (C .table) p)) where
+  pub row-to : to (leaving (C .table) p) k < C .places
+  row-to = let (i, r) = row-of (C .table) p k l in rw (row-same (C .table) p r .to-same) (F .rows i (r .inside) .to-below)
+
+  pub row-a : operation (leaving (C .table) p) k .a < 64
+  row-a =
+      let (i, r) = row-of (C .table) p k l in
+      subst (λ (o : Operation). o .a < 64) (sym (row-same (C .table) p r .operation-same)) (fit-a (operation (C .table) i) (F .rows i (r .inside) .fit))

@@ -1,56 +1,34 @@
 -- What an aligned step comes to is a place of the old chart and a set of 64 variables. Assumes nothing.
-use mathlib.Core.Path.{sym, subst}
 use mathlib.Core.Bool.{Bool, true, false, _&&_, _||_, not}
 use mathlib.Core.List.{List}
 use mathlib.Core.Option.{Option, none, some}
-use Prim.Native.Nat.{ℕ, zero, suc, _-_, _^_, _≤_, _<_}
+use Prim.Native.Nat.{ℕ, zero, suc, _^_, _≤_, _<_}
 use native.Mathlib.Omega.{arith}
-use native.Mathlib.Nat.{lt-of-le-of-lt}
-use lib.Bits.{or-lt, and-le-l}
-use lib.Pow.{pow-lt}
 use Rattle.base.specs.Says.{bool}
 use Rattle.base.proofs.OnSome.{OnSome, when-so, or-on, first-on, picked, further}
 use Rattle.operations.specs.declared.Operation.{Operation}
 use Rattle.operations.specs.Operations.{isAssignment, isAssumption, same}
 use Rattle.operations.specs.Trials.{implication}
-use Rattle.operations.proofs.Codes.{fit-a}
 use Rattle.chart.specs.declared.places.OldPlace.{OldPlace}
 use Rattle.chart.specs.declared.places.NewPlace.{NewPlace}
-use Rattle.chart.specs.Charts.{Chart, size, to, operation, leaving}
+use Rattle.chart.specs.Charts.{Chart, size, to, operation}
 use Rattle.chart.specs.Faultless.{FaultlessChart}
 use Rattle.align.specs.declared.spots.Spot.{Spot}
-use Rattle.sets.specs.Sets.{alone, joined, with, without, meets}
+use Rattle.sets.specs.Sets.{alone, with, without, meets}
 use Rattle.align.specs.Reads.{readSet}
 use Rattle.align.specs.Steps.{find, isImplied, along, matching, matched, rewritten, rowsAt, atAlarm, assigned, onward, follow, followed, counterpart, assumed, moved, fair, arrived, step}
-use Rattle.align.proofs.Parts.{row-of, row-same}
+use Rattle.chart.proofs.Parts.{row-to, row-a}
+use Rattle.sets.proofs.Sets.{with-small, without-small}
 
 -- the place is below b, and the set has 64 variables at most
 pub record Fits (b : ℕ) (h : Spot) : Type 0 where
   pub place : h .place .0 < b
   pub set : h .set < 2 ^ 64
 
-with-small : (s v : ℕ) → s < 2 ^ 64 → v < 64 → with s v < 2 ^ 64
-unfolding with joined alone
-with-small s v l k = or-lt 64 s (2 ^ v) l (pow-lt k)
-
-without-small : (s v : ℕ) → s < 2 ^ 64 → without s v < 2 ^ 64
-unfolding without
-without-small s v l = lt-of-le-of-lt (and-le-l s (2 ^ 64 - 1 - alone v)) l
-
 -- row k is there
 found : (rows : List ℕ) (f : Operation → Bool) → OnSome (λ k. k < size rows) (find rows f)
 unfolding find
 found rows f = first-on _ (size rows) _ (λ k l. when-so _ (f (operation rows k)) k (λ t. l))
-
--- a row of a faultless chart leads to one of its places, and writes or compares one of 64 variables
-module _ (C : Chart) (F : FaultlessChart C) (p k : ℕ) (l : k < size (leaving (C .table) p)) where
-  pub row-to : to (leaving (C .table) p) k < C .places
-  row-to = let (i, r) = row-of (C .table) p k l in rw (row-same (C .table) p r .to-same) (F .rows i (r .inside) .to-below)
-
-  pub row-a : operation (leaving (C .table) p) k .a < 64
-  row-a =
-      let (i, r) = row-of (C .table) p k l in
-      subst (λ (o : Operation). o .a < 64) (sym (row-same (C .table) p r .operation-same)) (fit-a (operation (C .table) i) (F .rows i (r .inside) .fit))
 
 module _ (old : Chart) (F : FaultlessChart old) (b : ℕ) (wide : old .places ≤ b) where
   to-fits : (p : OldPlace) (k : ℕ) → k < size (rowsAt old p) → to (rowsAt old p) k < b
@@ -67,12 +45,12 @@ module _ (old : Chart) (F : FaultlessChart old) (b : ℕ) (wide : old .places �
   assigned-fits : (h : Spot) (o : Operation) → o .a < 64 → (x : Option ℕ) → OnSome (λ k. k < size (rowsAt old (h .place))) x → Fits b h → Fits b (assigned old h o x)
   unfolding assigned
   assigned-fits h o l none q f = record { place = f .place; set = with-small (h .set) (o .a) (f .set) l }
-  assigned-fits h o l (some k) q f = record { place = to-fits (h .place) k (q); set = rewritten-small (h .set) o l (f .set) }
+  assigned-fits h o l (some k) q f = record { place = to-fits (h .place) k q; set = rewritten-small (h .set) o l (f .set) }
 
   along-fits : (t : ℕ) (p : OldPlace) (x : Option ℕ) → OnSome (λ k. k < size (rowsAt old p)) x → t < 2 ^ 64 → OnSome (Fits b) (along t (rowsAt old p) x)
   unfolding along
   along-fits t p none q f = tt
-  along-fits t p (some k) q f = (record { place = to-fits p k (q); set = with-small t _ f (row-a old F (p .0) k (q)) })
+  along-fits t p (some k) q f = record { place = to-fits p k q; set = with-small t _ f (row-a old F (p .0) k q) }
 
   onward-fits : (h : Spot) → Fits b h → OnSome (Fits b) (onward old h)
   unfolding onward
@@ -92,7 +70,7 @@ module _ (old : Chart) (F : FaultlessChart old) (b : ℕ) (wide : old .places �
   assumed-fits h o none q f = f
   assumed-fits h o (some k) q f =
       when-so _ (not (meets (h .set) (readSet o) || meets (h .set) (readSet (operation (rowsAt old (h .place)) k)))) _
-      (λ t. record { place = to-fits (h .place) k (q); set = f .set })
+      (λ t. record { place = to-fits (h .place) k q; set = f .set })
 
   counterpart-there : (p : OldPlace) (o : Operation) → OnSome (λ k. k < size (rowsAt old p)) (counterpart old p o)
   unfolding counterpart matching

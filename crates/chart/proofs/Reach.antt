@@ -8,9 +8,9 @@ use Prim.Native.Nat.{ℕ, _<_}
 use lib.Dec.{T, eqb, eqb→eq, ltb, lt→ltb}
 use Rattle.base.proofs.Tests.{T-both, T-or, T-or-l, T-or-r, T-true, is-true}
 use Rattle.base.proofs.Says.{eqb←eq}
 use Rattle.chart.specs.Charts.{Chart, size, from, to, operation, row, leaving}
 use Rattle.chart.specs.Runs.{State, lets, after, taken, begin, ready, run, alarmed, reaches}
-use Rattle.align.proofs.Parts.{row-of, row-same}
+use Rattle.chart.proofs.Parts.{row-of, row-same}
 
 -- ---- runs from any state
 module _ (C : Chart) where
