@@ -1,18 +1,24 @@
-// The program: reads old.csv and new.csv, and prints the condition of the two charts, or a refusal. It opens, reads and writes; what it
-// prints is made by the crate report, in portions that together are `printed` of that crate's specs.
+// The program: reads old.csv and new.csv, and prints the condition of the two charts, or a refusal. It opens, reads and
+// writes; what it prints is made by the crate report, in portions that together are `printed` of that crate's specs.
 ghost use Prim.Native.Nat.{_^_, _<_};
 ghost use Rattle.io.specs.Counts.{Counts};
 ghost use Rattle.text.specs.Texts.{readInto};
-ghost use Rattle.report.specs.Both.{Few, BothAs};
-ghost use Rattle.report.specs.Printed.{Small};
+ghost use Rattle.pick.specs.Both.{BothAs};
+ghost use Rattle.pick.specs.inner.Small.{Few, Small};
 use base::Refusal;
 use builder::answers::Built;
 use builder::build;
 use chart::charts::Head;
 use condition::Summary;
 use libc::STDOUT_FILENO;
-use report::charts::Both;
 use text::answers::Read;
+
+// What reading the texts of both files answers.
+pub enum Both {
+    // The head and the row count of the old chart, and those of the new one; the rows stand at the front of the tables.
+    Charts(Head, usize, Head, usize),
+    Refused(Refusal),
+}
 
 // Reads to the end of the file, or as much as the text holds, and answers the count of bytes: none where a read fails.
 fn fill(fd: i32, text: &mut [u8]) -> usize
@@ -33,7 +39,8 @@ fn fill(fd: i32, text: &mut [u8]) -> usize
     at
 }
 
-// The bytes of a file, at the front of the text, and their count: a file that can't be read counts as one without bytes.
+// The bytes of a file, at the front of the text, and their count: a file that can't be read counts as one without
+// bytes.
 fn load(path: &[u8], text: &mut [u8]) -> usize
     ensures { λ r. ⌜ Counts r (now (text .exit)) ⌝ }
 {
@@ -46,10 +53,13 @@ fn load(path: &[u8], text: &mut [u8]) -> usize
     n
 }
 
-// The charts of two texts, the old one first: their rows go to the front of the tables, which have 768 entries each. A refusal leaves the
-// table of the chart that is refused as it was, and ends the program.
+// The charts of two texts, the old one first: their rows go to the front of the tables, which have 768 entries each. A
+// refusal leaves the table of the chart that is refused as it was, and ends the program.
 fn read_both(old_text: &[u8], new_text: &[u8], old: &mut [u32], new: &mut [u32]) -> Both
-    ensures { λ r. ⌜ BothAs (readInto (now («old_text» .entry)) (now (old .entry))) (readInto (now («new_text» .entry)) (now (new .entry))) r (now (old .entry)) (now (old .exit)) (now (new .entry)) (now (new .exit)) ⌝ }
+    ensures is { λ r. ⌜ BothAs (readInto (now («old_text» .entry)) (now (old .entry)))
+        (readInto (now («new_text» .entry)) (now (new .entry))) r
+        (now (old .entry)) (now (old .exit)) (now (new .entry)) (now (new .exit)) ⌝ }
+    ensures few { λ r. ⌜ Few r ⌝ }
 {
     match text::read(old_text, old) {
         Read::Refused(r) => Both::Refused(r),

@@ -8,7 +8,8 @@ use borrow.Author.Tests.{eq-eqb, ne-eqb}
 use lib.ListN.{length, getD, take, drop}
 use lib.Seq.{sets-eq, take-at}
 use Rattle.base.specs.declared.Refusal.{Refusal}
-use Rattle.text.specs.Written.{fieldsText, Put}
+use Rattle.text.specs.Written.{fieldsText}
+use Rattle.text.specs.inner.Puts.{Put}
 use Rattle.text.proofs.Puts.{put-then, put-length}
 use Rattle.records.specs.Records.{Graph, target}
 use Rattle.report.specs.Lines.{line, refusalLine}
@@ -30,9 +31,10 @@ line-put before at a b c d after r p = p
 pub front-put : (before bytes after : List ℕ) (r : ℕ) → Put before 0 bytes after r → r ≤ length before → Front before bytes after r
 front-put before bytes after r p h =
     let n : r ≡ length bytes = p .next ∙ omega arith in
-    let e : after ≡ bytes ++ drop (0 + length bytes) before = p .is ∙ sets-eq bytes before 0 (omega arith) in
-    let t : take r after ≡ bytes = ap (take r) e ∙ take-at bytes (drop (0 + length bytes) before) r (sym n) in
-    record { put = p; is = t; fits = omega (arith, put-length p); counts = n ∙ sym (ap length t) }
+    let z : 0 + length bytes ≡ length bytes = omega arith in
+    let e : after ≡ bytes ++ drop (length bytes) before = p .is ∙ sets-eq bytes before 0 (omega arith) ∙ rw z in
+    let t : take r after ≡ bytes = ap (take r) e ∙ take-at bytes (drop (length bytes) before) r (sym n) in
+    record { put = e; long = n; is = t; fits = omega (arith, put-length p); counts = n ∙ sym (ap length t) }
 
 pub front-line : (before : List ℕ) (a b c d : ℕ) (after : List ℕ) (r : ℕ) → length before ≡ 1024 → (Put before 0 (line a b c d) after r) × (r ≤ 0 + 45)
     → Front before (line a b c d) after r

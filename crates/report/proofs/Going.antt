@@ -9,7 +9,7 @@ use native.Mathlib.Decide.{decLt}
 use mathlib.Core.Logic.{dite}
 use lib.ListN.{length, take}
 use lib.Seq.{take-all, slice, slice-cons}
-use Rattle.text.specs.Written.{Put}
+use Rattle.text.specs.inner.Puts.{Put}
 use Rattle.text.proofs.Puts.{put-then, put-length}
 use Rattle.records.specs.Records.{Graph, mark}
 use Rattle.report.specs.Transitions.{ofPair, ofPairs, remaining}

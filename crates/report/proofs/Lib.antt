@@ -3,7 +3,5 @@ pub mod Rows
 pub mod Numbering
 pub mod Fronts
 pub mod Going
-pub mod Reading
 pub mod Lengths
 pub mod Whole
-pub mod Built

@@ -2,5 +2,4 @@
 pub mod Lines
 pub mod Transitions
 pub mod Printed
-pub mod Both
 pub mod Portions

@@ -4,7 +4,8 @@ use Prim.Native.Nat.{ℕ}
 use Rattle.base.specs.declared.Refusal.{Refusal}
 use Rattle.text.specs.Written.{fieldsText}
 
--- four numbers as one record: its fields are closed as the last four of a chart text's six are, by commas and, after the last, CRLF
+-- "CSV of four fields": four numbers as one record. Its fields are closed as the last four of a chart text's six are,
+-- by commas and, after the last, CRLF
 unfoldable pub line : ℕ → ℕ → ℕ → ℕ → List ℕ
 line a b c d = fieldsText 2 (a ∷ b ∷ c ∷ d ∷ [])
 

@@ -1,6 +1,6 @@
 -- What the program prints, from the bytes of both files ("Worked sessions", "Who can cause a refusal").
 use mathlib.Core.List.{List, _++_}
-use Prim.Native.Nat.{ℕ, _≤_}
+use Prim.Native.Nat.{ℕ}
 use Rattle.base.specs.Answers.{Answer, given, refused}
 use Rattle.base.specs.declared.Refusal.{Refusal}
 use Rattle.base.specs.Chains.{andThen, mapped}
@@ -13,6 +13,7 @@ use Rattle.report.specs.Lines.{line, refusalLine}
 use Rattle.report.specs.Transitions.{remaining}
 
 -- ---- both files
+-- "The program reads old.csv and new.csv": the charts of both
 pub record Pair : Type 0 where
   pub old : Chart
   pub new : Chart
@@ -21,6 +22,7 @@ pub record Pair : Type 0 where
 abbrev pub inNew : Refusal → Refusal
 inNew r = record { number = r .number; chart = 1; position = r .position }
 
+-- the same of an answer
 abbrev pub ofNew : {A : Type 0} → Answer A → Answer A
 ofNew (given x) = given x
 ofNew (refused r) = refused (inNew r)
@@ -38,28 +40,24 @@ bothRead old new = bothOf (readText old) (readText new)
 unfoldable pub summaryLine : Summary → List ℕ
 summaryLine s = line (s .start) (s .opened) (s .kept) (s .covered)
 
--- the transitions of a record, under the new table t
+-- "then for each transition": those of a record, under the new table t
 unfoldable pub transitions : List ℕ → Record → List ℕ
 transitions t R = remaining t (R .graph) 0
 
+-- "start, open, kept, covered; then for each transition": a record, under the new table t
 unfoldable pub condition : List ℕ → Record → List ℕ
 condition t R = summaryLine (summary (R .start) (R .graph .marks)) ++ transitions t R
 
--- the condition that the builder writes
+-- the same of the record that the builder writes: "the condition that the builder writes"
 unfoldable pub conditionOf : Pair → List ℕ
 conditionOf P = condition (P .new .table) (recorded (P .old) (P .new))
 
 -- ---- all of it
+-- "A refusal prints 9999, number, chart, position."
 abbrev pub orRefusal : Answer (List ℕ) → List ℕ
 orRefusal (given bytes) = bytes
 orRefusal (refused r) = refusalLine r
 
+-- "The program reads old.csv and new.csv and prints CSV of four fields": the bytes printed, by those of both files
 unfoldable pub printed : List ℕ → List ℕ → List ℕ
 printed old new = orRefusal (mapped conditionOf (bothRead old new))
-
--- ---- what is printed of a build is small: what main has to know of it
-pub record Small (s : Summary) : Type 0 where
-  pub start : s .start ≤ 4160
-  pub opened : s .opened ≤ 4160
-  pub kept : s .kept ≤ 4160
-  pub covered : s .covered ≤ 4160

@@ -1,5 +1,5 @@
--- The transitions of a condition as they are printed ("Worked sessions"): "then for each transition (target of an open pair) its from node,
--- row of the new table from 0, to node and that node's mark, by from and row".
+-- The transitions of a condition as they are printed ("Worked sessions"): "then for each transition (target of an open
+-- pair) its from node, row of the new table from 0, to node and that node's mark, by from and row".
 use mathlib.Core.Bool.{true, false}
 use mathlib.Core.List.{List, [], _∷_, _++_}
 use Prim.Native.Nat.{ℕ, zero, suc, _+_}
@@ -12,34 +12,36 @@ use Rattle.records.specs.Records.{Graph, target}
 use Rattle.report.specs.Lines.{line}
 
 -- ---- "row of the new table from 0"
--- of the first n rows of a table those whose "from" is below q
+-- "Rows stand by ascending "from"": of the first n rows of a table those whose "from" is below q
 unfoldable pub rowsBelow : List ℕ → ℕ → ℕ → ℕ
 rowsBelow t q zero = 0
 rowsBelow t q (suc n) = elim (ltb (from t n) q) [ true ↦ rowsBelow t q n + 1 | false ↦ rowsBelow t q n ]
 
--- "Rows stand by ascending "from"": the first row of a place comes after the rows of all lower places
+-- the first row of a place comes after the rows of all lower places: "row of the new table from 0"
 unfoldable pub firstRow : List ℕ → ℕ → ℕ
 firstRow t q = rowsBelow t q (size t)
 
 -- ---- transitions
--- the transition from pair n by this row to x, if x is a target: 65535 is none
+-- "its from node, row [..], to node and that node's mark": the transition from pair n by this row to x, if x is a
+-- target: "unused targets are 65535"
 unfoldable pub transition : List ℕ → ℕ → ℕ → ℕ → List ℕ
 transition marks n row x = elim (eqb x 65535) [ true ↦ [] | false ↦ line n row x (getD marks x 0) ]
 
 module _ (t : List ℕ) (G : Graph) where
-  -- those of pair n, whose mark is m: an open pair's, to the targets of its place's first and second row
+  -- "(target of an open pair)": those of pair n, whose mark is m, "for a place's first and second row"
   unfoldable pub ofPair : ℕ → ℕ → List ℕ
   ofPair n m =
       elim (eqb m 1) [
-        | true ↦ transition (G .marks) n (firstRow t (newOf n .0)) (target G n 0) ++ transition (G .marks) n (firstRow t (newOf n .0) + 1) (target G n 1)
+        | true ↦ transition (G .marks) n (firstRow t (newOf n .0)) (target G n 0)
+            ++ transition (G .marks) n (firstRow t (newOf n .0) + 1) (target G n 1)
         | false ↦ []
       ]
 
-  -- those of the pairs from n on, by their marks
+  -- "by from and row": those of the pairs from n on, by their marks
   unfoldable pub ofPairs : ℕ → List ℕ → List ℕ
   ofPairs n [] = []
   ofPairs n (m ∷ ms) = ofPair n m ++ ofPairs (n + 1) ms
 
--- those of the pairs from n on: pairs are the nodes below 4,096
+-- the same by the graph: "the pair (old p, new q) is 64 × p + q", which is below 4,096
 unfoldable pub remaining : List ℕ → Graph → ℕ → List ℕ
 remaining t G n = ofPairs t G n (slice n 4096 (G .marks))

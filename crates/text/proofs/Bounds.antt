@@ -36,7 +36,7 @@ use Rattle.text.proofs.Theorems.{text-positions}
 
 abbrev Said : Field → Type 0
 Said (Number x p) = Unit
-Said (Unfit u) = u .0 ≤ 21
+Said (Unfit n p) = n ≤ 21
 
 judged-said : (sort : Kind) (first next x : ℕ) → Said (judged sort first next x)
 unfolding judged
@@ -53,7 +53,7 @@ number-said sort first (d ∷ ds) =
 
 followed-said : (b : ℕ) (text : List ℕ) (f : Field) → Said f → Said (followed b text f)
 unfolding followed
-followed-said b text (Unfit u) h = h
+followed-said b text (Unfit n p) h = h
 followed-said b text (Number x p) h = by-test Said (eqb (byteAt text p) b) (λ _. tt) (λ _. omega arith)
 
 field-said : (sort : Kind) (text : List ℕ) (at : ℕ) → Said (fieldAt sort text at)
@@ -65,7 +65,7 @@ field-said sort text at =
 
 line-said : (text : List ℕ) (f : Field) → Said f → Said (lineEnd text f)
 unfolding lineEnd
-line-said text (Unfit u) h = h
+line-said text (Unfit n p) h = h
 line-said text (Number x p) h =
     by-test Said (leb (length text) p) (λ _. tt) (λ _. followed-said 10 text (followed 13 text (Number x p)) (followed-said 13 text (Number x p) tt))
 
@@ -85,7 +85,7 @@ fields-sole : (n k : ℕ) (text : List ℕ) (at : ℕ) (before : List ℕ) → S
 unfolding fieldsAt
 fields-sole zero k text at before = tt
 fields-sole (suc n) k text at before =
-    by-field Sole (itemAt k text at) _ (λ x p e. fields-sole n (suc k) text p (before ++ (x ∷ []))) (λ u e. (subst Said e (item-said k text at), refl))
+    by-field Sole (itemAt k text at) _ (λ x p e. fields-sole n (suc k) text p (before ++ (x ∷ []))) (λ m p e. (subst Said e (item-said k text at), refl))
 
 sole-then : {A B : Type 0} (a : Answer A) (f : A → Answer B) → Sole a → ((x : A) → Sole (f x)) → Sole (andThen a f)
 sole-then (given x) f h g = g x

@@ -5,7 +5,6 @@ use mathlib.Core.Bool.{Bool, true, false}
 use Prim.Native.Nat.{ℕ}
 use Rattle.base.specs.Answers.{Answer, refused}
 use Rattle.base.specs.Refusals.{sole}
-use Rattle.text.specs.declared.fields.Misfit.{Misfit}
 use Rattle.text.specs.declared.fields.Field.{Field}
 use Rattle.text.specs.declared.fields.Field.the-variants.{Number, Unfit}
 use Rattle.text.specs.Spans.{onField}
@@ -16,6 +15,6 @@ by-test P true h g = h refl
 by-test P false h g = g refl
 
 -- a number or a refusal
-pub by-field : {A : Type 0} (P : Answer A → Type 0) (f : Field) (then : ℕ → ℕ → Answer A) → ((x p : ℕ) → f ≡ Number x p → P (then x p)) → ((u : Misfit) → f ≡ Unfit u → P (refused (sole (u .0) (u .1)))) → P (onField f then)
+pub by-field : {A : Type 0} (P : Answer A → Type 0) (f : Field) (then : ℕ → ℕ → Answer A) → ((x p : ℕ) → f ≡ Number x p → P (then x p)) → ((n p : ℕ) → f ≡ Unfit n p → P (refused (sole n p))) → P (onField f then)
 by-field P (Number x p) then h g = h x p refl
-by-field P (Unfit u) then h g = g u refl
+by-field P (Unfit n p) then h g = g n p refl

@@ -15,7 +15,8 @@ use Rattle.chart.specs.Faults.{refusal}
 use Rattle.chart.proofs.Faultless.{faultless}
 use Rattle.text.specs.Spans.{Span, fieldsAt}
 use Rattle.text.specs.Texts.{whole, rowsAt, parsed}
-use Rattle.text.specs.Written.{decimal, closing, fieldText, fieldsText, room, numbers, written}
+use Rattle.text.specs.Written.{decimal, closing, fieldText, fieldsText, numbers, written}
+use Rattle.text.specs.inner.Puts.{room}
 use Rattle.text.specs.Files.{U32s}
 use Rattle.text.proofs.Decimals.{decimal-ten}
 use Rattle.text.proofs.Puts.{closing-length}

@@ -15,7 +15,7 @@ use Rattle.text.specs.declared.fields.Kind.{Kind}
 use Rattle.text.specs.declared.fields.Kind.the-variants.{Plain, Count, Spare}
 use Rattle.text.specs.declared.fields.Field.{Field}
 use Rattle.text.specs.declared.fields.Field.the-variants.{Number, Unfit}
-use Rattle.text.specs.Fields.{byteAt, digits, value, more, unfit, kind, judged, bounded, ended, numberOf, numberAt, followed, fieldAt, lineEnd, closed, missing, itemAt}
+use Rattle.text.specs.Fields.{byteAt, digits, value, more, kind, judged, bounded, ended, numberOf, numberAt, followed, fieldAt, lineEnd, closed, missing, itemAt}
 use Rattle.text.specs.Spans.{Span, fieldsAt}
 use Rattle.text.proofs.Cases.{by-test, by-field}
 use Rattle.text.proofs.Numbers.{missing-inside}
@@ -25,7 +25,7 @@ use Rattle.text.proofs.Numbers.{missing-inside}
 -- the offset that a field or its refusal names
 abbrev pub end : Field → ℕ
 end (Number x p) = p
-end (Unfit u) = u .1
+end (Unfit n p) = p
 
 unfoldable ten : ℕ → ℕ
 ten zero = 1
@@ -44,7 +44,7 @@ value-least j x (d ∷ ds) h =
     rw z (value-least (suc j) (x * 10 + d) ds (omega arith))
 
 -- eleven digits or more are too many
-pub number-long : (sort : Kind) (first : ℕ) (ds : List ℕ) → 11 ≤ length ds → numberOf sort first ds ≡ unfit 13 first
+pub number-long : (sort : Kind) (first : ℕ) (ds : List ℕ) → 11 ≤ length ds → numberOf sort first ds ≡ Unfit 13 first
 unfolding numberOf ended bounded ten
 number-long sort first [] h = absurd (omega arith)
 number-long sort first (d ∷ []) h = absurd (omega arith)
@@ -89,7 +89,7 @@ number-ends sort text first =
 
 pub followed-ends : (b : ℕ) (text : List ℕ) (f : Field) → end (followed b text f) ≤ end f + 1
 unfolding followed
-followed-ends b text (Unfit u) = omega arith
+followed-ends b text (Unfit n p) = omega arith
 followed-ends b text (Number x p) = by-test (Ends (p + 1)) (eqb (byteAt text p) b) (λ _. omega arith) (λ _. omega arith)
 
 pub field-ends : (sort : Kind) (text : List ℕ) (at : ℕ) → end (fieldAt sort text at) ≤ at + 12
@@ -101,7 +101,7 @@ field-ends sort text at =
 
 pub line-ends : (text : List ℕ) (f : Field) → end (lineEnd text f) ≤ end f + 2
 unfolding lineEnd
-line-ends text (Unfit u) = omega arith
+line-ends text (Unfit n p) = omega arith
 line-ends text (Number x p) =
     by-test (Ends (p + 2)) (leb (length text) p) (λ _. omega arith)
     (λ _. omega (arith, followed-ends 10 text (followed 13 text (Number x p)), followed-ends 13 text (Number x p)))
@@ -145,4 +145,4 @@ fields-stop zero k text at before = omega arith
 fields-stop (suc n) k text at before =
     by-field (λ (r : Answer Span). stops r ≤ at + reach k (suc n)) (itemAt k text at) _
     (λ x p e. omega (arith, fields-stop n (suc k) text p (before ++ (x ∷ [])), reach-one k n, item-ends k text at, ap end e))
-    (λ u e. omega (arith, reach-one k n, item-ends k text at, ap end e))
+    (λ m p e. omega (arith, reach-one k n, item-ends k text at, ap end e))

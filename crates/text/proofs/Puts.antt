@@ -11,7 +11,8 @@ use borrow.Author.Tests.{eq-eqb, ne-eqb}
 use lib.ListN.{length, getD, drop, set, length-append, length-set, drop-of-length-le}
 use lib.Seq.{sets, length-sets, drop-cons}
 use Rattle.chart.specs.Charts.{Chart, size}
-use Rattle.text.specs.Written.{decimal, closing, fieldText, fieldsText, room, written, Put}
+use Rattle.text.specs.Written.{decimal, closing, fieldText, fieldsText, written}
+use Rattle.text.specs.inner.Puts.{room, Put}
 use Rattle.text.proofs.Decimals.{decimal-one, decimal-more, decimal-ten}
 
 -- ---- stores that follow one another

@@ -6,14 +6,13 @@ use native.Mathlib.Numerals.{add-one}
 use native.Mathlib.Omega.{arith}
 use lib.ListN.{length, take, drop, set, length-set, take-append-drop}
 use lib.Seq.{length-take-le, drop-drop, drop-set-lt, take-suc-set}
-use Rattle.text.specs.declared.fields.Misfit.{Misfit}
 use Rattle.text.specs.declared.fields.Field.{Field}
 use Rattle.text.specs.declared.fields.Field.the-variants.{Number, Unfit}
 use Rattle.text.specs.declared.inner.table.Reach.{Reach}
 use Rattle.text.specs.declared.inner.table.Reach.the-variants as reach
 use Rattle.text.specs.Fields.{itemAt}
 use Rattle.text.specs.Spans.{fieldsAt}
-use Rattle.text.specs.Walk.{numbersAt, laid, reachOf, reachAt, reached}
+use Rattle.text.specs.inner.Walk.{numbersAt, laid, reachOf, reachAt, reached}
 
 -- ---- fields are read into a table
 
@@ -51,9 +50,9 @@ module _ (n k : ℕ) (text : List ℕ) (at : ℕ) (table₀ table : List ℕ) (p
       laid-front table₀ table (numbersAt n k text at) i (omega (arith, c .most, c .long))
       (c .numbers ∙ rw e (append-nil (take i table))) (c .rest)
 
-  pub reading-stop : (f : Field) (u : Misfit) → n ≤ length table₀ → i < n → f ≡ itemAt (k + i) text p → f ≡ Unfit u → Into (reach.Unfit u) table
+  pub reading-stop : (f : Field) (m q : ℕ) → n ≤ length table₀ → i < n → f ≡ itemAt (k + i) text p → f ≡ Unfit m q → Into (reach.Unfit m q) table
   unfolding fieldsAt numbersAt reachOf
-  reading-stop f u w h e g = (rw (c .is, left h, fieldsAt, sym e ∙ g), ends w (rw (left h, numbersAt, sym e ∙ g)))
+  reading-stop f m q w h e g = (rw (c .is, left h, fieldsAt, sym e ∙ g), ends w (rw (left h, numbersAt, sym e ∙ g)))
 
   pub reading-more : (f : Field) (x q : ℕ) (after : List ℕ) → n ≤ length table₀ → i < n → f ≡ itemAt (k + i) text p → f ≡ Number x q → after ≡ set table i x → Reading n k text at table₀ after q (i + 1)
   unfolding fieldsAt numbersAt
@@ -80,6 +79,6 @@ pub reached-past : (f : Reach) (p at : ℕ) → f ≡ reach.Past p → p ≡ rea
 unfolding reached
 reached-past f p at e = rw e
 
-pub reached-unfit : (f : Reach) (u : Misfit) (at : ℕ) → f ≡ reach.Unfit u → at ≡ reached f at
+pub reached-unfit : (f : Reach) (n p at : ℕ) → f ≡ reach.Unfit n p → at ≡ reached f at
 unfolding reached
-reached-unfit f u at e = rw e
+reached-unfit f n p at e = rw e

@@ -1,11 +1,11 @@
 -- Laws of what reading and writing answer, and of what they leave in lent memory.
 -- Assumes nothing.
 use mathlib.Core.Path.{_≡_, refl, sym, ap, _∙_, subst}
-use mathlib.Core.List.{List, [], _∷_, _++_}
-use Prim.Native.Nat.{ℕ, _+_, _*_, _/_, _%_, _≤_, _<_}
+use mathlib.Core.List.{List, [], _∷_}
+use Prim.Native.Nat.{ℕ, _+_, _%_, _≤_, _<_}
 use native.Mathlib.Omega.{arith}
 use borrow.Author.Tests.{eq-eqb, ne-eqb, le-leb, lt-leb, lt-ltb, le-ltb}
-use lib.ListN.{length, getD, drop}
+use lib.ListN.{length, getD}
 use lib.Seq.{sets-eq}
 use Rattle.base.specs.declared.Refusal.{Refusal}
 use Rattle.base.specs.Answers.{Answer, given, refused}
@@ -15,7 +15,7 @@ use Rattle.base.proofs.OnSome.{OnGiven}
 use Rattle.base.proofs.Answers.{different}
 use Rattle.chart.specs.declared.charts.Judged.{Judged}
 use Rattle.chart.specs.declared.charts.Judged.the-variants.{Faultless, Refused}
-use Rattle.chart.specs.Charts.{Chart, charted}
+use Rattle.chart.specs.Charts.{Chart}
 use Rattle.chart.specs.Faults.{told, fault, refusal}
 use Rattle.chart.proofs.Faultless.{faultless as sound}
 use Rattle.text.specs.declared.answers.Read.{Read}
@@ -25,7 +25,8 @@ use Rattle.text.specs.declared.answers.Wrote.the-variants as wrote
 use Rattle.text.specs.Fields.{kind}
 use Rattle.text.specs.Spans.{Span, fieldsAt}
 use Rattle.text.specs.Texts.{whole, rowsAt, parsed, readText, readInto, filled, Heading, heading, toldRead}
-use Rattle.text.specs.Written.{numbers, written, writing, printed, toldWrote, Put}
+use Rattle.text.specs.Written.{numbers, written, writing, printed, toldWrote}
+use Rattle.text.specs.inner.Puts.{Put}
 use Rattle.text.proofs.Headings.{first, second, third}
 use Rattle.text.proofs.Sequences.{FitAll, Shown, fields-show, items-fit}
 

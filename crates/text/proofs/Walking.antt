@@ -21,9 +21,7 @@ use Rattle.chart.specs.declared.charts.Judged.{Judged}
 use Rattle.chart.specs.declared.charts.Judged.the-variants as judged
 use Rattle.chart.specs.Charts.{Chart, size, charted}
 use Rattle.chart.specs.Faults.{told, refusal}
-use Rattle.text.specs.declared.answers.Read.{Read}
 use Rattle.text.specs.declared.answers.Read.the-variants as read
-use Rattle.text.specs.declared.fields.Misfit.{Misfit}
 use Rattle.text.specs.declared.fields.Field.{Field}
 use Rattle.text.specs.declared.fields.Field.the-variants.{Number, Unfit}
 use Rattle.text.specs.declared.inner.first.First.{First}
@@ -35,7 +33,7 @@ use Rattle.text.specs.declared.inner.table.Reach.the-variants as reach
 use Rattle.text.specs.Fields.{itemAt}
 use Rattle.text.specs.Spans.{Span, onField, fieldsAt}
 use Rattle.text.specs.Texts.{whole, rowsAt, parsed, readText, readInto, filled, heading, toldRead}
-use Rattle.text.specs.Walk.{onNumber, numbersAt, laid, reachOf, reachAt, reached, recordOf, firstAt, pastFirst, entriesOf, rowNumbers, answered, toldParsed}
+use Rattle.text.specs.inner.Walk.{onNumber, numbersAt, laid, reachOf, reachAt, reached, recordOf, firstAt, pastFirst, entriesOf, rowNumbers, answered, toldParsed}
 use Rattle.text.proofs.Cases.{by-field}
 use Rattle.text.proofs.Headings as numbered
 use Rattle.text.proofs.Told.{ReadAs, read-refused, read-sized, whole-rows, whole-after, whole-end, few-counted}
@@ -52,7 +50,7 @@ fields-sole : (n k : ℕ) (text : List ℕ) (at : ℕ) (before : List ℕ) → S
 unfolding fieldsAt
 fields-sole zero k text at before = tt
 fields-sole (suc n) k text at before =
-    by-field Sole (itemAt k text at) _ (λ x p e. fields-sole n (suc k) text p (before ++ (x ∷ []))) (λ u e. refl)
+    by-field Sole (itemAt k text at) _ (λ x p e. fields-sole n (suc k) text p (before ++ (x ∷ []))) (λ m p e. refl)
 
 -- what is given are the numbers up to the first refusal, which are all
 abbrev All : ℕ → List ℕ → List ℕ → Span → Type 0
@@ -63,7 +61,7 @@ all-more : (n k : ℕ) (text before : List ℕ) → ((x p : ℕ) → OnGiven (Al
 all-more n k text before h (Number x p) =
     on-given (All n (before ++ (x ∷ [])) (numbersAt n k text p)) (All (suc n) before (x ∷ numbersAt n k text p)) (fieldsAt n k text p (before ++ (x ∷ [])))
     (λ s g. (g .0 ∙ append-assoc before (x ∷ []) (numbersAt n k text p), ap suc (g .1))) (h x p)
-all-more n k text before h (Unfit u) = tt
+all-more n k text before h (Unfit m p) = tt
 
 fields-all : (n k : ℕ) (text : List ℕ) (at : ℕ) (before : List ℕ) → OnGiven (All n before (numbersAt n k text at)) (fieldsAt n k text at before)
 unfolding fieldsAt numbersAt
@@ -82,7 +80,7 @@ module _ (n k : ℕ) (text : List ℕ) (at : ℕ) where
 
 abbrev OnPast : Type 0 → Reach → Type 0
 OnPast P (reach.Past p) = P
-OnPast P (reach.Unfit u) = Unit
+OnPast P (reach.Unfit n p) = Unit
 
 on-past : (P : Type 0) (a : Answer Span) → OnGiven (λ (s : Span). P) a → OnPast P (reachOf a)
 unfolding reachOf
@@ -94,9 +92,9 @@ laid-whole : (l table : List ℕ) → length l ≡ length table → laid l table
 laid-whole l table e = rw (drop-of-length-le table {i = length l} (omega arith)) (append-nil l)
 
 module _ (text : List ℕ) (at : ℕ) (r : Reach) (is : r ≡ reachAt 6 0 text at) where
-  pub first-unfit : (u : Misfit) → r ≡ reach.Unfit u → first.Unfit u ≡ firstAt text at
+  pub first-unfit : (n p : ℕ) → r ≡ reach.Unfit n p → first.Unfit n p ≡ firstAt text at
   unfolding firstAt recordOf
-  first-unfit u e = rw (← is, e)
+  first-unfit n p e = rw (← is, e)
 
   pub first-record : (p : ℕ) (numbers table : List ℕ) → r ≡ reach.Past p → length table ≡ 6 → numbers ≡ laid (numbersAt 6 0 text at) table
       → first.Record (record { places = getD numbers 0 0; alarm = getD numbers 1 0 }) (getD numbers 2 0) p ≡ firstAt text at
@@ -111,17 +109,17 @@ module _ (f : First) (at : ℕ) where
   unfolding pastFirst
   past-record h count p e = rw e
 
-  pub past-unfit : (u : Misfit) → f ≡ first.Unfit u → at ≡ pastFirst f at
+  pub past-unfit : (n p : ℕ) → f ≡ first.Unfit n p → at ≡ pastFirst f at
   unfolding pastFirst
-  past-unfit u e = rw e
+  past-unfit n p e = rw e
 
 pub entries-record : (f : First) (h : Head) (count p : ℕ) → f ≡ first.Record h count p → 6 * count ≡ entriesOf f
 unfolding entriesOf
 entries-record f h count p e = rw e
 
-pub entries-unfit : (f : First) (u : Misfit) → f ≡ first.Unfit u → 0 ≡ entriesOf f
+pub entries-unfit : (f : First) (n p : ℕ) → f ≡ first.Unfit n p → 0 ≡ entriesOf f
 unfolding entriesOf
-entries-unfit f u e = rw e
+entries-unfit f n p e = rw e
 
 -- its rows fill at most 768 entries
 pub few-entries : (text : List ℕ) → entriesOf (firstAt text 0) ≤ 768
@@ -136,11 +134,11 @@ few-entries text = go (fieldsAt 6 0 text 0 []) refl (are-numbers 6 0 text 0)
 
 -- what is answered after a first record, by the rows
 module _ (b : ℕ) (t : List ℕ) (h : Head) (count p end : ℕ) where
-  answered-unfit : (u : Misfit) → answered (b ∷ t) (first.Record h count p) (reach.Unfit u) end ≡ parse.Unfit u
+  answered-unfit : (m o : ℕ) → answered (b ∷ t) (first.Record h count p) (reach.Unfit m o) end ≡ parse.Unfit m o
   unfolding answered
-  answered-unfit u = refl
+  answered-unfit m o = refl
 
-  answered-after : (o : ℕ) → end < length (b ∷ t) → answered (b ∷ t) (first.Record h count p) (reach.Past o) end ≡ parse.Unfit (record { 0 = 14; 1 = end })
+  answered-after : (o : ℕ) → end < length (b ∷ t) → answered (b ∷ t) (first.Record h count p) (reach.Past o) end ≡ parse.Unfit 14 end
   unfolding answered
   answered-after o w = rw (lt-ltb end (length (b ∷ t)) w, answered)
 
@@ -153,7 +151,7 @@ module _ (b : ℕ) (t : List ℕ) where
       → toldParsed (answered (b ∷ t) (first.Record h count p) (reachOf a) (reached (reachOf a) p))
       ≡ mapped heading (andThen a (λ (rows : Span). whole (b ∷ t) (rows .next) (record { places = h .places; alarm = h .alarm; table = rows .numbers })))
   unfolding reachOf reached toldParsed
-  rows-told h count p (refused r) e g = rw (answered-unfit b t h count p p (record { 0 = r .number; 1 = r .position })) (ap refused (sym e))
+  rows-told h count p (refused r) e g = rw (answered-unfit b t h count p p (r .number) (r .position)) (ap refused (sym e))
   rows-told h count p (given s) e g =
       let n : length (s .numbers) / 6 ≡ count = omega arith in
       dite (decLt (s .next) (length (b ∷ t))) (λ w. rw (answered-after b t h count p (s .next) (s .next) w, whole-after (b ∷ t) (s .next) _ w))
@@ -216,36 +214,36 @@ walk-is text f n at g end a after table e₁ e₂ e₃ e₄ e₅ e₆ e₇ = (rw
 -- ---- the judge of both answers
 
 module _ (text : List ℕ) (f : First) (g : Reach) (end : ℕ) where
-  pub judge-none : length text ≡ 0 → parse.Unfit (record { 0 = 11; 1 = 0 }) ≡ answered text f g end
+  pub judge-none : length text ≡ 0 → parse.Unfit 11 0 ≡ answered text f g end
   unfolding answered
   judge-none h = go text h
     where
-      go : (l : List ℕ) → length l ≡ 0 → parse.Unfit (record { 0 = 11; 1 = 0 }) ≡ answered l f g end
+      go : (l : List ℕ) → length l ≡ 0 → parse.Unfit 11 0 ≡ answered l f g end
       go [] h = refl
       go (b ∷ s) h = absurd (omega arith)
 
   module _ (some-byte : length text ≡ 0 → ⊥) where
-    pub judge-first : (u : Misfit) → f ≡ first.Unfit u → parse.Unfit u ≡ answered text f g end
+    pub judge-first : (n p : ℕ) → f ≡ first.Unfit n p → parse.Unfit n p ≡ answered text f g end
     unfolding answered
-    judge-first u e = go text some-byte
+    judge-first n p e = go text some-byte
       where
-        go : (l : List ℕ) → (length l ≡ 0 → ⊥) → parse.Unfit u ≡ answered l f g end
+        go : (l : List ℕ) → (length l ≡ 0 → ⊥) → parse.Unfit n p ≡ answered l f g end
         go [] h = absurd (h refl)
         go (b ∷ s) h = rw e
 
     module _ (h : Head) (count p : ℕ) (e : f ≡ first.Record h count p) where
-      pub judge-rows : (u : Misfit) → g ≡ reach.Unfit u → parse.Unfit u ≡ answered text f g end
+      pub judge-rows : (m o : ℕ) → g ≡ reach.Unfit m o → parse.Unfit m o ≡ answered text f g end
       unfolding answered
-      judge-rows u d = go text some-byte
+      judge-rows m o d = go text some-byte
         where
-          go : (l : List ℕ) → (length l ≡ 0 → ⊥) → parse.Unfit u ≡ answered l f g end
+          go : (l : List ℕ) → (length l ≡ 0 → ⊥) → parse.Unfit m o ≡ answered l f g end
           go [] h = absurd (h refl)
           go (b ∷ s) h = rw (e, d)
 
-      pub judge-after : (o : ℕ) → g ≡ reach.Past o → end < length text → parse.Unfit (record { 0 = 14; 1 = end }) ≡ answered text f g end
+      pub judge-after : (o : ℕ) → g ≡ reach.Past o → end < length text → parse.Unfit 14 end ≡ answered text f g end
       judge-after o d w = go text some-byte w
         where
-          go : (l : List ℕ) → (length l ≡ 0 → ⊥) → end < length l → parse.Unfit (record { 0 = 14; 1 = end }) ≡ answered l f g end
+          go : (l : List ℕ) → (length l ≡ 0 → ⊥) → end < length l → parse.Unfit 14 end ≡ answered l f g end
           go [] k w = absurd (k refl)
           go (b ∷ s) k w = rw (e, d, answered-after b s h count p end o w)
 
@@ -265,11 +263,11 @@ pub record Spelt (text : List ℕ) (h : Head) (n : ℕ) : Type 0 where
   pub few : length (rowNumbers text) ≤ 768
 
 module _ (text : List ℕ) (a : Parsed) (is : toldParsed a ≡ mapped heading (parsed text)) where
-  spelt-not : (u : Misfit) → a ≡ parse.Unfit u → parsed text ≡ refused (sole (u .0) (u .1))
+  spelt-not : (m o : ℕ) → a ≡ parse.Unfit m o → parsed text ≡ refused (sole m o)
   unfolding toldParsed
-  spelt-not u e = go (parsed text) (sym is ∙ rw e)
+  spelt-not m o e = go (parsed text) (sym is ∙ rw e)
     where
-      go : (x : Answer Chart) → mapped heading x ≡ refused (sole (u .0) (u .1)) → x ≡ refused (sole (u .0) (u .1))
+      go : (x : Answer Chart) → mapped heading x ≡ refused (sole m o) → x ≡ refused (sole m o)
       go (given C) e = absurd (different e)
       go (refused s) e = cc
 
@@ -303,9 +301,9 @@ module _ (text rows spare : List ℕ) (h : Head) (n : ℕ) (s : Spelt text h n) 
   front-fits table sized = rw front (omega (arith, s .few))
 
 module _ (text table : List ℕ) (sized : length table ≡ 768) (a : Parsed) (is : toldParsed a ≡ mapped heading (parsed text)) where
-  pub read-unfit : (u : Misfit) (s : Refusal) → a ≡ parse.Unfit u → s ≡ sole (u .0) (u .1) → ReadAs (readInto text table) (read.Refused s) table table
+  pub read-unfit : (m o : ℕ) (s : Refusal) → a ≡ parse.Unfit m o → s ≡ sole m o → ReadAs (readInto text table) (read.Refused s) table table
   unfolding readText
-  read-unfit u s e i = read-refused _ table s (read-sized text table sized ∙ rw (spelt-not text a is u e, i))
+  read-unfit m o s e i = read-refused _ table s (read-sized text table sized ∙ rw (spelt-not text a is m o e, i))
 
   module _ (h : Head) (n : ℕ) (spare rows : List ℕ) (e : a ≡ parse.Chart h n) (l : rows ≡ laid (rowNumbers text) spare) (j : Judged) (k : told j ≡ refusal (charted h (take (6 * n) rows))) where
     read-judged : readInto text table ≡ unless (told j) (charted h (take (6 * n) rows))

@@ -11,12 +11,12 @@ use Rattle.text.specs.declared.answers.Read.the-variants as answer
 use Rattle.text.specs.Written.{decimal, numbers}
 use Rattle.text.specs.Rfc4180.{File}
 
--- so many records of six numbers each
+-- "Records of six fields": so many records of six numbers each
 unfoldable pub sixes : ℕ → List ℕ → List (List ℕ)
 sixes zero l = []
 sixes (suc m) l = take 6 l ∷ sixes m (drop 6 l)
 
--- the contents of their fields: decimals without leading zero
+-- the contents of their fields: "1 or more digits" without "leading zero"
 abbrev pub contents : ℕ → List ℕ → List (List (List ℕ))
 contents m l = map (map decimal) (sixes m l)
 
@@ -24,14 +24,15 @@ contents m l = map (map decimal) (sixes m l)
 pub record U32s (l : List ℕ) : Type 0 where
   pub small : (i : ℕ) → getD l i 0 ≤ 4294967295
 
--- The text is the file of a faultless chart: exactly 1 + row count records of six fields, whose contents are the decimals of n, alarm, row
--- count, 0, 0, 0, and then of the chart's rows.
+-- The text is the file of a faultless chart: exactly 1 + row count records of six fields, whose contents are the
+-- decimals of n, alarm, row count, 0, 0, 0, and then of the chart's rows.
 pub record FileOf (C : Chart) (text : List ℕ) : Type 0 where
   pub file : File text (contents (suc (size (C .table))) (numbers C))
   pub u32s : U32s (numbers C)
   pub faultless : refusal C ≡ none
 
--- the chart that the reader answers, its rows at the front of the table; none where it refuses
+-- "n, alarm, row count [..]; then the rows": the chart that the reader answers, its rows at the front of the table;
+-- none where it refuses
 unfoldable pub chartRead : Read → List ℕ → Option Chart
 chartRead (answer.Chart head rows) table = some (charted head (take (6 * rows) table))
 chartRead (answer.Refused r) table = none

@@ -1,9 +1,9 @@
--- The definitions that the contracts cite: read Fields first, then Spans, Texts, Written. Rfc4180 and Files say the
--- same in the terms of RFC 4180. Walk only serves inner functions.
+-- The definitions that the contracts of `read` and `write` cite: read Fields first, then Spans, Texts, Written. Rfc4180
+-- and Files say the same in the terms of RFC 4180.
 pub mod Fields
 pub mod Spans
 pub mod Texts
-pub mod Walk
 pub mod Written
 pub mod Rfc4180
 pub mod Files
+pub mod inner

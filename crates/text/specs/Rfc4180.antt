@@ -1,5 +1,5 @@
--- The grammar of RFC 4180, section 2, rule by rule: the bytes of a file, beside the contents of its fields by record. Its optional header
--- line is left out: it is written like a record, and a chart text has none.
+-- The grammar of RFC 4180, section 2, rule by rule: the bytes of a file, beside the contents of its fields by record.
+-- Its optional header line is left out: it is written like a record, and a chart text has none.
 use mathlib.Core.Path.{_≡_}
 use mathlib.Core.List.{List, [], _∷_, _++_}
 use Prim.Native.Nat.{ℕ, _≤_}
@@ -37,7 +37,8 @@ pub data Record : List ℕ → List (List ℕ) → Type 0 where
 -- record *(CRLF record)
 pub data Records : List ℕ → List (List (List ℕ)) → Type 0 where
   lastRecord : {s : List ℕ} {r : List (List ℕ)} → Record s r → Records s (r ∷ [])
-  nextRecord : {s t u : List ℕ} {r : List (List ℕ)} {rs : List (List (List ℕ))} → Record t r → Records u rs → s ≡ t ++ (13 ∷ 10 ∷ u) → Records s (r ∷ rs)
+  nextRecord : {s t u : List ℕ} {r : List (List ℕ)} {rs : List (List (List ℕ))} → Record t r → Records u rs
+      → s ≡ t ++ (13 ∷ 10 ∷ u) → Records s (r ∷ rs)
 
 -- file = record *(CRLF record) [CRLF]
 pub data File (s : List ℕ) (rs : List (List (List ℕ))) : Type 0 where

@@ -29,17 +29,19 @@ unfoldable pub parsed : List ℕ → Answer Chart
 parsed [] = refused (sole 11 0)
 parsed (b ∷ s) =
     andThen (fieldsAt 6 0 (b ∷ s) 0 [])
-    (λ (first : Span). rowsAt (b ∷ s) (first .next) (getD (first .numbers) 0 0) (getD (first .numbers) 1 0) (getD (first .numbers) 2 0))
+    (λ (first : Span).
+    rowsAt (b ∷ s) (first .next) (getD (first .numbers) 0 0) (getD (first .numbers) 1 0) (getD (first .numbers) 2 0))
 
 -- ---- the chart's author: "The reader tests this once its text has been read to the end"
 abbrev pub faultless : Answer Chart → Answer Chart
 faultless a = andThen a (λ (C : Chart). unless (fault 0 C) C)
 
--- the reader's answer as a function of the bytes
+-- the reader's answer as a function of the bytes: "once its text has been read to the end"
 unfoldable pub readText : List ℕ → Answer Chart
 readText text = faultless (parsed text)
 
--- ---- the calling program: "21, a lent length differs from the stated one [..] Always first"; "The table lent to the reader has 768 entries"
+-- ---- the calling program: "21, a lent length differs from the stated one [..] Always first"; "The table lent to the
+-- reader has 768 entries"
 unfoldable pub readInto : List ℕ → List ℕ → Answer Chart
 readInto text table = elim (eqb (length table) 768) [ true ↦ readText text | false ↦ refused (sole 21 0) ]
 
@@ -48,16 +50,17 @@ unfoldable pub filled : Answer Chart → List ℕ → List ℕ
 filled (given C) table = C .table ++ drop (length (C .table)) table
 filled (refused r) table = table
 
--- what is answered of a chart that is read: places, alarm, row count
+-- "n, alarm, row count": what is answered of a chart that is read
 pub record Heading : Type 0 where
   pub places : ℕ
   pub alarm : ℕ
   pub rows : ℕ
 
+-- the same of a chart, whose table has "rows of six u32 fields"
 abbrev pub heading : Chart → Heading
 heading C = record { places = C .places; alarm = C .alarm; rows = size (C .table) }
 
--- what the code's answer says
+-- what the code's answer says: "a definition gives this paper's number and values for each of the enum's cases"
 unfoldable pub toldRead : Read → Answer Heading
 toldRead (answer.Chart head rows) = given (record { places = head .places; alarm = head .alarm; rows = rows })
 toldRead (answer.Refused r) = refused r

@@ -1,11 +1,9 @@
 -- The text of a chart: "The writer [..] uses no quotes and ends every record".
-use mathlib.Core.Path.{_≡_}
 use mathlib.Core.List.{List, [], _∷_, _++_, map}
 use mathlib.Core.Bool.{true, false}
-use Prim.Native.Nat.{ℕ, zero, suc, _+_, _*_, _-_, _/_, _%_}
+use Prim.Native.Nat.{ℕ, zero, suc, _+_, _/_, _%_}
 use lib.ListN.{length, drop}
 use lib.Dec.{ltb, leb, eqb}
-use lib.Seq.{sets}
 use Rattle.base.specs.Answers.{Answer, given, refused}
 use Rattle.base.specs.Refusals.{sole, unless}
 use Rattle.chart.specs.Charts.{Chart, size}
@@ -13,54 +11,45 @@ use Rattle.chart.specs.Faults.{refusal}
 use Rattle.text.specs.declared.answers.Wrote.{Wrote}
 use Rattle.text.specs.declared.answers.Wrote.the-variants as answer
 
--- ---- a number without leading zero
--- the digits of x, of which there are at most k + 1
+-- ---- numbers: "decimal throughout", without "leading zero"
+-- "1 or more digits": those of x, of which there are at most k + 1
 unfoldable pub digitsIn : ℕ → ℕ → List ℕ
 digitsIn zero x = x ∷ []
 digitsIn (suc k) x = elim (ltb x 10) [ true ↦ x ∷ [] | false ↦ digitsIn k (x / 10) ++ (x % 10 ∷ []) ]
 
+-- a number has fewer digits than it counts
 unfoldable pub digitsOf : ℕ → List ℕ
 digitsOf x = digitsIn x x
 
--- the same as bytes
+-- the same as bytes: "a field is 1 or more digits"
 unfoldable pub decimal : ℕ → List ℕ
 decimal x = map (λ (d : ℕ). 48 + d) (digitsOf x)
 
 -- ---- fields
--- what closes field k: a comma, or after the sixth of a record CRLF
+-- "Records of six fields end in CRLF": what closes field k, a comma or after the sixth CRLF
 unfoldable pub closing : ℕ → List ℕ
 closing k = elim (eqb (k % 6) 5) [ true ↦ 13 ∷ 10 ∷ [] | false ↦ 44 ∷ [] ]
 
--- field k, closed
+-- "uses no quotes": field k, closed
 abbrev pub fieldText : ℕ → ℕ → List ℕ
 fieldText k x = decimal x ++ closing k
 
--- these numbers as the fields from field k on
+-- "ends every record": these numbers as the fields from field k on
 unfoldable pub fieldsText : ℕ → List ℕ → List ℕ
 fieldsText k [] = []
 fieldsText k (x ∷ l) = fieldText k x ++ fieldsText (suc k) l
-
--- ---- what the private functions of the writer promise: no rule speaks of it
--- the bytes that so many fields from field k on take at most: ten digits and a comma each, and one more for each record that ends
-abbrev pub room : ℕ → ℕ → ℕ
-room k n = 11 * n + ((k + n) / 6 - k / 6)
-
--- the bytes are put at an offset of a buffer, and r is the offset after them
-pub record Put (before : List ℕ) (at : ℕ) (bytes after : List ℕ) (r : ℕ) : Type 0 where
-  pub is : after ≡ sets before at bytes
-  pub next : r ≡ at + length bytes
 
 -- ---- charts
 -- the numbers of a chart's text: "n, alarm, row count, 0, 0, 0; then the rows"
 abbrev pub numbers : Chart → List ℕ
 numbers C = C .places ∷ C .alarm ∷ size (C .table) ∷ 0 ∷ 0 ∷ 0 ∷ C .table
 
--- the text of a chart
+-- the text of a chart, its fields counted from 0
 unfoldable pub written : Chart → List ℕ
 written C = fieldsText 0 (numbers C)
 
--- the writer's answer for so many lent bytes: "21, a lent length [..] (for the writer's bytes: is less), or a chart table's isn't a multiple
--- of 6. Always first."; "The writer refuses faulty charts"
+-- the writer's answer for so many lent bytes: "21, a lent length [..] (for the writer's bytes: is less), or a chart
+-- table's isn't a multiple of 6. Always first."; "The writer refuses faulty charts"
 unfoldable pub writing : Chart → ℕ → Answer (List ℕ)
 writing C lent = elim (leb 8643 lent) [ true ↦ unless (refusal C) (written C) | false ↦ refused (sole 21 0) ]
 
@@ -69,7 +58,7 @@ unfoldable pub printed : Answer (List ℕ) → List ℕ → List ℕ
 printed (given t) bytes = t ++ drop (length t) bytes
 printed (refused r) bytes = bytes
 
--- what the code's answer says: the count of bytes, or a refusal
+-- what the code's answer says, "for each of the enum's cases": the count of bytes, or a refusal
 unfoldable pub toldWrote : Wrote → Answer ℕ
 toldWrote (answer.Bytes n) = given n
 toldWrote (answer.Refused r) = refused r

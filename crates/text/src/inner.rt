@@ -1,4 +1,5 @@
-// What reading and writing are made of. Some of it has a `requires`: a table or a buffer with room enough. No entry point stands here.
+// What reading and writing are made of. Some of it has a `requires`: a table or a buffer with room enough. No entry
+// point stands here.
 pub mod bytes; // bytes.rt: fields put into lent bytes
 pub mod first; // first.rt: the first record of a text
 pub mod reader; // reader.rt: what a text spells, by its walk

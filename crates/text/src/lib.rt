@@ -37,7 +37,7 @@ pub fn read(text: &[u8], table: &mut [u32]) -> Read
     }
     let mut rows = [0u32; 768];
     match parse(text, &mut rows) {
-        Parsed::Unfit(u) => Read::Refused(sole(u.0, u.1)),
+        Parsed::Unfit(number, offset) => Read::Refused(sole(number, offset)),
         Parsed::Chart(head, count) => {
             let front = &rows[..6 * count];
             match chart::judge(head, front) {
@@ -54,8 +54,10 @@ pub fn read(text: &[u8], table: &mut [u32]) -> Read
 // The text of a chart, at the front of the bytes, of which there are 8,643 or more. A refusal leaves them as they were.
 // What is written is the chart's RFC 4180 file.
 pub fn write(head: Head, rows: &[u32], bytes: &mut [u8]) -> Wrote
-    ensures is { λ r. ⌜ (toldWrote r ≡ mapped length (writing (charted head (now (rows .entry))) (length (now (bytes .entry)))))
-        × (now (bytes .exit) ≡ printed (writing (charted head (now (rows .entry))) (length (now (bytes .entry)))) (now (bytes .entry))) ⌝ }
+    ensures is { λ r. ⌜ (toldWrote r
+        ≡ mapped length (writing (charted head (now (rows .entry))) (length (now (bytes .entry)))))
+        × (now (bytes .exit)
+        ≡ printed (writing (charted head (now (rows .entry))) (length (now (bytes .entry)))) (now (bytes .entry))) ⌝ }
     ensures file { λ r. ⌜ ((n : ℕ) → toldWrote r ≡ given n
         → FileOf (charted head (now (rows .entry))) (take n (now (bytes .exit)))) ⌝ }
 {

@@ -1,7 +1,7 @@
 -- The counts of rows are within the tables. Assumes nothing.
 use mathlib.Core.Path.{sym}
 use lib.Seq.{length-take-le}
-use Rattle.report.proofs.Reading.{few-rows, refused-near}
+use Rattle.pick.proofs.Reading.{few-rows, refused-near}
 use native.Mathlib.Omega.{arith}
 use borrow.Author.Needs.{needs}
 use Rattle.pick.proofs.main.Statement.{statement}

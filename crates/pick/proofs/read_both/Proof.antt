@@ -1,5 +1,5 @@
 -- What the reader answers of each text. Assumes nothing.
-use Rattle.report.proofs.Reading.{old-refused, new-refused, both-charts}
+use Rattle.pick.proofs.Reading.{old-refused, new-refused, both-charts}
 use borrow.Author.Needs.{needs}
 use Rattle.pick.proofs.read_both.Statement.{statement}
 use Rattle.pick.proofs.read_both.Tie as tie

@@ -1,5 +1,5 @@
 -- The numbers of a build are small. Assumes nothing.
-use Rattle.report.proofs.Built.{summary-small, position-low}
+use Rattle.pick.proofs.Built.{summary-small, position-low}
 use native.Mathlib.Omega.{arith}
 use borrow.Author.Needs.{needs}
 use Rattle.pick.proofs.show.Statement.{statement}

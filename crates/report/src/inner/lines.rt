@@ -1,7 +1,7 @@
 // One record of four fields.
 ghost use Prim.Native.Nat.{_+_, _≤_};
 ghost use lib.ListN.{length};
-ghost use Rattle.text.specs.Written.{Put};
+ghost use Rattle.text.specs.inner.Puts.{Put};
 ghost use Rattle.report.specs.Lines.{line};
 use text::inner::bytes::put_fields;
 

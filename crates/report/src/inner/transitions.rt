@@ -3,7 +3,7 @@ ghost use mathlib.Core.Path.{_≡_};
 ghost use mathlib.Core.List.{[]};
 ghost use Prim.Native.Nat.{_+_, _<_, _≤_};
 ghost use lib.ListN.{length, getD};
-ghost use Rattle.text.specs.Written.{Put};
+ghost use Rattle.text.specs.inner.Puts.{Put};
 ghost use Rattle.records.specs.Records.{graphOf};
 ghost use Rattle.report.specs.Transitions.{firstRow, transition, ofPair};
 ghost use Rattle.report.specs.Portions.{Portioned};
@@ -53,7 +53,8 @@ fn put_transition(
 ) -> usize
     requires { ⌜ at + 45 ≤ length (now bytes) ⌝ }
     requires { ⌜ (pair < 4096) × (row ≤ 129) ⌝ }
-    ensures { λ r. ⌜ (Put (now (bytes .entry)) at (transition (now (marks .entry)) pair row target) (now (bytes .exit)) r) × (r ≤ at + 45) ⌝ }
+    ensures { λ r. ⌜ (Put (now (bytes .entry)) at (transition (now (marks .entry)) pair row target)
+        (now (bytes .exit)) r) × (r ≤ at + 45) ⌝ }
 {
     if target == 65535 {
         return at;
@@ -81,7 +82,9 @@ pub fn put_pair(
     requires { ⌜ at + 90 ≤ length (now bytes) ⌝ }
     requires { ⌜ (pair < 4096) × (length (now table) ≤ 768) ⌝ }
     requires { ⌜ (length (now marks) ≡ 4160) × (length (now targets) ≡ 8192) ⌝ }
-    ensures { λ r. ⌜ (Put (now (bytes .entry)) at (ofPair (now (table .entry)) (graphOf (now (marks .entry)) (now (targets .entry)) []) pair (getD (now (marks .entry)) pair 0)) (now (bytes .exit)) r)
+    ensures { λ r. ⌜ (Put (now (bytes .entry)) at (ofPair (now (table .entry))
+        (graphOf (now (marks .entry)) (now (targets .entry)) []) pair (getD (now (marks .entry)) pair 0))
+        (now (bytes .exit)) r)
         × (r ≤ at + 90) ⌝ }
 {
     if marks[pair] != 1 {
@@ -103,7 +106,8 @@ pub fn put_pairs(
 ) -> Extent
     requires { ⌜ (length (now table) ≤ 768) × (length (now bytes) ≡ 1024) ⌝ }
     requires { ⌜ (length (now marks) ≡ 4160) × (length (now targets) ≡ 8192) ⌝ }
-    ensures { λ r. ⌜ Portioned (now (table .entry)) (graphOf (now (marks .entry)) (now (targets .entry)) []) pair (now (bytes .entry)) (now (bytes .exit)) (r .next) (r .count) ⌝ }
+    ensures { λ r. ⌜ Portioned (now (table .entry)) (graphOf (now (marks .entry)) (now (targets .entry)) [])
+        pair (now (bytes .entry)) (now (bytes .exit)) (r .next) (r .count) ⌝ }
 {
     let mut n = pair;
     let mut at = 0;

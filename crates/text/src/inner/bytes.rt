@@ -2,7 +2,8 @@
 ghost use mathlib.Core.Path.{_≡_};
 ghost use Prim.Native.Nat.{_+_, _%_, _<_, _≤_};
 ghost use lib.ListN.{length, set};
-ghost use Rattle.text.specs.Written.{decimal, closing, fieldText, fieldsText, room, Put};
+ghost use Rattle.text.specs.Written.{decimal, closing, fieldText, fieldsText};
+ghost use Rattle.text.specs.inner.Puts.{room, Put};
 
 // One byte, and the offset after it.
 fn put_byte(bytes: &mut [u8], at: usize, b: u8) -> usize
@@ -47,7 +48,8 @@ fn put_closing(bytes: &mut [u8], at: usize, field: usize) -> usize
 // A field, closed, and the offset after it.
 fn put_field(bytes: &mut [u8], at: usize, field: usize, x: u32) -> usize
     requires { ⌜ at + room field 1 ≤ length (now bytes) ⌝ }
-    ensures { λ r. ⌜ (Put (now (bytes .entry)) at (fieldText field x) (now (bytes .exit)) r) × (r ≤ at + room field 1) ⌝ }
+    ensures { λ r. ⌜ (Put (now (bytes .entry)) at (fieldText field x) (now (bytes .exit)) r)
+        × (r ≤ at + room field 1) ⌝ }
 {
     let p = put_number(bytes, at, x);
     put_closing(bytes, p, field)

@@ -1,7 +1,6 @@
 // The first record of a text: "n, alarm, row count, 0, 0, 0".
 ghost use mathlib.Core.Path.{_≡_};
-ghost use Rattle.text.specs.Walk.{firstAt, pastFirst, entriesOf};
-use crate::fields::Misfit;
+ghost use Rattle.text.specs.inner.Walk.{firstAt, pastFirst, entriesOf};
 use crate::inner::table::Reach;
 use crate::inner::table::fields_into;
 use chart::charts::Head;
@@ -9,7 +8,7 @@ use chart::charts::Head;
 pub enum First {
     // The chart's head, its row count and the offset after the record.
     Record(Head, u32, usize),
-    Unfit(Misfit),
+    Unfit(u32, usize),
 }
 
 // The first record, at an offset.
@@ -18,7 +17,7 @@ pub fn first_at(text: &[u8], at: usize) -> First
 {
     let mut numbers = [0u32; 6];
     match fields_into(text, at, 0, 6, &mut numbers) {
-        Reach::Unfit(u) => First::Unfit(u),
+        Reach::Unfit(number, offset) => First::Unfit(number, offset),
         Reach::Past(next) => {
             let head = Head {
                 places: numbers[0],
@@ -35,7 +34,7 @@ pub fn after_first(f: First, at: usize) -> usize
 {
     match f {
         First::Record(_, _, p) => p,
-        First::Unfit(_) => at,
+        First::Unfit(_, _) => at,
     }
 }
 
@@ -45,6 +44,6 @@ pub fn entries(f: First) -> usize
 {
     match f {
         First::Record(_, count, _) => 6 * (count as usize),
-        First::Unfit(_) => 0,
+        First::Unfit(_, _) => 0,
     }
 }

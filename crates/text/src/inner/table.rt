@@ -3,15 +3,14 @@ ghost use mathlib.Core.Path.{_≡_};
 ghost use mathlib.Core.List.{_++_};
 ghost use Prim.Native.Nat.{_+_, _<_, _≤_};
 ghost use lib.ListN.{length, drop, set};
-ghost use Rattle.text.specs.Walk.{numbersAt, laid, reachAt, reached};
+ghost use Rattle.text.specs.inner.Walk.{numbersAt, laid, reachAt, reached};
 use crate::fields::Field;
-use crate::fields::Misfit;
 use crate::fields::item_at;
 
 pub enum Reach {
     // The offset after the fields read.
     Past(usize),
-    Unfit(Misfit),
+    Unfit(u32, usize),
 }
 
 // One number into a table.
@@ -33,8 +32,8 @@ pub fn fields_into(text: &[u8], at: usize, field: usize, n: usize, table: &mut [
     let mut i = 0;
     while i < n {
         match item_at(text, p, field + i) {
-            Field::Unfit(u) => {
-                return Reach::Unfit(u);
+            Field::Unfit(number, offset) => {
+                return Reach::Unfit(number, offset);
             }
             Field::Number(x, next) => {
                 put(table, i, x);
@@ -52,14 +51,15 @@ pub fn after_fields(f: Reach, at: usize) -> usize
 {
     match f {
         Reach::Past(p) => p,
-        Reach::Unfit(_) => at,
+        Reach::Unfit(_, _) => at,
     }
 }
 
 // The numbers into the front of a table.
 pub fn copy(numbers: &[u32], table: &mut [u32])
     requires { ⌜ length (now numbers) ≤ length (now table) ⌝ }
-    ensures { λ _. ⌜ now (table .exit) ≡ now (numbers .entry) ++ drop (length (now (numbers .entry))) (now (table .entry)) ⌝ }
+    ensures { λ _. ⌜ now (table .exit)
+        ≡ now (numbers .entry) ++ drop (length (now (numbers .entry))) (now (table .entry)) ⌝ }
 {
     let mut i = 0;
     while i < numbers.len() {

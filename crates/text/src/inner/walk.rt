@@ -1,12 +1,12 @@
-// The walk over a text: one `Reader` keeps the text and the offset reached, from the first field to the last. No function
-// that holds it has a branch or a loop: each calls covered functions on the text and the offset, and stores the offset
-// that they reached.
+// The walk over a text: one `Reader` keeps the text and the offset reached, from the first field to the last. No
+// function that holds it has a branch or a loop: each calls covered functions on the text and the offset, and stores
+// the offset that they reached.
 ghost use mathlib.Core.Path.{_≡_};
 ghost use Prim.Native.Nat.{_≤_};
 ghost use lib.ListN.{length};
 ghost use Rattle.base.specs.Chains.{mapped};
 ghost use Rattle.text.specs.Texts.{parsed, heading};
-ghost use Rattle.text.specs.Walk.{numbersAt, laid, reachAt, reached, firstAt, pastFirst, rowNumbers, toldParsed};
+ghost use Rattle.text.specs.inner.Walk.{numbersAt, laid, reachAt, reached, firstAt, pastFirst, rowNumbers, toldParsed};
 use crate::inner::first::First;
 use crate::inner::first::after_first;
 use crate::inner::first::entries;
@@ -44,7 +44,8 @@ pub fn first<'s, 'a>(r: &'s mut Reader<'a>) -> First
 pub fn rows<'s, 'a, 't>(r: &'s mut Reader<'a>, n: usize, table: &'t mut [u32]) -> Reach
     requires { ⌜ (n ≤ length (now table)) × (n ≤ 768) ⌝ }
     ensures { λ f. ⌜ ((f ≡ reachAt n 6 (now (now (r .entry) .text)) (now (r .entry) .at))
-        × (now (table .exit) ≡ laid (numbersAt n 6 (now (now (r .entry) .text)) (now (r .entry) .at)) (now (table .entry))))
+        × (now (table .exit)
+        ≡ laid (numbersAt n 6 (now (now (r .entry) .text)) (now (r .entry) .at)) (now (table .entry))))
         × ((now (r .exit) .text ≡ now (r .entry) .text) × (now (r .exit) .at ≡ reached f (now (r .entry) .at))) ⌝ }
 {
     let at = r.at;

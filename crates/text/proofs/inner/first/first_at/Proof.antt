@@ -11,23 +11,23 @@ slice-aggregate-fields-into c = search needs
 fields-into-requires : tie.Need-fields-into-requires
 fields-into-requires c κs = search needs
 
-enum-known-u : tie.Need-enum-known-u
-enum-known-u c = search needs
+enum-known-number : tie.Need-enum-known-number
+enum-known-number c = search needs
 
 enum-known-next : tie.Need-enum-known-next
 enum-known-next c = search needs
 
-array-read-t13 : tie.Need-array-read-t13
-array-read-t13 c = search needs
+array-read-t14 : tie.Need-array-read-t14
+array-read-t14 c = search needs
 
-array-read-t16 : tie.Need-array-read-t16
-array-read-t16 c = search needs
+array-read-t17 : tie.Need-array-read-t17
+array-read-t17 c = search needs
 
-array-read-t13-2 : tie.Need-array-read-t13-2
-array-read-t13-2 c = search needs
+array-read-t14-2 : tie.Need-array-read-t14-2
+array-read-t14-2 c = search needs
 
 returns : tie.Need-returns
-returns c = first-unfit _ _ _ (c .before .before .before .before .fields-into .ensures .0) _ (c .before .u .given .1)
+returns c = first-unfit _ _ _ (c .before .before .before .before .fields-into .ensures .0) _ _ (c .before .number .given .1)
 
 returns-2 : tie.Need-returns-2
 returns-2 c = first-record _ _ _ (c .before .before .before .before .fields-into .ensures .0) _ (c .before .before .before .before .fields-into .last .1 .1 .1 .1 .0) _ (c .before .next .given .1) refl (c .before .before .before .before .fields-into .ensures .1)
@@ -38,10 +38,10 @@ first-at-spec =
     (tie.spec
     slice-aggregate-fields-into
     fields-into-requires
-    enum-known-u
+    enum-known-number
     enum-known-next
-    array-read-t13
-    array-read-t16
-    array-read-t13-2
+    array-read-t14
+    array-read-t17
+    array-read-t14-2
     returns
     returns-2)

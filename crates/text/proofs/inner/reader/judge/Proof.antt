@@ -26,10 +26,10 @@ cast-t14 : tie.Need-cast-t14
 cast-t14 c = search needs
 
 returns-3 : tie.Need-returns-3
-returns-3 c = judge-first _ _ _ _ (c .before .before .before .if1 .left) _ (c .before .first .given .1)
+returns-3 c = judge-first _ _ _ _ (c .before .before .before .if1 .left) _ _ (c .before .first .given .1)
 
 returns-4 : tie.Need-returns-4
-returns-4 c = judge-rows _ _ _ _ (c .before .before .before .before .before .before .if1 .left) _ _ _ (c .before .before .before .before .first2 .given .1) _ (c .before .rows .given .1)
+returns-4 c = judge-rows _ _ _ _ (c .before .before .before .before .before .before .if1 .left) _ _ _ (c .before .before .before .before .first2 .given .1) _ _ (c .before .rows .given .1)
 
 returns-5 : tie.Need-returns-5
 returns-5 c = judge-chart _ _ _ _ (c .before .before .before .before .before .before .if1 .left) _ _ _ (c .before .before .before .before .first2 .given .1) _ (c .before .enum-told .given .1) (c .if2 .left)

@@ -45,7 +45,7 @@ use denote.Triple.Entry.{onEntry}
 use denote.Triple.Spec.{Meets, tripleOf}
 use denote.Triple.Table.{entered, cited}
 use denote.Triple.Walked.{says, Stays, stay-ref, walkOf, goes-ref, Walks, ends-at, walked, walk-meets}
-use Rattle.text.specs.Walk.{firstAt, pastFirst}
+use Rattle.text.specs.inner.Walk.{firstAt, pastFirst}
 use Rattle.text.specs.declared.inner.walk.Reader.{Reader}
 use Rattle.text.specs.declared.inner.first.First.{First}
 use Rattle.text.proofs.inner.walk.Reader as T

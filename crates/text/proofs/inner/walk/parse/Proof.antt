@@ -2,7 +2,7 @@
 -- A loan's token is met with a half of the text's token (`within-token`); when the call is over the lifetime is ended, and both the local and the text's token come back. The table is given up for good to `rows`. All that the proof knows of the callees is that each meets its contract.
 -- Assumes nothing.
 use mathlib.Core.Path.{_≡_, refl, ap, _∙_}
-use Prim.Native.Nat.{ℕ, _≤_, _<_, _^_}
+use Prim.Native.Nat.{ℕ, _≤_, _<_}
 use native.Mathlib.Omega.{arith}
 use mathlib.Core.List.{List, [], _∷_}
 use lib.Dec.{lit<}
@@ -33,7 +33,7 @@ use denote.Triple.Table.{entered, cited}
 use denote.Exit.{yes}
 use Rattle.base.specs.Chains.{mapped}
 use Rattle.text.specs.Texts.{parsed, heading}
-use Rattle.text.specs.Walk.{numbersAt, laid, reachAt, reached, firstAt, pastFirst, entriesOf, rowNumbers, answered, toldParsed}
+use Rattle.text.specs.inner.Walk.{numbersAt, laid, reachAt, reached, firstAt, pastFirst, entriesOf, rowNumbers, answered, toldParsed}
 use Rattle.text.specs.declared.inner.walk.Reader.{Reader}
 use Rattle.text.specs.declared.inner.first.First.{First}
 use Rattle.text.specs.declared.inner.table.Reach.{Reach}

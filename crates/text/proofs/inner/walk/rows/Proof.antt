@@ -48,7 +48,7 @@ use denote.Triple.Spec.{Meets, tripleOf}
 use denote.Triple.Table.{entered, cited}
 use denote.Triple.Walked.{says, needs, Stays, stay-ref, stay-none, gave-slice, walkOf, goes-none, goes-ref, goes-gave-slice, Walks, ends-at, walked, walk-meets}
 use denote.Exit.{yes}
-use Rattle.text.specs.Walk.{numbersAt, laid, reachAt, reached}
+use Rattle.text.specs.inner.Walk.{numbersAt, laid, reachAt, reached}
 use Rattle.text.specs.declared.inner.walk.Reader.{Reader}
 use Rattle.text.specs.declared.inner.table.Reach.{Reach}
 use Rattle.text.proofs.inner.walk.Reader as T

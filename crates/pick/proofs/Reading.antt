@@ -15,10 +15,15 @@ use Rattle.text.specs.declared.answers.Read.the-variants as read
 use Rattle.text.specs.Texts.{heading, toldRead, readInto, filled}
 use Rattle.text.proofs.Bounds.{SmallRead, read-small}
 use Rattle.text.proofs.Headings.{first, second, third}
-use Rattle.report.specs.declared.charts.Both.{Both}
-use Rattle.report.specs.declared.charts.Both.the-variants as both
+use Rattle.pick.specs.declared.Both.{Both}
+use Rattle.pick.specs.declared.Both.the-variants as both
 use Rattle.report.specs.Printed.{inNew, bothOf}
-use Rattle.report.specs.Both.{toldBoth, Few, BothAs}
+use Rattle.pick.specs.Both.{toldBoth, BothAs}
+use Rattle.pick.specs.inner.Small.{Few}
+
+-- all that the call says
+abbrev Told : Answer Chart → Answer Chart → Both → List ℕ → List ℕ → List ℕ → List ℕ → Type 0
+Told a b r old old′ new new′ = BothAs a b r old old′ new new′ × Few r
 
 -- a position that is read is small
 near : (r : Refusal) → SmallRead (refused r) → r .position < 2 ^ 32
@@ -27,27 +32,27 @@ near r s = omega (arith, s .1 .1)
 module _ (old old′ new : List ℕ) where
   -- the old text is refused
   one-refused : (a b : Answer Chart) (r : Refusal) → SmallRead a → toldRead (read.Refused r) ≡ mapped heading a → old′ ≡ filled a old
-      → BothAs a b (both.Refused r) old old′ new new
+      → Told a b (both.Refused r) old old′ new new
   unfolding toldRead bothOf toldBoth filled
   one-refused (given C) b r s e f = absurd (different (sym e))
   one-refused (refused q) b r s e f =
       let i : r ≡ q = cc in
-      record { told = ap (λ (x : Refusal). refused x) i; old-table = f; new-table = refl; few = rw i (near q s) }
+      (record { told = ap (λ (x : Refusal). refused x) i; old-table = f; new-table = refl }, rw i (near q s))
 
   module _ (new′ : List ℕ) where
     -- the new text is refused
     two-refused : (a b : Answer Chart) (h : Head) (k : ℕ) (r : Refusal) → SmallRead b → toldRead (read.Chart h k) ≡ mapped heading a → old′ ≡ filled a old
-        → toldRead (read.Refused r) ≡ mapped heading b → new′ ≡ filled b new → BothAs a b (both.Refused (inNew r)) old old′ new new′
+        → toldRead (read.Refused r) ≡ mapped heading b → new′ ≡ filled b new → Told a b (both.Refused (inNew r)) old old′ new new′
     unfolding toldRead bothOf toldBoth
     two-refused (refused q) b h k r s e f e′ f′ = absurd (different e)
     two-refused (given C) (given D) h k r s e f e′ f′ = absurd (different (sym e′))
     two-refused (given C) (refused q) h k r s e f e′ f′ =
         let i : r ≡ q = cc in
-        record { told = ap (λ (x : Refusal). refused (inNew x)) i; old-table = f; new-table = f′; few = rw i (near q s) }
+        (record { told = ap (λ (x : Refusal). refused (inNew x)) i; old-table = f; new-table = f′ }, rw i (near q s))
 
     -- both are charts
     two-charts : (a b : Answer Chart) (h : Head) (m : ℕ) (g : Head) (n : ℕ) → SmallRead a → SmallRead b → toldRead (read.Chart h m) ≡ mapped heading a → old′ ≡ filled a old
-        → toldRead (read.Chart g n) ≡ mapped heading b → new′ ≡ filled b new → BothAs a b (both.Charts h m g n) old old′ new new′
+        → toldRead (read.Chart g n) ≡ mapped heading b → new′ ≡ filled b new → Told a b (both.Charts h m g n) old old′ new new′
     unfolding toldRead bothOf toldBoth
     two-charts (refused q) b h m g n s s′ e f e′ f′ = absurd (different e)
     two-charts (given C) (refused q) h m g n s s′ e f e′ f′ = absurd (different e′)
@@ -58,21 +63,21 @@ module _ (old old′ new : List ℕ) where
         let i′ : g .places ≡ D .places = ap first e′ in
         let j′ : g .alarm ≡ D .alarm = ap second e′ in
         let k′ : n ≡ size (D .table) = ap third e′ in
-        record { told = rw (i, j, k, i′, j′, k′); old-table = f; new-table = f′; few = (omega (arith, s .1 .1), omega (arith, s′ .1 .1)) }
+        (record { told = rw (i, j, k, i′, j′, k′); old-table = f; new-table = f′ }, (omega (arith, s .1 .1), omega (arith, s′ .1 .1)))
 
 module _ (old-text new-text old old′ new : List ℕ) (r : Read)
     (is : (toldRead r ≡ mapped heading (readInto old-text old)) × (old′ ≡ filled (readInto old-text old) old)) where
-  pub old-refused : (q : Refusal) → r ≡ read.Refused q → BothAs (readInto old-text old) (readInto new-text new) (both.Refused q) old old′ new new
+  pub old-refused : (q : Refusal) → r ≡ read.Refused q → Told (readInto old-text old) (readInto new-text new) (both.Refused q) old old′ new new
   old-refused q e = one-refused old old′ new (readInto old-text old) (readInto new-text new) q (read-small old-text old) (rw e at is .0) (is .1)
 
   module _ (new′ : List ℕ) (r′ : Read) (h : Head) (k : ℕ) (e : r ≡ read.Chart h k)
       (is′ : (toldRead r′ ≡ mapped heading (readInto new-text new)) × (new′ ≡ filled (readInto new-text new) new)) where
-    pub new-refused : (q : Refusal) → r′ ≡ read.Refused q → BothAs (readInto old-text old) (readInto new-text new) (both.Refused (inNew q)) old old′ new new′
+    pub new-refused : (q : Refusal) → r′ ≡ read.Refused q → Told (readInto old-text old) (readInto new-text new) (both.Refused (inNew q)) old old′ new new′
     new-refused q e′ =
         two-refused old old′ new new′ (readInto old-text old) (readInto new-text new) h k q (read-small new-text new) (rw e at is .0) (is .1)
         (rw e′ at is′ .0) (is′ .1)
 
-    pub both-charts : (g : Head) (n : ℕ) → r′ ≡ read.Chart g n → BothAs (readInto old-text old) (readInto new-text new) (both.Charts h k g n) old old′ new new′
+    pub both-charts : (g : Head) (n : ℕ) → r′ ≡ read.Chart g n → Told (readInto old-text old) (readInto new-text new) (both.Charts h k g n) old old′ new new′
     both-charts g n e′ =
         two-charts old old′ new new′ (readInto old-text old) (readInto new-text new) h k g n (read-small old-text old) (read-small new-text new)
         (rw e at is .0) (is .1) (rw e′ at is′ .0) (is′ .1)

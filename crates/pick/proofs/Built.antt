@@ -27,7 +27,7 @@ use Rattle.graph.specs.Buffers.{Buffers, buffers}
 use Rattle.detector.specs.Turns.{explored}
 use Rattle.condition.specs.Builds.{alone, built, startOf, recorded, summary}
 use Rattle.builder.specs.Answers.{told, lent, refusal, answered, left}
-use Rattle.report.specs.Printed.{Small}
+use Rattle.pick.specs.inner.Small.{Small}
 
 start-small : (old new : Chart) (m : List ℕ) → startOf (headOf old) (headOf new) m ≤ 4160
 unfolding startOf

@@ -22,7 +22,7 @@ use Rattle.text.specs.Texts.{Heading}
 -- ---- fields into a table
 abbrev pub onNumber : Field → (ℕ → ℕ → List ℕ) → List ℕ
 onNumber (Number x p) f = f x p
-onNumber (Unfit u) f = []
+onNumber (Unfit n p) f = []
 
 -- the numbers of so many fields, from field k at an offset on, as far as they fit
 unfoldable pub numbersAt : ℕ → ℕ → List ℕ → ℕ → List ℕ
@@ -36,7 +36,7 @@ laid l table = l ++ drop (length l) table
 -- the code's answer: the offset after the fields, or where one does not fit
 unfoldable pub reachOf : Answer Span → Reach
 reachOf (given s) = reach.Past (s .next)
-reachOf (refused r) = reach.Unfit (record { 0 = r .number; 1 = r .position })
+reachOf (refused r) = reach.Unfit (r .number) (r .position)
 
 abbrev pub reachAt : ℕ → ℕ → List ℕ → ℕ → Reach
 reachAt n k text at = reachOf (fieldsAt n k text at [])
@@ -44,13 +44,13 @@ reachAt n k text at = reachOf (fieldsAt n k text at [])
 -- the offset reached: past the fields, and still where they began if one does not fit
 unfoldable pub reached : Reach → ℕ → ℕ
 reached (reach.Past p) at = p
-reached (reach.Unfit u) at = at
+reached (reach.Unfit n p) at = at
 
 -- ---- the first record
 -- "n, alarm, row count": the first three of its numbers
 unfoldable pub recordOf : Reach → List ℕ → First
 recordOf (reach.Past p) l = first.Record (record { places = getD l 0 0; alarm = getD l 1 0 }) (getD l 2 0) p
-recordOf (reach.Unfit u) l = first.Unfit u
+recordOf (reach.Unfit n p) l = first.Unfit n p
 
 unfoldable pub firstAt : List ℕ → ℕ → First
 firstAt text at = recordOf (reachAt 6 0 text at) (numbersAt 6 0 text at)
@@ -58,12 +58,12 @@ firstAt text at = recordOf (reachAt 6 0 text at) (numbersAt 6 0 text at)
 -- the offset reached
 unfoldable pub pastFirst : First → ℕ → ℕ
 pastFirst (first.Record head count p) at = p
-pastFirst (first.Unfit u) at = at
+pastFirst (first.Unfit n p) at = at
 
 -- the entries of as many rows as it counts, none where it does not fit
 unfoldable pub entriesOf : First → ℕ
 entriesOf (first.Record head count p) = 6 * count
-entriesOf (first.Unfit u) = 0
+entriesOf (first.Unfit n p) = 0
 
 -- ---- the whole walk
 -- what the walk puts into its table: the numbers of the rows, as far as they fit
@@ -73,13 +73,13 @@ rowNumbers text = numbersAt (entriesOf (firstAt text 0)) 6 text (pastFirst (firs
 -- by what the first record and the rows gave, and the offset where they ended: where the text does not fit first, or
 -- head and row count
 unfoldable pub answered : List ℕ → First → Reach → ℕ → Parsed
-answered [] r rows end = parsed.Unfit (record { 0 = 11; 1 = 0 })
-answered (b ∷ s) (first.Unfit u) rows end = parsed.Unfit u
-answered (b ∷ s) (first.Record head count at) (reach.Unfit u) end = parsed.Unfit u
+answered [] r rows end = parsed.Unfit 11 0
+answered (b ∷ s) (first.Unfit n p) rows end = parsed.Unfit n p
+answered (b ∷ s) (first.Record head count at) (reach.Unfit n p) end = parsed.Unfit n p
 answered (b ∷ s) (first.Record head count at) (reach.Past p) end =
-    elim (ltb end (length (b ∷ s))) [ true ↦ parsed.Unfit (record { 0 = 14; 1 = end }) | false ↦ parsed.Chart head count ]
+    elim (ltb end (length (b ∷ s))) [ true ↦ parsed.Unfit 14 end | false ↦ parsed.Chart head count ]
 
 -- what the code's answer says
 unfoldable pub toldParsed : Parsed → Answer Heading
 toldParsed (parsed.Chart head rows) = given (record { places = head .places; alarm = head .alarm; rows = rows })
-toldParsed (parsed.Unfit u) = refused (sole (u .0) (u .1))
+toldParsed (parsed.Unfit n p) = refused (sole n p)
