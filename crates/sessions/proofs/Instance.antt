@@ -29,10 +29,10 @@ use Rattle.sets.specs.Sets as sets-sets
 use Rattle.align.specs.Reads as align-reads
 use Rattle.align.specs.Steps as align-steps
 use Rattle.checker.specs.Following as checker-following
-use Rattle.graph.specs.Buffers as builder-graphs
-use Rattle.detector.specs.Turns as builder-turns
-use Rattle.marker.specs.Marks as builder-marks
-use Rattle.condition.specs.Builds as builder-builds
+use Rattle.graph.specs.Buffers as graph-buffers
+use Rattle.detector.specs.Turns as detector-turns
+use Rattle.marker.specs.Marks as marker-marks
+use Rattle.condition.specs.Builds as condition-builds
 
 -- both charts, `3,2,2,0,0,0 0,1,0,0,0,1 1,2,0,1,0,2`: two assignments, one after the other, lead to the alarm
 abbrev pub C : Chart
@@ -43,7 +43,7 @@ pub R : Record
 R = recordOf 0 (set (set (set (replicate 4160 0) 0 1) 65 3) 130 4) (set (set (replicate 8192 65535) 0 65) 130 130) (replicate 4096 0)
 
 pub is-built : recorded C C ≡ R
-unfolding R base-options.firstOf base-repeat.repeated base-walks.pass base-walks.firstFrom chart-charts.leavingOf chart-charts.leaving operations-operations.kind operations-operations.operandB operations-operations.assignedC operations-operations.operandC operations-operations.reads operations-operations.same sets-sets.alone sets-sets.joined sets-sets.with sets-sets.without sets-sets.meets sets-sets.holdsAll sets-sets.setOf align-reads.readSet align-steps.find align-steps.along align-steps.matching align-steps.matched align-steps.rewritten align-steps.assigned align-steps.onward align-steps.follow align-steps.followed align-steps.counterpart align-steps.assumed align-steps.moved align-steps.arrived align-steps.step builder-graphs.marked builder-graphs.gone builder-graphs.cleared builder-graphs.untargeted builder-graphs.keep builder-graphs.aim builder-graphs.due builder-graphs.waits builder-graphs.join builder-graphs.unwait builder-turns.lowest builder-turns.next builder-turns.setNow builder-turns.begun builder-turns.stepOf builder-turns.arrived builder-turns.processed builder-turns.rowDone builder-turns.secondDone builder-turns.taken builder-turns.explored builder-marks.plainMark builder-marks.plainMarks builder-marks.inQ builder-marks.opening builder-marks.nextOpening builder-marks.allOpened builder-marks.transitions builder-marks.cover builder-marks.covered builder-marks.allCovered builder-marks.finalMarks builder-builds.redirected builder-builds.finalTargets builder-builds.alone builder-builds.lone builder-builds.finished builder-builds.built builder-builds.startOf builder-builds.recorded
+unfolding R base-options.firstOf base-repeat.repeated base-walks.pass base-walks.firstFrom chart-charts.leavingOf chart-charts.leaving operations-operations.kind operations-operations.operandB operations-operations.assignedC operations-operations.operandC operations-operations.reads operations-operations.same sets-sets.alone sets-sets.joined sets-sets.with sets-sets.without sets-sets.meets sets-sets.holdsAll sets-sets.setOf align-reads.readSet align-steps.find align-steps.along align-steps.matching align-steps.matched align-steps.rewritten align-steps.assigned align-steps.onward align-steps.follow align-steps.followed align-steps.counterpart align-steps.assumed align-steps.moved align-steps.arrived align-steps.step graph-buffers.marked graph-buffers.gone graph-buffers.cleared graph-buffers.untargeted graph-buffers.keep graph-buffers.aim graph-buffers.due graph-buffers.waits graph-buffers.join graph-buffers.unwait detector-turns.lowest detector-turns.next detector-turns.setNow detector-turns.begun detector-turns.stepOf detector-turns.arrived detector-turns.processed detector-turns.rowDone detector-turns.secondDone detector-turns.taken detector-turns.explored marker-marks.plainMark marker-marks.plainMarks marker-marks.inQ marker-marks.opening marker-marks.nextOpening marker-marks.allOpened marker-marks.transitions marker-marks.cover marker-marks.covered marker-marks.allCovered marker-marks.finalMarks condition-builds.redirected condition-builds.finalTargets condition-builds.alone condition-builds.lone condition-builds.finished condition-builds.built condition-builds.startOf condition-builds.recorded
 is-built = refl
 
 -- ---- it passes, as all that is built does

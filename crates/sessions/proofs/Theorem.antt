@@ -1,6 +1,6 @@
 -- The worked cases of document 01 are so: one theorem about their list, computed from the definitions. Assumes nothing.
-use mathlib.Core.Path.{_≡_, refl, sym, ap, ap₂, _∙_}
-use mathlib.Core.Bool.{Bool, true, _&&_, not}
+use mathlib.Core.Path.{_≡_, refl, ap, ap₂, _∙_}
+use mathlib.Core.Bool.{Bool, true, false, _&&_, not}
 use mathlib.Core.List.{List, [], _∷_}
 use Prim.Native.Nat.{ℕ, _^_}
 use lib.Dec.{T, T-not, eqb, ltb, eqb→eq, ltb→lt}
@@ -11,7 +11,7 @@ use Rattle.operations.specs.Assumptions.{Operands}
 use Rattle.operations.specs.Trials.{never, implies}
 use Rattle.operations.proofs.Exact.{implies-exact, never-exact}
 use Rattle.report.specs.Printed.{printed}
-use Rattle.sessions.specs.Cases.{Case, prints, implied, notImplied, anything, sum, Says, adds, bytes, same, fit, test, tests, Every, none, one}
+use Rattle.sessions.specs.Cases.{Case, prints, implied, notImplied, anything, sum, Says, adds, bytes, Every, none, one}
 use Rattle.sessions.specs.Worked.{worked}
 use Rattle.base.specs.Options as base-options
 use Rattle.base.specs.Repeat as base-repeat
@@ -28,13 +28,36 @@ use Rattle.text.specs.Written as text-written
 use Rattle.sets.specs.Sets as sets-sets
 use Rattle.align.specs.Reads as align-reads
 use Rattle.align.specs.Steps as align-steps
-use Rattle.graph.specs.Buffers as builder-graphs
-use Rattle.detector.specs.Turns as builder-turns
-use Rattle.marker.specs.Marks as builder-marks
-use Rattle.condition.specs.Builds as builder-builds
+use Rattle.graph.specs.Buffers as graph-buffers
+use Rattle.detector.specs.Turns as detector-turns
+use Rattle.marker.specs.Marks as marker-marks
+use Rattle.condition.specs.Builds as condition-builds
 use Rattle.report.specs.Lines as report-lines
 use Rattle.report.specs.Transitions as report-transitions
 use Rattle.report.specs.Printed as report-printed
+
+-- ---- the test of a case
+
+unfoldable same : List ℕ → List ℕ → Bool
+same [] [] = true
+same [] (y ∷ m) = false
+same (x ∷ l) [] = false
+same (x ∷ l) (y ∷ m) = eqb x y && same l m
+
+-- the operands are those of a faultless row
+unfoldable fit : Operation → Bool
+fit f = ltb (f .a) 64 && (ltb (f .b) 64 && ltb (f .c) (2 ^ 32))
+
+unfoldable test : Case → Bool
+test (prints old new out) = same (printed (bytes old) (bytes new)) (bytes out)
+test (implied f g) = fit f && (fit g && implies f g)
+test (notImplied f g) = fit f && (fit g && not (implies f g))
+test (anything f) = fit f && never f
+test (sum x y z) = eqb (value (adds 0 y) (λ _. x)) z
+
+unfoldable tests : List Case → Bool
+tests [] = true
+tests (c ∷ l) = test c && tests l
 
 -- ---- a test that passes shows its case
 
@@ -78,7 +101,7 @@ all-show (c ∷ l) t = let (h, r) = T-and (test c) (tests l) t in one (shows c h
 
 -- every test passes, by computing with the definitions
 computed : tests worked ≡ true
-unfolding worked tests test same fit bytes base-options.firstOf base-repeat.repeated base-walks.pass base-walks.firstFrom base-walks.count base-tests.someBelow chart-charts.leavingOf chart-charts.leaving chart-faults.countFault chart-faults.alarmFault chart-faults.rowFault chart-faults.clash chart-faults.conflictFault chart-faults.rowsFault chart-faults.fault operations-operations.kind operations-operations.operandB operations-operations.assignedC operations-operations.operandC operations-operations.operandsFit operations-operations.reads operations-operations.same operations-operations.value operations-operations.related operations-operations.holds operations-trials.seats operations-trials.trial operations-trials.shown operations-trials.together text-fields.digitOf text-fields.digits text-fields.value text-fields.kind text-fields.judged text-fields.bounded text-fields.ended text-fields.numberOf text-fields.numberAt text-fields.followed text-fields.fieldAt text-fields.lineEnd text-fields.closed text-fields.missing text-fields.itemAt text-spans.fieldsAt text-texts.whole text-texts.rowsAt text-texts.parsed text-texts.readText text-written.digitsIn text-written.digitsOf text-written.decimal text-written.closing text-written.fieldsText sets-sets.alone sets-sets.joined sets-sets.with sets-sets.without sets-sets.meets sets-sets.holdsAll sets-sets.setOf align-reads.readSet align-steps.find align-steps.along align-steps.matching align-steps.matched align-steps.rewritten align-steps.assigned align-steps.onward align-steps.follow align-steps.followed align-steps.counterpart align-steps.assumed align-steps.moved align-steps.arrived align-steps.step builder-graphs.marked builder-graphs.gone builder-graphs.cleared builder-graphs.untargeted builder-graphs.keep builder-graphs.aim builder-graphs.due builder-graphs.waits builder-graphs.join builder-graphs.unwait builder-turns.lowest builder-turns.next builder-turns.setNow builder-turns.begun builder-turns.stepOf builder-turns.arrived builder-turns.processed builder-turns.rowDone builder-turns.secondDone builder-turns.taken builder-turns.explored builder-marks.plainMark builder-marks.plainMarks builder-marks.inQ builder-marks.opening builder-marks.nextOpening builder-marks.allOpened builder-marks.transitions builder-marks.cover builder-marks.covered builder-marks.allCovered builder-marks.finalMarks builder-builds.redirected builder-builds.finalTargets builder-builds.alone builder-builds.lone builder-builds.finished builder-builds.built builder-builds.startOf builder-builds.recorded builder-builds.summary report-lines.line report-lines.refusalLine report-transitions.rowsBelow report-transitions.firstRow report-transitions.transition report-transitions.ofPair report-transitions.ofPairs report-transitions.remaining report-printed.bothOf report-printed.bothRead report-printed.summaryLine report-printed.transitions report-printed.condition report-printed.conditionOf report-printed.printed
+unfolding worked tests test same fit bytes base-options.firstOf base-repeat.repeated base-walks.pass base-walks.firstFrom base-walks.count base-tests.someBelow chart-charts.leavingOf chart-charts.leaving chart-faults.countFault chart-faults.alarmFault chart-faults.rowFault chart-faults.clash chart-faults.conflictFault chart-faults.rowsFault chart-faults.fault operations-operations.kind operations-operations.operandB operations-operations.assignedC operations-operations.operandC operations-operations.operandsFit operations-operations.reads operations-operations.same operations-operations.value operations-operations.related operations-operations.holds operations-trials.seats operations-trials.trial operations-trials.shown operations-trials.together text-fields.digitOf text-fields.digits text-fields.value text-fields.kind text-fields.judged text-fields.bounded text-fields.ended text-fields.numberOf text-fields.numberAt text-fields.followed text-fields.fieldAt text-fields.lineEnd text-fields.closed text-fields.missing text-fields.itemAt text-spans.fieldsAt text-texts.whole text-texts.rowsAt text-texts.parsed text-texts.readText text-written.digitsIn text-written.digitsOf text-written.decimal text-written.closing text-written.fieldsText sets-sets.alone sets-sets.joined sets-sets.with sets-sets.without sets-sets.meets sets-sets.holdsAll sets-sets.setOf align-reads.readSet align-steps.find align-steps.along align-steps.matching align-steps.matched align-steps.rewritten align-steps.assigned align-steps.onward align-steps.follow align-steps.followed align-steps.counterpart align-steps.assumed align-steps.moved align-steps.arrived align-steps.step graph-buffers.marked graph-buffers.gone graph-buffers.cleared graph-buffers.untargeted graph-buffers.keep graph-buffers.aim graph-buffers.due graph-buffers.waits graph-buffers.join graph-buffers.unwait detector-turns.lowest detector-turns.next detector-turns.setNow detector-turns.begun detector-turns.stepOf detector-turns.arrived detector-turns.processed detector-turns.rowDone detector-turns.secondDone detector-turns.taken detector-turns.explored marker-marks.plainMark marker-marks.plainMarks marker-marks.inQ marker-marks.opening marker-marks.nextOpening marker-marks.allOpened marker-marks.transitions marker-marks.cover marker-marks.covered marker-marks.allCovered marker-marks.finalMarks condition-builds.redirected condition-builds.finalTargets condition-builds.alone condition-builds.lone condition-builds.finished condition-builds.built condition-builds.startOf condition-builds.recorded condition-builds.summary report-lines.line report-lines.refusalLine report-transitions.rowsBelow report-transitions.firstRow report-transitions.transition report-transitions.ofPair report-transitions.ofPairs report-transitions.remaining report-printed.bothOf report-printed.bothRead report-printed.summaryLine report-printed.transitions report-printed.condition report-printed.conditionOf report-printed.printed
 computed = refl
 
 pub worked-cases : Every worked

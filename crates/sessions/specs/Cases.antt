@@ -1,15 +1,12 @@
--- A worked case ("Worked sessions"): what it says, and the test that it is computed by.
+-- A worked case ("Worked sessions"), and what it says.
 use mathlib.Core.Path.{_≡_}
-use mathlib.Core.Bool.{Bool, true, false, _&&_, not}
 use mathlib.Core.List.{List, [], _∷_}
-use Prim.Native.Nat.{ℕ, _+_, _^_}
+use Prim.Native.Nat.{ℕ, _+_}
 use Prim.Native.Char.{code}
 use Prim.Native.String.{String, [] as []ˢ, _∷_ as _∷ˢ_}
-use lib.Dec.{eqb, ltb}
 use Rattle.operations.specs.declared.Operation.{Operation}
 use Rattle.operations.specs.Operations.{value}
 use Rattle.operations.specs.Assumptions.{Implies}
-use Rattle.operations.specs.Trials.{never, implies}
 use Rattle.report.specs.Printed.{printed}
 
 -- ---- texts and operations as document 01 writes them
@@ -40,36 +37,14 @@ pub data Case : Type 0 where
   -- the sum of two values
   sum : ℕ → ℕ → ℕ → Case
 
--- What a case says. An implication speaks of all 64 values; what implies anything implies every second assumption, whatever its operands;
--- a sum is what code 2 writes, whatever the values, where v0 is its first number.
+-- What a case says. An implication speaks of all 64 values; what implies anything implies every second assumption,
+-- whatever its operands; a sum is what code 2 writes, whatever the values, where v0 is its first number.
 abbrev pub Says : Case → Type 0
 Says (prints old new out) = printed (bytes old) (bytes new) ≡ bytes out
 Says (implied f g) = Implies f g
 Says (notImplied f g) = Implies f g → ⊥
 Says (anything f) = (g : Operation) → Implies f g
 Says (sum x y z) = (v : ℕ → ℕ) → v 0 ≡ x → value (adds 0 y) v ≡ z
-
--- ---- the test of a case
-unfoldable pub same : List ℕ → List ℕ → Bool
-same [] [] = true
-same [] (y ∷ m) = false
-same (x ∷ l) [] = false
-same (x ∷ l) (y ∷ m) = eqb x y && same l m
-
--- the operands are those of a faultless row
-unfoldable pub fit : Operation → Bool
-fit f = ltb (f .a) 64 && (ltb (f .b) 64 && ltb (f .c) (2 ^ 32))
-
-unfoldable pub test : Case → Bool
-test (prints old new out) = same (printed (bytes old) (bytes new)) (bytes out)
-test (implied f g) = fit f && (fit g && implies f g)
-test (notImplied f g) = fit f && (fit g && not (implies f g))
-test (anything f) = fit f && never f
-test (sum x y z) = eqb (value (adds 0 y) (λ _. x)) z
-
-unfoldable pub tests : List Case → Bool
-tests [] = true
-tests (c ∷ l) = test c && tests l
 
 -- every case of a list
 pub data Every : List Case → Type 0 where

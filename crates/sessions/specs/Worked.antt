@@ -1,4 +1,5 @@
--- The cases that document 01 marks by § ("Worked sessions"), in its order. That each is so is one theorem, in proofs/Theorem.antt.
+-- The cases that document 01 marks by § ("Worked sessions"), in its order. That each is so is one theorem, in
+-- proofs/Theorem.antt.
 use mathlib.Core.List.{List, [], _∷_}
 use Prim.Native.String.{String}
 use Rattle.sessions.specs.Cases.{Case, prints, implied, notImplied, anything, sum, constant, variables}
