@@ -1,4 +1,5 @@
 -- Laws of builds.
 pub mod Passing
 pub mod Answering
+pub mod Bounds
 pub mod Demands

@@ -1,2 +1,3 @@
 -- What a build answers and leaves.
 pub mod Answers
+pub mod inner

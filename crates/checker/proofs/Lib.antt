@@ -1,6 +1,7 @@
 -- Laws of records that pass, demand 3, first half, and the check as the code comes upon it.
 pub mod Passed
 pub mod Passes
+pub mod Bounds
 pub mod Demand3
 pub mod Shapes
 pub mod Targets

@@ -1,3 +1,2 @@
--- Laws of what the program reads and of what a build answers.
+-- Laws of what the program reads.
 pub mod Reading
-pub mod Built

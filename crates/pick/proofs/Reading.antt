@@ -7,13 +7,15 @@ use native.Mathlib.Omega.{arith}
 use Rattle.base.specs.Answers.{Answer, given, refused}
 use Rattle.base.specs.declared.Refusal.{Refusal}
 use Rattle.base.specs.Chains.{mapped}
+use Rattle.base.specs.inner.Fits.{FitsOr}
 use Rattle.base.proofs.Answers.{different}
 use Rattle.chart.specs.declared.charts.Head.{Head}
 use Rattle.chart.specs.Charts.{Chart, size}
+use Rattle.chart.specs.Faultless.{FaultlessChart}
 use Rattle.text.specs.declared.answers.Read.{Read}
 use Rattle.text.specs.declared.answers.Read.the-variants as read
 use Rattle.text.specs.Texts.{heading, toldRead, readInto, filled}
-use Rattle.text.proofs.Bounds.{SmallRead, read-small}
+use Rattle.text.proofs.Bounds.{read-fits}
 use Rattle.text.proofs.Headings.{first, second, third}
 use Rattle.pick.specs.declared.Both.{Both}
 use Rattle.pick.specs.declared.Both.the-variants as both
@@ -25,33 +27,29 @@ use Rattle.pick.specs.inner.Small.{Few}
 abbrev Told : Answer Chart → Answer Chart → Both → List ℕ → List ℕ → List ℕ → List ℕ → Type 0
 Told a b r old old′ new new′ = BothAs a b r old old′ new new′ × Few r
 
--- a position that is read is small
-near : (r : Refusal) → SmallRead (refused r) → r .position < 2 ^ 32
-near r s = omega (arith, s .1 .1)
-
 module _ (old old′ new : List ℕ) where
   -- the old text is refused
-  one-refused : (a b : Answer Chart) (r : Refusal) → SmallRead a → toldRead (read.Refused r) ≡ mapped heading a → old′ ≡ filled a old
+  one-refused : (a b : Answer Chart) (r : Refusal) → FitsOr FaultlessChart a → toldRead (read.Refused r) ≡ mapped heading a → old′ ≡ filled a old
       → Told a b (both.Refused r) old old′ new new
   unfolding toldRead bothOf toldBoth filled
   one-refused (given C) b r s e f = absurd (different (sym e))
   one-refused (refused q) b r s e f =
       let i : r ≡ q = cc in
-      (record { told = ap (λ (x : Refusal). refused x) i; old-table = f; new-table = refl }, rw i (near q s))
+      (record { told = ap (λ (x : Refusal). refused x) i; old-table = f; new-table = refl }, rw i (s .position))
 
   module _ (new′ : List ℕ) where
     -- the new text is refused
-    two-refused : (a b : Answer Chart) (h : Head) (k : ℕ) (r : Refusal) → SmallRead b → toldRead (read.Chart h k) ≡ mapped heading a → old′ ≡ filled a old
+    two-refused : (a b : Answer Chart) (h : Head) (k : ℕ) (r : Refusal) → FitsOr FaultlessChart b → toldRead (read.Chart h k) ≡ mapped heading a → old′ ≡ filled a old
         → toldRead (read.Refused r) ≡ mapped heading b → new′ ≡ filled b new → Told a b (both.Refused (inNew r)) old old′ new new′
     unfolding toldRead bothOf toldBoth
     two-refused (refused q) b h k r s e f e′ f′ = absurd (different e)
     two-refused (given C) (given D) h k r s e f e′ f′ = absurd (different (sym e′))
     two-refused (given C) (refused q) h k r s e f e′ f′ =
         let i : r ≡ q = cc in
-        (record { told = ap (λ (x : Refusal). refused (inNew x)) i; old-table = f; new-table = f′ }, rw i (near q s))
+        (record { told = ap (λ (x : Refusal). refused (inNew x)) i; old-table = f; new-table = f′ }, rw i (s .position))
 
     -- both are charts
-    two-charts : (a b : Answer Chart) (h : Head) (m : ℕ) (g : Head) (n : ℕ) → SmallRead a → SmallRead b → toldRead (read.Chart h m) ≡ mapped heading a → old′ ≡ filled a old
+    two-charts : (a b : Answer Chart) (h : Head) (m : ℕ) (g : Head) (n : ℕ) → FitsOr FaultlessChart a → FitsOr FaultlessChart b → toldRead (read.Chart h m) ≡ mapped heading a → old′ ≡ filled a old
         → toldRead (read.Chart g n) ≡ mapped heading b → new′ ≡ filled b new → Told a b (both.Charts h m g n) old old′ new new′
     unfolding toldRead bothOf toldBoth
     two-charts (refused q) b h m g n s s′ e f e′ f′ = absurd (different e)
@@ -63,23 +61,23 @@ module _ (old old′ new : List ℕ) where
         let i′ : g .places ≡ D .places = ap first e′ in
         let j′ : g .alarm ≡ D .alarm = ap second e′ in
         let k′ : n ≡ size (D .table) = ap third e′ in
-        (record { told = rw (i, j, k, i′, j′, k′); old-table = f; new-table = f′ }, (omega (arith, s .1 .1), omega (arith, s′ .1 .1)))
+        (record { told = rw (i, j, k, i′, j′, k′); old-table = f; new-table = f′ }, (omega (arith, s .few-rows), omega (arith, s′ .few-rows)))
 
 module _ (old-text new-text old old′ new : List ℕ) (r : Read)
     (is : (toldRead r ≡ mapped heading (readInto old-text old)) × (old′ ≡ filled (readInto old-text old) old)) where
   pub old-refused : (q : Refusal) → r ≡ read.Refused q → Told (readInto old-text old) (readInto new-text new) (both.Refused q) old old′ new new
-  old-refused q e = one-refused old old′ new (readInto old-text old) (readInto new-text new) q (read-small old-text old) (rw e at is .0) (is .1)
+  old-refused q e = one-refused old old′ new (readInto old-text old) (readInto new-text new) q (read-fits old-text old) (rw e at is .0) (is .1)
 
   module _ (new′ : List ℕ) (r′ : Read) (h : Head) (k : ℕ) (e : r ≡ read.Chart h k)
       (is′ : (toldRead r′ ≡ mapped heading (readInto new-text new)) × (new′ ≡ filled (readInto new-text new) new)) where
     pub new-refused : (q : Refusal) → r′ ≡ read.Refused q → Told (readInto old-text old) (readInto new-text new) (both.Refused (inNew q)) old old′ new new′
     new-refused q e′ =
-        two-refused old old′ new new′ (readInto old-text old) (readInto new-text new) h k q (read-small new-text new) (rw e at is .0) (is .1)
+        two-refused old old′ new new′ (readInto old-text old) (readInto new-text new) h k q (read-fits new-text new) (rw e at is .0) (is .1)
         (rw e′ at is′ .0) (is′ .1)
 
     pub both-charts : (g : Head) (n : ℕ) → r′ ≡ read.Chart g n → Told (readInto old-text old) (readInto new-text new) (both.Charts h k g n) old old′ new new′
     both-charts g n e′ =
-        two-charts old old′ new new′ (readInto old-text old) (readInto new-text new) h k g n (read-small old-text old) (read-small new-text new)
+        two-charts old old′ new new′ (readInto old-text old) (readInto new-text new) h k g n (read-fits old-text old) (read-fits new-text new)
         (rw e at is .0) (is .1) (rw e′ at is′ .0) (is′ .1)
 
 -- the row counts of two charts that are read

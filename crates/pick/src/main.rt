@@ -3,8 +3,9 @@
 ghost use Prim.Native.Nat.{_^_, _<_};
 ghost use Rattle.io.specs.Counts.{Counts};
 ghost use Rattle.text.specs.Texts.{readInto};
+ghost use Rattle.builder.specs.inner.Small.{Small};
 ghost use Rattle.pick.specs.Both.{BothAs};
-ghost use Rattle.pick.specs.inner.Small.{Few, Small};
+ghost use Rattle.pick.specs.inner.Small.{Few};
 use base::Refusal;
 use builder::answers::Built;
 use builder::build;

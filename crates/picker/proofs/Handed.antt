@@ -13,6 +13,8 @@ use Rattle.base.specs.Chains.{mapped}
 use Rattle.base.specs.Options.{missing}
 use Rattle.base.specs.declared.Refusal.{Refusal}
 use Rattle.base.specs.Refusals.{sole}
+use Rattle.base.specs.inner.Fits.{Fits}
+use Rattle.base.proofs.Fits.{named-fits}
 use Rattle.base.proofs.Options.{missing-none}
 use Rattle.base.proofs.Tests.{and-true}
 use Rattle.chart.specs.Charts.{Chart, size, leaving}
@@ -20,12 +22,15 @@ use Rattle.chart.specs.Faults.{refusal}
 use Rattle.chart.specs.Lookup.{openTo, lookup}
 use Rattle.chart.proofs.Faultless.{faultless}
 use Rattle.chart.proofs.Parts.{whole, two-at-most}
-use Rattle.picker.specs.Numbers.{number, Fits}
+use Rattle.picker.specs.declared.Four.{Four}
+use Rattle.picker.specs.Numbers.{number, one}
 use Rattle.picker.specs.Lookups.{lookedUp, handed, ofRows}
+use Rattle.picker.specs.inner.Told.{Below}
+use Rattle.picker.proofs.Answers.{one-below}
 
 -- the refusal of another length than 12
 pub length-fits : {r : Refusal} → r ≡ sole 21 0 → Fits r
-length-fits e = rw e (record { number = omega arith; chart = omega arith; position = omega arith })
+length-fits e = rw e (named-fits 21 0 0 tt (omega arith) (omega arith))
 
 -- the entries of a lent table are u32
 abbrev Words : Chart → Type 0
@@ -55,6 +60,9 @@ module _ (old new : Chart) (chart p : ℕ) where
   pub part-short : {part : List ℕ} → Words old → Words new → part ≡ lookup old new chart p → length part ≤ 12
   part-short v w e = rw e (short v w)
 
+  pub part-below : {part : List ℕ} {f : Four} → Words old → Words new → part ≡ lookup old new chart p → f ≡ one (length part / 6) → Below f
+  part-below {part} v w e i = rw i (one-below (length part / 6) (omega (arith, part-short v w e)))
+
   module _ (rows : List ℕ) where
     refused-21 : (length rows ≡ 12 → ⊥) → lookedUp old new chart p rows ≡ refused (sole 21 0)
     unfolding lookedUp
@@ -70,7 +78,8 @@ module _ (old new : Chart) (chart p : ℕ) where
     unfolding handed
     length-refused n i e = rw (refused-21 n) (e ∙ ap (λ (r : Refusal). number (refused r)) i, refl)
 
-    pub part-handed : {part after : List ℕ} → length rows ≡ 12 → part ≡ lookup old new chart p → after ≡ part ++ drop (length part) rows
-        → (length part / 6 ≡ number (mapped ofRows (lookedUp old new chart p rows))) × (after ≡ handed (lookedUp old new chart p rows) rows)
+    pub part-handed : {part after : List ℕ} {f : Four} {x : ℕ} → length rows ≡ 12 → part ≡ lookup old new chart p → after ≡ part ++ drop (length part) rows
+        → f ≡ one (length part / 6) → x ≡ number (given f)
+        → (x ≡ number (mapped ofRows (lookedUp old new chart p rows))) × (after ≡ handed (lookedUp old new chart p rows) rows)
     unfolding handed
-    part-handed {part} {after} e i h = rw (given-part e, sym i) (omega arith, h)
+    part-handed e i h j k = rw (given-part e, sym i) (k ∙ ap (λ (f : Four). number (given f)) j, h)

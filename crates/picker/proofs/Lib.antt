@@ -1,6 +1,4 @@
 -- The laws that several proofs cite.
-pub mod Small
+pub mod Numbers
+pub mod Answers
 pub mod Handed
-pub mod Refusals
-pub mod Checked
-pub mod Built

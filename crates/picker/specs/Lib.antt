@@ -1,3 +1,4 @@
 -- The definitions that the contracts cite.
 pub mod Numbers
 pub mod Lookups
+pub mod inner

@@ -8,7 +8,8 @@ use Rattle.base.specs.Answers.{Answer, given, refused}
 use Rattle.base.specs.Refusals.{due, unless}
 use Rattle.chart.specs.Charts.{Chart, size}
 use Rattle.chart.specs.Lookup.{lookup}
-use Rattle.picker.specs.Numbers.{Four}
+use Rattle.picker.specs.declared.Four.{Four}
+use Rattle.picker.specs.Numbers.{one}
 
 -- the part that the lookup hands back, for 12 lent entries; "21, a lent length differs from the stated one"
 unfoldable pub lookedUp : Chart → Chart → ℕ → ℕ → List ℕ → Answer (List ℕ)
@@ -21,4 +22,4 @@ handed (refused r) rows = rows
 
 -- a part: the count of its rows, 0, 0, 0
 abbrev pub ofRows : List ℕ → Four
-ofRows part = record { a = size part; b = 0; c = 0; d = 0 }
+ofRows part = one (size part)

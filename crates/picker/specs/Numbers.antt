@@ -1,34 +1,24 @@
 -- An answer as one number.
 use mathlib.Core.List.{List}
-use Prim.Native.Nat.{ℕ, _+_, _*_, _^_, _<_}
+use Prim.Native.Nat.{ℕ, _+_, _*_, _^_}
 use lib.ListN.{length}
 use Rattle.base.specs.Answers.{Answer, given, refused}
-use Rattle.base.specs.declared.Refusal.{Refusal}
 use Rattle.chart.specs.Charts.{Chart, size}
 use Rattle.condition.specs.declared.Summary.{Summary}
+use Rattle.picker.specs.declared.Four.{Four}
 
 -- a chart as it is lent: two numbers beside its table
 abbrev pub chartOf : ℕ → ℕ → List ℕ → Chart
 chartOf places alarm table = record { places = places; alarm = alarm; table = table }
-
--- up to four numbers that a call answers
-pub record Four : Type 0 where
-  pub a : ℕ
-  pub b : ℕ
-  pub c : ℕ
-  pub d : ℕ
 
 -- a success is a + b × 2^14 + c × 2^28 + d × 2^42, a refusal number × 2^56 + chart × 2^48 + position
 abbrev pub number : Answer Four → ℕ
 number (given f) = f .a + f .b * 2 ^ 14 + f .c * 2 ^ 28 + f .d * 2 ^ 42
 number (refused r) = r .number * 2 ^ 56 + r .chart * 2 ^ 48 + r .position
 
--- the three numbers of a refusal fit these places, as those of every refusal do (proofs/Refusals.antt): what the function that makes one
--- number of them has to know
-pub record Fits (r : Refusal) : Type 0 where
-  pub number : r .number < 2 ^ 8
-  pub chart : r .chart < 2 ^ 8
-  pub position : r .position < 2 ^ 48
+-- one number, 0, 0, 0
+abbrev pub one : ℕ → Four
+one n = record { a = n; b = 0; c = 0; d = 0 }
 
 -- a chart that is read: places, alarm, rows, 0
 abbrev pub ofChart : Chart → Four
@@ -36,11 +26,11 @@ ofChart C = record { a = C .places; b = C .alarm; c = size (C .table); d = 0 }
 
 -- a text that is written: the count of its bytes, 0, 0, 0
 abbrev pub ofText : List ℕ → Four
-ofText t = record { a = length t; b = 0; c = 0; d = 0 }
+ofText t = one (length t)
 
 -- a call that answers only whether a refusal is due: 0, 0, 0, 0
 abbrev pub zeros : Four
-zeros = record { a = 0; b = 0; c = 0; d = 0 }
+zeros = one 0
 
 -- a build: start, open, kept, covered
 abbrev pub ofBuild : Summary → Four

@@ -95,7 +95,7 @@ module _ (text table : List ℕ) where
 -- ---- the writer
 
 -- the numbers of a faultless chart whose head and entries are u32
-u32s : (h : Head) (l : List ℕ) → h .places ≤ 4294967295 → h .alarm ≤ 4294967295 → ((i : ℕ) → getD l i 0 ≤ 4294967295) → refusal (charted h l) ≡ none → U32s (numbers (charted h l))
+pub u32s : (h : Head) (l : List ℕ) → h .places ≤ 4294967295 → h .alarm ≤ 4294967295 → ((i : ℕ) → getD l i 0 ≤ 4294967295) → refusal (charted h l) ≡ none → U32s (numbers (charted h l))
 u32s h l p q e f = record { small = go }
   where
     go : (i : ℕ) → getD (numbers (charted h l)) i 0 ≤ 4294967295

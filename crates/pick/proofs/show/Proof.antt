@@ -1,5 +1,5 @@
 -- The numbers of a build are small. Assumes nothing.
-use Rattle.pick.proofs.Built.{summary-small, position-low}
+use Rattle.builder.proofs.Bounds.{done-small, refused-fits}
 use native.Mathlib.Omega.{arith}
 use borrow.Author.Needs.{needs}
 use Rattle.pick.proofs.show.Statement.{statement}
@@ -24,13 +24,13 @@ enum-known-r : tie.Need-enum-known-r
 enum-known-r c = search needs
 
 refuse-requires : tie.Need-refuse-requires
-refuse-requires c κs = position-low _ _ _ _ (c .before .before .before .before .before .before .before .build .ensures .0) _ (c .before .r .given .1)
+refuse-requires c κs = refused-fits _ _ _ (c .before .before .before .before .before .before .before .build .ensures .0) (c .before .r .given .1) .position
 
 enum-known-s : tie.Need-enum-known-s
 enum-known-s c = search needs
 
 head-requires : tie.Need-head-requires
-head-requires c κs = summary-small _ _ (c .before .before .before .before .before .before .before .build .last .1 .1 .1 .1 .0) _ _ _ (omega arith) _ _ _ (c .before .before .before .before .before .before .before .build .ensures .0) (c .before .before .before .before .before .before .before .build .ensures .1 .0) (c .before .s .given .1)
+head-requires c κs = done-small _ _ _ (c .before .before .before .before .before .before .before .build .ensures .0) (c .before .s .given .1)
 
 transitions-requires : tie.Need-transitions-requires
 transitions-requires c κs = search needs

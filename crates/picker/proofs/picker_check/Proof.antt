@@ -1,7 +1,7 @@
--- `picker::picker_check` meets its contract: the refusals are small, so that no sum wraps. Assumes nothing.
-use Rattle.picker.proofs.Refusals.{small-fits}
-use Rattle.picker.proofs.Checked.{told-small, answered}
-use native.Mathlib.Omega.{arith}
+-- `picker::picker_check` meets its contract. Assumes nothing.
+use mathlib.Core.Path.{sym, _∙_}
+use Rattle.checker.proofs.Bounds.{refusal-fits}
+use Rattle.picker.proofs.Answers.{packs, makes, due-answers, none-due}
 use borrow.Author.Needs.{needs}
 use Rattle.picker.proofs.picker_check.Statement.{statement}
 use Rattle.picker.proofs.picker_check.Tie as tie
@@ -9,22 +9,16 @@ use Rattle.picker.proofs.picker_check.Tie as tie
 check-requires : tie.Need-check-requires
 check-requires c κs = search needs
 
-enum-told : tie.Need-enum-told
-enum-told c = search needs
-
-enum-known-r : tie.Need-enum-known-r
-enum-known-r c = search needs
+of-checked-requires : tie.Need-of-checked-requires
+of-checked-requires c κs = search needs
 
 packed-requires : tie.Need-packed-requires
-packed-requires c κs = small-fits (told-small _ _ _ (c .before .before .before .check .ensures .0) (c .before .r .given .1))
+packed-requires c κs = packs (due-answers (refusal-fits _ _ _) (c .before .check .ensures .0) (c .of-checked .ensures))
 
 returns : tie.Need-returns
-returns c = answered _ _ _ (c .before .before .check .ensures .0) (c .enum-told .given .1) (c .before .before .check .ensures .1) (omega arith)
-
-returns-2 : tie.Need-returns-2
-returns-2 c =
-    answered _ _ _ (c .before .before .before .before .check .ensures .0) (c .before .before .r .given .1) (c .before .before .before .before .check .ensures .1)
-    (c .packed .ensures)
+returns c =
+    let e = makes (due-answers (refusal-fits _ _ _) (c .before .before .check .ensures .0) (c .before .of-checked .ensures)) (c .packed .ensures) in
+    (e, λ z. c .before .before .check .ensures .1 (c .before .before .check .ensures .0 ∙ none-due _ (refusal-fits _ _ _) (sym e ∙ z)))
 
 pub picker-check-spec : {M : Type 1} → statement M
-picker-check-spec = tie.close (tie.spec check-requires enum-told enum-known-r packed-requires returns returns-2)
+picker-check-spec = tie.close (tie.spec check-requires of-checked-requires packed-requires returns)

@@ -1,8 +1,6 @@
--- `picker::picker_judge` meets its contract: the refusals of a chart are small, so that no sum wraps. Assumes nothing.
-use Rattle.chart.specs.Faults.{told}
-use Rattle.chart.proofs.Bounds.{Slight, refusal-slight}
-use Rattle.picker.proofs.Refusals.{slight-fits, told-on, told-number}
-use native.Mathlib.Omega.{arith}
+-- `picker::picker_judge` meets its contract. Assumes nothing.
+use Rattle.chart.proofs.Bounds.{refusal-fits}
+use Rattle.picker.proofs.Answers.{packs, makes, due-answers}
 use borrow.Author.Needs.{needs}
 use Rattle.picker.proofs.picker_judge.Statement.{statement}
 use Rattle.picker.proofs.picker_judge.Tie as tie
@@ -10,20 +8,14 @@ use Rattle.picker.proofs.picker_judge.Tie as tie
 judge-requires : tie.Need-judge-requires
 judge-requires c κs = search needs
 
-enum-told : tie.Need-enum-told
-enum-told c = search needs
-
-enum-known-r : tie.Need-enum-known-r
-enum-known-r c = search needs
+of-judged-requires : tie.Need-of-judged-requires
+of-judged-requires c κs = search needs
 
 packed-requires : tie.Need-packed-requires
-packed-requires c κs = slight-fits (told-on told (c .before .before .before .judge .ensures) (c .before .r .given .1) (Slight 0) (refusal-slight _))
+packed-requires c κs = packs (due-answers (refusal-fits _) (c .before .judge .ensures) (c .of-judged .ensures))
 
 returns : tie.Need-returns
-returns c = told-number told (c .before .before .judge .ensures) (c .enum-told .given .1) (omega arith)
-
-returns-2 : tie.Need-returns-2
-returns-2 c = told-number told (c .before .before .before .before .judge .ensures) (c .before .before .r .given .1) (c .packed .ensures)
+returns c = makes (due-answers (refusal-fits _) (c .before .before .judge .ensures) (c .before .of-judged .ensures)) (c .packed .ensures)
 
 pub picker-judge-spec : {M : Type 1} → statement M
-picker-judge-spec = tie.close (tie.spec judge-requires enum-told enum-known-r packed-requires returns returns-2)
+picker-judge-spec = tie.close (tie.spec judge-requires of-judged-requires packed-requires returns)

@@ -1,5 +1,5 @@
 -- `picker::picker_lookup` meets its contract: a part has 12 entries at most. Assumes nothing.
-use Rattle.picker.proofs.Handed.{length-fits, part-short, length-refused, part-handed}
+use Rattle.picker.proofs.Handed.{length-fits, part-short, part-below, length-refused, part-handed}
 use native.Mathlib.Omega.{arith}
 use borrow.Author.Needs.{needs}
 use Rattle.picker.proofs.picker_lookup.Statement.{statement}
@@ -22,12 +22,28 @@ copy-requires c κs =
     let s = part-short (record { places = c .before .before .before .before .before .before .args .old-places; alarm = c .before .before .before .before .before .before .args .old-alarm; table = c .before .before .before .before .before .before .args .old-rows .now }) (record { places = c .before .before .before .before .before .before .args .new-places; alarm = c .before .before .before .before .before .before .args .new-alarm; table = c .before .before .before .before .before .before .args .new-rows .now }) (c .before .before .before .before .before .before .args .chart) (c .before .before .before .before .before .before .args .place) (λ k. omega (arith, c .before .before .before .before .before .shared-slice-known .given k)) (λ k. omega (arith, c .before .before .before .before .shared-slice-known2 .given k)) (c .before .lookup .ensures .1) in
     omega (arith, c .before .before .if1 .left)
 
+one-requires : tie.Need-one-requires
+one-requires c κs = search needs
+
+packed-requires-2 : tie.Need-packed-requires-2
+packed-requires-2 c κs = part-below (record { places = c .before .before .before .before .before .before .before .before .before .before .args .old-places; alarm = c .before .before .before .before .before .before .before .before .before .before .args .old-alarm; table = c .before .before .before .before .before .before .before .before .before .before .args .old-rows .now }) (record { places = c .before .before .before .before .before .before .before .before .before .before .args .new-places; alarm = c .before .before .before .before .before .before .before .before .before .before .args .new-alarm; table = c .before .before .before .before .before .before .before .before .before .before .args .new-rows .now }) (c .before .before .before .before .before .before .before .before .before .before .args .chart) (c .before .before .before .before .before .before .before .before .before .before .args .place) (λ k. omega (arith, c .before .before .before .before .before .before .before .before .before .shared-slice-known .given k)) (λ k. omega (arith, c .before .before .before .before .before .before .before .before .shared-slice-known2 .given k)) (c .before .before .before .before .before .lookup .ensures .1) (c .one .ensures)
+
 same-length : tie.Need-same-length
 same-length c = search needs
 
 returns-2 : tie.Need-returns-2
-returns-2 c = part-handed _ _ _ _ _ (c .before .before .before .before .before .if1 .left) (c .before .before .before .before .lookup .ensures .1) (c .before .before .copy .ensures)
+returns-2 c = part-handed _ _ _ _ _ (c .before .before .before .before .before .before .before .if1 .left) (c .before .before .before .before .before .before .lookup .ensures .1) (c .before .before .before .before .copy .ensures) (c .before .one .ensures) (c .packed2 .ensures)
 
 pub picker-lookup-spec : {M : Type 1} → statement M
 picker-lookup-spec =
-    tie.close (tie.spec sole-requires packed-requires returns lookup-requires copy-requires same-length returns-2)
+    tie.close
+    (tie.spec
+    sole-requires
+    packed-requires
+    returns
+    lookup-requires
+    copy-requires
+    one-requires
+    packed-requires-2
+    same-length
+    returns-2)
