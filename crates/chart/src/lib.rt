@@ -5,8 +5,10 @@ ghost use mathlib.Core.Bool.{cond};
 ghost use lib.Dec.{eqb};
 ghost use mathlib.Core.List.{[]};
 ghost use mathlib.Core.Option.{some};
-ghost use Rattle.chart.specs.Charts.{charted, leaving};
+ghost use Prim.Native.Nat.{_<_};
+ghost use Rattle.chart.specs.Charts.{charted, size, leaving};
 ghost use Rattle.chart.specs.Faults.{told, rowsFault, fault, refusal, judged};
+ghost use Rattle.chart.specs.inner.Faulty.{rowNumber};
 ghost use Rattle.chart.specs.Lookup.{openTo, lookup, Stands};
 use base::Found;
 use base::Refusal;
@@ -29,12 +31,29 @@ fn refused(chart: u32, number: u32, position: usize) -> Judged
     })
 }
 
+// Which of 4 to 7 row i has, where it has one: asked once, of the first row that has.
+fn row_number(head: Head, rows: &[u32], i: usize) -> u32
+    requires { ⌜ i < size (now rows) ⌝ }
+    ensures { λ r. ⌜ r ≡ rowNumber (charted head (now (rows .entry))) i ⌝ }
+{
+    if faults::strays(head, rows, i) {
+        return 4;
+    }
+    if faults::descends(rows, i) {
+        return 5;
+    }
+    if operations::is_known(inner::rows::operation_at(rows, i)) {
+        return 7;
+    }
+    6
+}
+
 // 4 to 8, of the chart with this number.
 fn rows_fault(chart: u32, head: Head, rows: &[u32]) -> Judged
     ensures { λ r. ⌜ told r ≡ rowsFault chart (charted head (now (rows .entry))) ⌝ }
 {
     if let Found::At(i) = faults::first_faulty(head, rows) {
-        return refused(chart, faults::row_number(head, rows, i), i);
+        return refused(chart, row_number(head, rows, i), i);
     }
     match faults::first_conflict(rows) {
         Found::At(i) => refused(chart, 8, i),

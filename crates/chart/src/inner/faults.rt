@@ -10,7 +10,7 @@ ghost use Rattle.operations.specs.Trials.{exclusive};
 ghost use Rattle.chart.specs.Charts.{charted, size, from};
 ghost use Rattle.chart.specs.Faults.{lacks, exceeds, alarmOutside, strays, descends, conflicts, whole};
 ghost use Rattle.chart.specs.inner.Ascending.{Ascending};
-ghost use Rattle.chart.specs.inner.Faulty.{faulty, rowNumber};
+ghost use Rattle.chart.specs.inner.Faulty.{faulty};
 use crate::charts::Head;
 use crate::inner::rows::from_at;
 use crate::inner::rows::operation_at;
@@ -49,7 +49,7 @@ pub fn alarm_outside(places: u32, alarm: u32) -> bool
 }
 
 // 4: whether row i leaves or leads to a place that is not below n.
-fn strays(head: Head, rows: &[u32], i: usize) -> bool
+pub fn strays(head: Head, rows: &[u32], i: usize) -> bool
     requires { ⌜ i < size (now rows) ⌝ }
     ensures { λ r. ⌜ r ≡ strays (charted head (now (rows .entry))) i ⌝ }
 {
@@ -57,7 +57,7 @@ fn strays(head: Head, rows: &[u32], i: usize) -> bool
 }
 
 // 5: whether row i has a lower "from" than the row before it.
-fn descends(rows: &[u32], i: usize) -> bool
+pub fn descends(rows: &[u32], i: usize) -> bool
     requires { ⌜ i < size (now rows) ⌝ }
     ensures { λ r. ⌜ r ≡ descends (now (rows .entry)) i ⌝ }
 {
@@ -73,23 +73,6 @@ fn faulty(head: Head, rows: &[u32], i: usize) -> bool
     ensures { λ r. ⌜ r ≡ faulty (charted head (now (rows .entry))) i ⌝ }
 {
     strays(head, rows, i) | (descends(rows, i) | !operations::is_right(operation_at(rows, i)))
-}
-
-// Which of 4 to 7 row i has, where it has one.
-pub fn row_number(head: Head, rows: &[u32], i: usize) -> u32
-    requires { ⌜ i < size (now rows) ⌝ }
-    ensures { λ r. ⌜ r ≡ rowNumber (charted head (now (rows .entry))) i ⌝ }
-{
-    if strays(head, rows, i) {
-        return 4;
-    }
-    if descends(rows, i) {
-        return 5;
-    }
-    if operations::is_known(operation_at(rows, i)) {
-        return 7;
-    }
-    6
 }
 
 // 4 to 7: the first row that has one.

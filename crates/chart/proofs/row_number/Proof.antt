@@ -1,9 +1,9 @@
--- `chart::inner::faults::row_number` meets its contract: test by test. Assumes nothing.
+-- `chart::row_number` meets its contract: test by test. Assumes nothing.
 use mathlib.Core.Path.{sym, ap, _∙_}
 use Rattle.operations.specs.Operations.{isKnown}
 use borrow.Author.Needs.{needs}
-use Rattle.chart.proofs.inner.faults.row_number.Statement.{statement}
-use Rattle.chart.proofs.inner.faults.row_number.Tie as tie
+use Rattle.chart.proofs.row_number.Statement.{statement}
+use Rattle.chart.proofs.row_number.Tie as tie
 
 strays-requires : tie.Need-strays-requires
 strays-requires c κs = search needs
