@@ -28,7 +28,8 @@ pub mod answers; // answers.rt: what a build answers
 // Whether each of the four lent lengths is the stated one.
 fn lent(marks: &[u8], targets: &[u16], sets: &[u64], waiting: &[u8]) -> bool
     ensures { λ r. ⌜ r
-        ≡ bool (lent (buffers (now (marks .entry)) (now (targets .entry)) (now (sets .entry)) (now (waiting .entry)))) ⌝ }
+        ≡ bool (lent (buffers (now (marks .entry)) (now (targets .entry)) (now (sets .entry))
+        (now (waiting .entry)))) ⌝ }
 {
     (waiting.len() == 4096) & sized(marks, targets, sets)
 }

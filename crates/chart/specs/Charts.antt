@@ -1,5 +1,5 @@
--- Charts and the rows of their tables ("Charts and rows"). A chart is the source's control-flow automaton, a place one of its
--- locations, a row one of its edges, the alarm its error location.
+-- Charts and the rows of their tables ("Charts and rows"). A chart is the source's control-flow automaton, a place one
+-- of its locations, a row one of its edges, the alarm its error location.
 use mathlib.Core.Bool.{cond}
 use mathlib.Core.List.{List, [], _++_}
 use Prim.Native.Nat.{ℕ, zero, suc, _+_, _*_, _/_}

@@ -31,13 +31,15 @@ begin C v = record { place = start C; values = v }
 abbrev pub taken : Row → State → State
 taken r s = record { place = r .to; values = after (r .operation) (s .values) }
 
--- "Each row must leave the place that the rows before it led to": row i is one of the chart's rows, leaves the place and can be taken
+-- "Each row must leave the place that the rows before it led to": row i is one of the chart's rows, leaves the place
+-- and can be taken
 unfoldable pub ready : Chart → State → ℕ → Bool
 ready C s i =
-    ltb i (size (C .table)) && (eqb (row (C .table) i .from) (s .place) && lets (row (C .table) i .operation) (s .values))
+    ltb i (size (C .table))
+    && (eqb (row (C .table) i .from) (s .place) && lets (row (C .table) i .operation) (s .values))
 
--- "A list with a row that can't be taken so is no run." The states of a run, the first and the one after each row: none where the rows
--- are no run
+-- "A list with a row that can't be taken so is no run." The states of a run, the first and the one after each row: none
+-- where the rows are no run
 unfoldable pub run : Chart → State → List ℕ → Option (List State)
 run C s [] = some (s ∷ [])
 run C s (i ∷ is) = elim (ready C s i) [ true ↦ onward s (run C (taken (row (C .table) i) s) is) | false ↦ none ]

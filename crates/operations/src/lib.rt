@@ -189,7 +189,8 @@ fn limit_b(code: u32) -> u32
 // Likewise for c, of which a constant may be any u32. No code that is known has the 0 of the others, so that the table
 // has them all.
 fn limit_c(code: u32) -> u64
-    ensures { λ r. ⌜ ((o : Operation) → o .code ≡ code → (c : ℕ) → c < 2 ^ 32 → ltb c r ≡ isKnown o && fits (operandC o) c) ⌝ }
+    ensures { λ r. ⌜ ((o : Operation) → o .code ≡ code → (c : ℕ) → c < 2 ^ 32
+        → ltb c r ≡ isKnown o && fits (operandC o) c) ⌝ }
 {
     match code {
         0 => 4294967296,

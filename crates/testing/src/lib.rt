@@ -70,7 +70,8 @@ pub extern "C" fn testing_exactly_one(
 // The number of a chart's refusal, 0 where there is none.
 #[no_mangle]
 pub extern "C" fn testing_fault(places: u32, alarm: u32, rows: &[u32]) -> u32
-    ensures { λ r. ⌜ r ≡ faultNumber (refusal (record { places = places; alarm = alarm; table = now (rows .entry) })) ⌝ }
+    ensures { λ r. ⌜ r
+        ≡ faultNumber (refusal (record { places = places; alarm = alarm; table = now (rows .entry) })) ⌝ }
 {
     match chart::judge(Head { places, alarm }, rows) {
         Judged::Faultless => 0,
@@ -81,7 +82,8 @@ pub extern "C" fn testing_fault(places: u32, alarm: u32, rows: &[u32]) -> u32
 // The position of a chart's refusal, 0 where there is none.
 #[no_mangle]
 pub extern "C" fn testing_fault_position(places: u32, alarm: u32, rows: &[u32]) -> usize
-    ensures { λ r. ⌜ r ≡ faultPosition (refusal (record { places = places; alarm = alarm; table = now (rows .entry) })) ⌝ }
+    ensures { λ r. ⌜ r
+        ≡ faultPosition (refusal (record { places = places; alarm = alarm; table = now (rows .entry) })) ⌝ }
 {
     match chart::judge(Head { places, alarm }, rows) {
         Judged::Faultless => 0,

@@ -133,11 +133,13 @@ pub fn rows_in(rows: &[u32], place: u32) -> &[u32]
     part(rows, first, past(rows, place, first))
 }
 
-// Stores after each place the number of the row after its last one, for the places that have rows: a later row of a place wins.
+// Stores after each place the number of the row after its last one, for the places that have rows: a later row of a
+// place wins.
 fn ends(entries: &mut [u8; 130], at: usize, rows: &[u32])
     requires { ⌜ Indexable (now rows) × (at ≤ 65) ⌝ }
     requires { ⌜ (length (now entries) ≡ 130) × ((p : ℕ) → p ≤ 64 → getD (now entries) (at + p) 0 ≡ 0) ⌝ }
-    ensures { λ _. ⌜ Ends (now (rows .entry)) (size (now (rows .entry))) at (now (entries .entry)) (now (entries .exit)) ⌝ }
+    ensures { λ _. ⌜ Ends (now (rows .entry)) (size (now (rows .entry))) at
+        (now (entries .entry)) (now (entries .exit)) ⌝ }
 {
     let n = rows.len() / 6;
     let mut i = 0;
@@ -192,8 +194,11 @@ fn wide(x: u8) -> usize
 
 // The rows between two neighbouring entries of an index.
 fn rows_at<'a>(rows: &'a [u32], index: &[u8; 130], at: usize) -> &'a [u32]
-    requires { ⌜ (at < 129) × (getD (now index) at 0 ≤ getD (now index) (at + 1) 0) × (getD (now index) (at + 1) 0 ≤ size (now rows)) ⌝ }
-    ensures { λ r. ⌜ now r ≡ take (getD (now (index .entry)) (at + 1) 0 * 6 - getD (now (index .entry)) at 0 * 6) (drop (getD (now (index .entry)) at 0 * 6) (now (rows .entry))) ⌝ }
+    requires { ⌜ (at < 129) × (getD (now index) at 0 ≤ getD (now index) (at + 1) 0)
+        × (getD (now index) (at + 1) 0 ≤ size (now rows)) ⌝ }
+    ensures { λ r. ⌜ now r
+        ≡ take (getD (now (index .entry)) (at + 1) 0 * 6 - getD (now (index .entry)) at 0 * 6)
+        (drop (getD (now (index .entry)) at 0 * 6) (now (rows .entry))) ⌝ }
 {
     part(rows, wide(index[at]), wide(index[at + 1]))
 }
