@@ -20,7 +20,7 @@ use Rattle.sets.specs.Sets.{alone, with, without, meets}
 use Rattle.align.specs.Reads.{readSet}
 
 -- ---- rows of a place
--- the first row, in table order, whose operation passes
+-- "seek the old row at p whose operation is equal": the first row, in table order, whose operation passes
 unfoldable pub find : List ℕ → (Operation → Bool) → Option ℕ
 find rows f = firstOf (size rows) (λ k. when (f (operation rows k)) k)
 
@@ -35,7 +35,7 @@ isImplied Never = false
 isImplied Implied = true
 isImplied NotImplied = false
 
--- an assignment that is followed, if there is one: what it writes joins the set
+-- "follow that and add what it writes to V": along an assignment, if there is one (line 14)
 unfoldable pub along : ℕ → List ℕ → Option ℕ → Option Spot
 along s rows none = none
 along s rows (some k) = some (record { place = oldTo rows k; set = with s (operation rows k .a) })
@@ -57,7 +57,7 @@ unfoldable pub rewritten : ℕ → Operation → ℕ
 rewritten s o = elim (meets s (readSet o)) [ true ↦ with s (o .a) | false ↦ without s (o .a) ]
 
 module _ (old : Chart) where
-  -- the old rows that leave a place, as a table of their own
+  -- "the rows that leave a place": the old ones, as a table of their own
   abbrev pub rowsAt : OldPlace → List ℕ
   rowsAt p = leaving (old .table) (p .0)
 
@@ -92,8 +92,8 @@ module _ (old : Chart) where
             elim (meets met (alone (h′ .place .0))) [ true ↦ none | false ↦ follow n (with met (h′ .place .0)) h′ ]
       ]
 
-  -- from a place, which counts as come to: no more than 64 rows can be followed without coming to one of 64 places
-  -- twice
+  -- "Coming to a place twice here is a failed step": from a place, which counts as come to, no more than 64 rows can
+  -- be followed without coming to one of 64 places twice
   unfoldable pub followed : Spot → Option Spot
   followed h = follow 64 (alone (h .place .0)) h
 
@@ -115,8 +115,7 @@ module _ (old : Chart) where
         | false ↦ elim (followed h) [ none ↦ none | some h′ ↦ assumed h′ o (counterpart (h′ .place) o) ]
       ]
 
--- an old and a new place, and the alarms of both charts: where the new place is the new alarm, the old one is the old
--- alarm
+-- not "to the new alarm with an old place that isn't the old alarm" (line 27): of both alarms, an old and a new place
 abbrev pub fair : ℕ → ℕ → OldPlace → NewPlace → Test
 fair oldAlarm newAlarm p q = ne (q .0) newAlarm or eq (p .0) oldAlarm
 
@@ -125,7 +124,7 @@ unfoldable pub arrived : ℕ → ℕ → NewPlace → Option Spot → Option Spo
 arrived oldAlarm newAlarm q none = none
 arrived oldAlarm newAlarm q (some h) = when (bool (fair oldAlarm newAlarm (h .place) q)) h
 
--- the aligned step from an old place and its set by a new row with operation o that leads to q: none where it fails,
--- else the old place it comes to and the set there
+-- "Given a pair, a set V and a new row q→q2": the aligned step from an old place and its set by a new row with
+-- operation o that leads to q: none where it fails, else the old place it comes to and the set there
 unfoldable pub step : Chart → Chart → Spot → Operation → NewPlace → Option Spot
 step old new h o q = arrived (old .alarm) (new .alarm) q (moved old h o)

@@ -9,7 +9,7 @@ module _ {A : Type 0} where
   when true x = some x
   when false x = none
 
-  -- the first one, else the second: "31 .. Then 32", the equal row, "failing that" the implied one
+  -- the first one, else the second: "31 [..]. Then 32", the equal row, "failing that" the implied one
   abbrev pub orElse : Option A → Option A → Option A
   orElse none o = o
   orElse (some x) o = some x

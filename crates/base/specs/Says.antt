@@ -6,7 +6,7 @@ use mathlib.Core.Logic.{_≢_, _⊎_}
 use Prim.Native.Nat.{ℕ, zero, suc, _≤_, _<_}
 use lib.Dec.{T, eqb, leb}
 
--- each number below n passes: "For each present pair .. and each of its rows"
+-- each number below n passes: "For each present pair [..], and each of its rows"
 unfoldable pub every : ℕ → (ℕ → Bool) → Bool
 every zero f = true
 every (suc n) f = every n f && f n
@@ -24,7 +24,7 @@ infixr 30 _or_
 abbrev pub below : ℕ → ℕ → Test
 below m n = le (suc m) n
 
--- what a test computes to
+-- what a test computes to: the checker passes a record "exactly when no refusal below is due"
 abbrev pub bool : Test → Bool
 bool (eq m n) = eqb m n
 bool (ne m n) = not (eqb m n)
@@ -34,7 +34,7 @@ bool (s and t) = bool s && bool t
 bool (s or t) = bool s || bool t
 bool (each n f) = every n (λ k. bool (f k))
 
--- what a test says
+-- what a test says: the rules of "The checker" as statements, of which the theorems speak
 abbrev pub Says : Test → Type 0
 Says (eq m n) = m ≡ n
 Says (ne m n) = m ≢ n

@@ -15,7 +15,7 @@ use Rattle.builder.specs.declared.answers.Built.{Built}
 use Rattle.builder.specs.declared.answers.Built.the-variants as builts
 use Rattle.graph.specs.Buffers.{Buffers, graphIn}
 
--- what the code's answer says
+-- what the code's answer says, "for each of the enum's cases"
 abbrev pub told : Built → Answer Summary
 told (builts.Done s) = given s
 told (builts.Refused r) = refused r
@@ -31,6 +31,7 @@ module _ (old new : Chart) (g : Buffers) where
   unfoldable pub refusal : Option Refusal
   refusal = judged (bool (lent g)) old new
 
+  -- "The answer has the start and the counts of marks 1, 2 and 3.", unless a refusal is due
   unfoldable pub answered : Answer Summary
   answered = unless refusal (summary (recorded old new .start) (recorded old new .graph .marks))
 

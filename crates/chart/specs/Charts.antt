@@ -14,7 +14,8 @@ pub record Chart : Type 0 where
   pub alarm : ℕ
   pub table : List ℕ
 
--- a chart as the code has it: its head by value beside its table
+-- "a count of places n, an alarm place, and rows [..] in a lent table", as the code has them: the head by value beside
+-- the table
 abbrev pub charted : Head → List ℕ → Chart
 charted h t = record { places = h .places; alarm = h .alarm; table = t }
 
@@ -28,19 +29,24 @@ pub record Row : Type 0 where
   pub to : ℕ
   pub operation : Operation
 
+-- "rows of six u32 fields": how many rows a table has
 abbrev pub size : List ℕ → ℕ
 size t = length t / 6
 
+-- the first field of row i: the "from" of "from, to, op, a, b, c"
 abbrev pub from : List ℕ → ℕ → ℕ
 from t i = getD t (i * 6) 0
 
+-- the second: the "to" of "from, to, op, a, b, c"
 abbrev pub to : List ℕ → ℕ → ℕ
 to t i = getD t (i * 6 + 1) 0
 
+-- the last four: the "op, a, b, c" of "from, to, op, a, b, c"
 abbrev pub operation : List ℕ → ℕ → Operation
 operation t i =
     record { code = getD t (i * 6 + 2) 0; a = getD t (i * 6 + 3) 0; b = getD t (i * 6 + 4) 0; c = getD t (i * 6 + 5) 0 }
 
+-- all of row i: "from, to, op, a, b, c"
 abbrev pub row : List ℕ → ℕ → Row
 row t i = record { from = from t i; to = to t i; operation = operation t i }
 
@@ -50,5 +56,6 @@ unfoldable pub leavingOf : List ℕ → ℕ → ℕ → List ℕ
 leavingOf t p zero = []
 leavingOf t p (suc n) = leavingOf t p n ++ cond (eqb (from t n) p) (take 6 (drop (n * 6) t)) []
 
+-- "the rows that leave a place": of all rows of a table those that leave p
 unfoldable pub leaving : List ℕ → ℕ → List ℕ
 leaving t p = leavingOf t p (size t)

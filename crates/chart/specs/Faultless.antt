@@ -1,4 +1,4 @@
--- What a chart is like for which no refusal is due: each number of "the chart's author" read as what it rules out.
+-- What a chart is like for which no refusal is due: each number of "The chart's author" read as what it rules out.
 -- That this is so exactly where the computed test finds no fault is proved, in proofs/Faultless.antt.
 use mathlib.Core.Path.{_≡_}
 use mathlib.Core.Bool.{true}
@@ -9,7 +9,7 @@ use Rattle.operations.specs.Trials.{exclusive}
 use Rattle.chart.specs.Charts.{Chart, size, from, to, operation}
 use Rattle.chart.specs.Faults.{fromBefore}
 
--- row i has none of the faults 4 to 7
+-- row i has none of the faults 4 to 7: "4 a place not below n; 5 [..]; 6 unknown op; 7 [..]"
 pub record FaultlessRow (C : Chart) (i : ℕ) : Type 0 where
   pub from-below : from (C .table) i < C .places
   pub to-below : to (C .table) i < C .places
@@ -17,12 +17,13 @@ pub record FaultlessRow (C : Chart) (i : ℕ) : Type 0 where
   pub known : isKnown (operation (C .table) i) ≡ true
   pub fit : operandsFit (operation (C .table) i) ≡ true
 
--- rows i and j are two assumptions of which exactly one holds
+-- rows i and j are two "assumptions of which exactly one holds, for all values", j the earlier
 pub record Apart (C : Chart) (i j : ℕ) : Type 0 where
   pub earlier : isAssumption (operation (C .table) j) ≡ true
   pub later : isAssumption (operation (C .table) i) ≡ true
   pub one : exclusive (operation (C .table) j) (operation (C .table) i) ≡ true
 
+-- none of 1 to 8: other than "a faulty chart (a length not a multiple of 6 included)"
 pub record FaultlessChart (C : Chart) : Type 0 where
   pub whole : length (C .table) % 6 ≡ 0
   pub some-places : 0 < C .places

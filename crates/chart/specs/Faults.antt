@@ -33,7 +33,7 @@ alarmOutside C = leb (C .places) (C .alarm)
 abbrev pub strays : Chart → ℕ → Bool
 strays C i = leb (C .places) (from (C .table) i) || leb (C .places) (to (C .table) i)
 
--- the "from" of the row before row i; none is below that of the first
+-- "the previous row's" "from": that of the row before row i; none is below that of the first
 abbrev pub fromBefore : List ℕ → ℕ → ℕ
 fromBefore t zero = 0
 fromBefore t (suc i) = from t i
@@ -78,12 +78,12 @@ rowFault k C i =
 unfoldable pub conflictFault : ℕ → List ℕ → ℕ → Option Refusal
 conflictFault k t i = dueIn k (conflicts t i) 8 i
 
--- 4 to 8
+-- 4 to 8: "Then per row [..]. After all rows, 8: the first row in conflict with an earlier one."
 unfoldable pub rowsFault : ℕ → Chart → Option Refusal
 rowsFault k C =
     orElse (firstOf (size (C .table)) (rowFault k C)) (firstOf (size (C .table)) (conflictFault k (C .table)))
 
--- the chart's first fault, 1 to 8
+-- the chart's first fault, 1 to 8, by "The chart's author": "1 no places or rows; 2 [..]; 3 [..]. Then per row"
 unfoldable pub fault : ℕ → Chart → Option Refusal
 fault k C = orElse (countFault k C) (orElse (alarmFault k C) (rowsFault k C))
 
@@ -99,7 +99,7 @@ unfoldable pub judged : Bool → Chart → Chart → Option Refusal
 judged lent old new =
     orElse (due (not (lent && (whole (old .table) && whole (new .table)))) 21 0) (orElse (fault 0 old) (fault 1 new))
 
--- what the code's answer says
+-- what the code's answer says, "for each of the enum's cases"
 abbrev pub told : Judged → Option Refusal
 told Faultless = none
 told (Refused r) = some r

@@ -53,5 +53,7 @@ unfoldable pub alarmed : Chart → List State → Bool
 alarmed C [] = false
 alarmed C (s ∷ seen) = eqb (s .place) (C .alarm) || alarmed C seen
 
+-- "A run is a list of rows of one chart, of any length, none included, from any 64 values": these rows are one from v,
+-- and it reaches the alarm
 unfoldable pub reaches : Chart → List ℕ → List ℕ → Bool
 reaches C v is = elim (run C (begin C v) is) [ none ↦ false | some seen ↦ alarmed C seen ]

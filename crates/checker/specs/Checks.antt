@@ -17,7 +17,7 @@ use Rattle.checker.specs.declared.answers.Checked.the-variants.{Passed, 
 use Rattle.records.specs.Records.{Graph, Record, mark, index}
 use Rattle.checker.specs.Rules.{shaped, startFits, rowFits}
 
--- what each of the code's answers says
+-- what the code's answer says, "for each of the enum's cases"
 abbrev pub told : Checked → Option Refusal
 told Passed = none
 told (Refused r) = some r
@@ -26,7 +26,7 @@ told (Refused r) = some r
 abbrev pub sized : Graph → Test
 sized G = eq (length (G .marks)) 4160 and eq (length (G .targets)) 8192 and eq (length (G .sets)) 4096
 
--- refusal 32, where a position is given
+-- refusal 32, where a position is given: "32, a rule fails; position [..]"
 abbrev pub ruleAt : Option ℕ → Option Refusal
 ruleAt none = none
 ruleAt (some i) = some (sole 32 i)
@@ -37,6 +37,7 @@ module _ (old new : Chart) (G : Graph) where
   unfoldable pub targetFault : ℕ → List ℕ → ℕ → Option ℕ
   targetFault m rows k = when (ltb k (size rows) && not (bool (rowFits old new G m rows k))) (index m k)
 
+  -- "the lowest target index at fault" of a pair's two, "for a place's first and second row"
   unfoldable pub rowsFault : ℕ → List ℕ → Option ℕ
   rowsFault m rows = orElse (targetFault m rows 0) (targetFault m rows 1)
 

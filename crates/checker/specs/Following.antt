@@ -13,7 +13,7 @@ use Rattle.records.specs.Records.{Graph, Record, mark, targetOf}
 abbrev pub goesOn : Graph → ℕ → ℕ → Test
 goesOn G n t = below n 4096 and eq (mark G n) 1 and ne t 65535
 
--- the nodes met from a node on: itself, and the node after each row as far as following goes
+-- "a node so met": the nodes met from a node on, itself and the node after each row as far as following goes
 unfoldable pub nodes : Chart → Graph → ℕ → List ℕ → List ℕ
 nodes new G n [] = n ∷ []
 nodes new G n (i ∷ is) =

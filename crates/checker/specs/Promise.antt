@@ -11,8 +11,8 @@ use Rattle.chart.specs.Runs.{reaches}
 use Rattle.records.specs.Records.{Record}
 use Rattle.checker.specs.Following.{covered}
 
--- a run of the new chart, from any 64 values, that reaches the new alarm and is covered by the record: some list of the
--- old chart's rows is a run from the same values that reaches the old alarm
+-- "a single claim about the whole list of rows of a run": where one of the new chart, from any 64 values, reaches its
+-- alarm and is covered, "some list of the old chart's rows from the same 64 values" is a run that reaches the old alarm
 abbrev pub Promise : Chart → Chart → Record → Type 0
 Promise old new R =
     (v is : List ℕ) → Values v → reaches new v is ≡ true → covered new R is ≡ true

@@ -16,7 +16,7 @@ use Rattle.sets.specs.Sets.{holdsAll}
 use Rattle.align.specs.Steps.{fair, step}
 use Rattle.records.specs.Records.{Graph, setAt, target}
 
--- the old place of a pair, with the pair's set
+-- the old place of a pair, with the pair's set: what "the aligned step under its set" sets out from
 abbrev pub spot : Graph → ℕ → Spot
 spot G m = record { place = oldOf m; set = setAt G m }
 
@@ -33,7 +33,7 @@ markFits old new n x =
     or below (newOf n .0) (new .places)
     and (below n 4096 and below (oldOf n .0) (old .places) and (eq x 1 or eq x 3 or eq x 4) or le 4096 n and eq x 2)
 
--- so of the marks of all nodes
+-- so of the marks of all nodes: "marks (4,160 bytes)"
 unfoldable pub marksFit : Head → Head → List ℕ → Test
 marksFit old new marks = each 4160 (λ n. markFits old new n (getD marks n 0))
 
@@ -41,11 +41,11 @@ marksFit old new marks = each 4160 (λ n. markFits old new n (getD marks n 0))
 abbrev pub targetFits : ℕ → Test
 targetFits t = below t 4160 or eq t 65535
 
--- all 8,192 fall under it, unused ones too
+-- "a target neither below 4,160 nor 65535", of any: all 8,192 fall under it, unused ones too
 unfoldable pub targetsFit : List ℕ → Test
 targetsFit targets = each 8192 (λ i. targetFits (getD targets i 0))
 
--- all of 31
+-- all of 31, from "31 start neither 0 nor 4,096" to "a target neither below 4,160 nor 65535": none is so
 unfoldable pub shaped : Head → Head → ℕ → List ℕ → List ℕ → Test
 shaped old new s marks targets = startNamed old new s and marksFit old new marks and targetsFit targets
 
@@ -66,7 +66,7 @@ unfoldable pub joins : List ℕ → List ℕ → NewPlace → ℕ → Spot → T
 joins marks sets q t h =
     eq t (pairNumber (h .place) q) and ne (getD marks t 0) 0 and so (holdsAll (getD sets t 0) (h .set))
 
--- a failed step gives no pair
+-- "the pair that the aligned step under its set gives": a failed step gives no pair
 unfoldable pub joinsStep : List ℕ → List ℕ → NewPlace → ℕ → Option Spot → Bool
 joinsStep marks sets q t none = false
 joinsStep marks sets q t (some h) = bool (joins marks sets q t h)
@@ -84,14 +84,16 @@ ranked marks m t =
     or ne (getD marks m 0) 1 and le 3 (getD marks t 0) and le (getD marks t 0) 4
 
 module _ (old new : Chart) (G : Graph) where
-  -- a target t of the pair m by a new row with operation o that leads to q
+  -- a target t of the pair m by a new row with operation o that leads to q: "For each present pair whose old place
+  -- isn't the old alarm", "For each present pair at the old alarm"
   unfoldable pub leads : ℕ → Operation → NewPlace → ℕ → Test
   leads m o q t =
       eq (oldOf m .0) (old .alarm) and restsAt (G .marks) q t
       or ne (oldOf m .0) (old .alarm)
       and (keeps (G .marks) q t or so (joinsStep (G .marks) (G .sets) q t (step old new (spot G m) o q)))
 
-  -- the target of row k of a pair's new place; rows is the part of the new table that leaves it
+  -- "each of its rows q→q2", "Of these targets": what holds of the target of row k of a pair's new place; rows is the
+  -- part of the new table that leaves it
   unfoldable pub rowFits : ℕ → List ℕ → ℕ → Test
   rowFits m rows k =
       leads m (operation rows k) (record { 0 = to rows k }) (target G m k) and ranked (G .marks) m (target G m k)

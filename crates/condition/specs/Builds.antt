@@ -56,7 +56,7 @@ unfoldable pub summary : ℕ → List ℕ → Summary
 summary start marks = record { start = start; opened = count 1 marks; kept = count 2 marks; covered = count 3 marks }
 
 module _ (old new : Chart) where
-  -- what a build without refusal leaves, whatever the buffers held
+  -- "what a whole build without refusal, on buffers holding anything, leaves": all four buffers
   unfoldable pub built : Buffers
   built = finished (headOf old) (headOf new) (explored old new)
 

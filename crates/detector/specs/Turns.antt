@@ -26,7 +26,7 @@ leadsTo new n r = record { 0 = to (rowsOf new n) r }
 unfoldable pub lowest : List ℕ → Option ℕ
 lowest w = firstFrom (λ i x. not (eqb x 0)) 0 w
 
--- the pair to take up, if one waits
+-- "Take the lowest waiting pair": the pair to take up, if one waits (lines 2 and 3)
 unfoldable pub next : Buffers → Option ℕ
 next g = lowest (g .waiting)
 
@@ -62,7 +62,7 @@ module _ (old new : Chart) where
   unfoldable pub stepOf : ℕ → ℕ → ℕ → Option Spot
   stepOf n v r = step old new (record { place = oldOf n; set = v }) (operation (rowsOf new n) r) (leadsTo new n r)
 
-  -- row r of pair n, under the set v, if there is such a row
+  -- "its rows in table order": row r of pair n, under the set v, if there is such a row (line 4)
   unfoldable pub rowDone : Buffers → ℕ → ℕ → ℕ → Buffers
   rowDone g n v r =
       elim (ltb r (size (rowsOf new n))) [
@@ -74,7 +74,7 @@ module _ (old new : Chart) where
   unfoldable pub secondDone : Buffers → ℕ → ℕ → Buffers
   secondDone g n v = rowDone g n (setNow (g .marks) (g .sets) n v) 1
 
-  -- pair n waits no more, and both rows are done
+  -- "Take the lowest waiting pair, then its rows": pair n waits no more, and both rows are done
   unfoldable pub taken : Buffers → ℕ → Buffers
   taken g n = secondDone (rowDone (unwait g n) n (getD (g .sets) n 0) 0) n (getD (g .sets) n 0)
 

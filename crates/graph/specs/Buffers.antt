@@ -19,16 +19,16 @@ pub record Buffers : Type 0 where
   pub sets : List ℕ
   pub waiting : List ℕ
 
--- as the code has them, in lent slices
+-- "Lent: marks [..], targets [..], sets [..], waiting [..]": as the code has them, in lent slices
 abbrev pub buffers : List ℕ → List ℕ → List ℕ → List ℕ → Buffers
 buffers m t s w = record { marks = m; targets = t; sets = s; waiting = w }
 
--- what they have of a record: the graph
+-- "a record (start, marks, targets, sets)": what they have of it, the graph
 abbrev pub graphIn : Buffers → Graph
 graphIn b = graphOf (b .marks) (b .targets) (b .sets)
 
 -- ---- nodes
--- a node that is in the graph, or kept: between turns its mark is 1, else 0
+-- a node that is "in the graph", or "kept": between turns its mark is 1, else "0 absent"
 unfoldable pub marked : List ℕ → ℕ → Bool
 marked m n = not (eqb (getD m n 0) 0)
 
@@ -52,8 +52,7 @@ keep g q =
     (cleared q (g .waiting))
 
 -- ---- lines 24 and 33: the target of row r of pair n, "at 2 × pair + 0 or 1 for a place's first and second row". A
--- pair that left the
--- graph while its rows are in hand stores none: "A target is unused where the pair is absent"
+-- pair that left the graph while its rows are in hand stores none: "A target is unused where the pair is absent"
 unfoldable pub aim : Buffers → ℕ → ℕ → ℕ → Buffers
 aim g n r to =
     elim (marked (g .marks) n) [
@@ -66,12 +65,12 @@ aim g n r to =
 unfoldable pub due : ℕ → List ℕ → List ℕ → ℕ → ℕ → Bool
 due alarm m s n v = not (eqb (oldOf n .0) alarm) && (not (marked m n) || not (holdsAll (getD s n 0) v))
 
--- a pair that is due waits; another does as it did
+-- "It waits (again)": a pair that is due waits; another does as it did (line 30)
 unfoldable pub waits : Bool → List ℕ → ℕ → List ℕ
 waits true w n = set w n 1
 waits false w n = w
 
--- pair n with the set v
+-- "it joins the graph and its set gains the step's set": pair n with the set v
 unfoldable pub join : ℕ → Buffers → ℕ → ℕ → Buffers
 join alarm g n v =
     buffers (set (g .marks) n 1) (g .targets) (set (g .sets) n (joined (getD (g .sets) n 0) v))

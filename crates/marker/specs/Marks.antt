@@ -13,7 +13,7 @@ use Rattle.records.specs.Records.{index}
 unfoldable pub plainMark : ℕ → ℕ → ℕ
 plainMark i x = elim (eqb x 0) [ true ↦ 0 | false ↦ elim (ltb i 4096) [ true ↦ 4 | false ↦ 2 ] ]
 
--- so of all nodes, before any is open or covered
+-- so of all nodes, before any is open or covered: "2 kept", "4 beyond" and "0 absent"
 unfoldable pub plainMarks : List ℕ → List ℕ
 plainMarks m = pass plainMark 0 m
 
@@ -50,12 +50,12 @@ transitions (x ∷ m) (a ∷ (b ∷ t)) = elim (eqb x 1) [ true ↦ a ∷ (b ∷
 unfoldable pub cover : List ℕ → ℕ → List ℕ
 cover m n = elim (eqb (getD m n 0) 4) [ true ↦ set m n 3 | false ↦ m ]
 
--- so all of a list
+-- so all of a list: "3 covered: other pairs that are a target of an open one"
 unfoldable pub covered : List ℕ → List ℕ → List ℕ
 covered m [] = m
 covered m (n ∷ l) = covered (cover m n) l
 
--- so the transitions
+-- so the transitions, "the targets of open pairs" (line 6)
 unfoldable pub allCovered : List ℕ → List ℕ → List ℕ
 allCovered t m = covered m (transitions m t)
 

@@ -37,6 +37,7 @@ abbrev pub toldWritten : Written → Answer ℕ
 toldWritten (written.Value x) = given x
 toldWritten (written.Refused r) = refused r
 
+-- "for each of the enum's cases": that the values meet the assumption, that they do not, or a refusal
 abbrev pub toldMet : Met → Answer Bool
 toldMet met.Yes = given true
 toldMet met.No = given false

@@ -80,10 +80,11 @@ unfoldable pub same : Operation → Operation → Bool
 same o o′ = eqb (o .code) (o′ .code) && (eqb (o .a) (o′ .a) && (eqb (o .b) (o′ .b) && eqb (o .c) (o′ .c)))
 
 -- ---- assignments
--- "Here sums and differences wrap at 4,294,967,296": both
+-- "Here sums and differences wrap at 4,294,967,296": the sum
 abbrev pub plus : ℕ → ℕ → ℕ
 plus x y = (x + y) % 2 ^ 32
 
+-- "Here sums and differences wrap at 4,294,967,296": the difference
 abbrev pub minus : ℕ → ℕ → ℕ
 minus x y = (x + (2 ^ 32 - y)) % 2 ^ 32
 
@@ -104,11 +105,11 @@ value o v =
 pub data Order : Type 0 where
   unsigned : Order
 
--- that of an operation
+-- that of an operation: "unsigned", of every code
 abbrev pub order : Operation → Order
 order o = unsigned
 
--- a number that stands where the value stands in the order
+-- a number that stands where the value stands in that order, "unsigned"
 abbrev pub key : Order → ℕ → ℕ
 key unsigned x = x
 

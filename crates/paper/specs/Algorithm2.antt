@@ -57,16 +57,19 @@ toPlace s pred g succ =
     }
 
 module _ (old new : Chart) where
-  -- ℓ_0 and ℓ'_0; ℓ_err and ℓ'_err by their tests
+  -- ℓ_0, as in lines 1, 19 and 21
   abbrev pub ℓ₀ : OldPlace
   ℓ₀ = record { 0 = start old }
 
+  -- ℓ'_0, as in lines 1, 19 and 21
   abbrev pub ℓ₀′ : NewPlace
   ℓ₀′ = record { 0 = start new }
 
+  -- ℓ_err by its test, as in lines 19, 27 and 29
   abbrev pub isErr : OldPlace → Bool
   isErr p = eqb (p .0) (old .alarm)
 
+  -- ℓ'_err by its test, as in lines 19 and 27
   abbrev pub isErr′ : NewPlace → Bool
   isErr′ q = eqb (q .0) (new .alarm)
 
@@ -104,16 +107,18 @@ module _ (old new : Chart) where
   unfoldable pub line27 : Pair → Bool
   line27 succ = not (isErr (succ .old)) && isErr′ (succ .new)
 
+  -- PROCESS, lines 22 to 33, by the tests of lines 23 and 27
   unfoldable pub process : State → Pair → ℕ → Node → ℕ → State
   process s pred g (indicator succ) v = toPlace s pred g succ
   process s pred g (aligned succ) v =
       elim (line27 succ) [ true ↦ toPlace s pred g (succ .new) | false ↦ toPair s pred g succ v ]
 
   -- ---- lines 1 to 18
-  -- the edges that leave ℓ'_1, and ℓ'_2 of edge r
+  -- line 4: the edges g' = (ℓ'_1, op', ℓ'_2) that leave ℓ'_1
   abbrev pub edges : NewPlace → List ℕ
   edges q = leaving (new .table) (q .0)
 
+  -- line 4: ℓ'_2 of edge r of these
   abbrev pub ℓ₂′ : NewPlace → ℕ → NewPlace
   ℓ₂′ q r = record { 0 = to (edges q) r }
 
@@ -150,11 +155,12 @@ pub record DifferenceGraph : Type 1 where
   pub n₀ : Node
   pub Δ : SetOf Node
 
--- N_l ∪ Δ, and Δ as nodes
+-- line 21: N_l ∪ Δ
 unfoldable pub nodes : State → SetOf Node
 nodes s (aligned n) = s .Nₗ n
 nodes s (indicator q) = s .Δ q
 
+-- line 21: Δ, as nodes
 unfoldable pub indicators : State → SetOf Node
 indicators s (aligned n) = false
 indicators s (indicator q) = s .Δ q
@@ -190,5 +196,6 @@ module _ (old new : Chart) where
   abbrev pub whole : State → DifferenceGraph
   whole s = record { N = nodes s; E = Line20 s; n₀ = aligned (pair (ℓ₀ old new) (ℓ₀′ old new)); Δ = indicators s }
 
+  -- lines 19 and 21: what is returned, by the test of line 19
   unfoldable pub returned : State → DifferenceGraph
   returned s = elim (line19 s) [ true ↦ lone | false ↦ whole s ]

@@ -32,14 +32,15 @@ pub record Meet (s t : ℕ) : Type 0 where
   pub first : Has s variable
   pub second : Has t variable
 
--- t is s ∪ {v}, or s \ {v}; {a} is what an assignment writes (wrt), and `readSet` what an operation reads (rd)
+-- t is s ∪ {v}, as in lines 7, 10 and 14. {a} is what an assignment writes (wrt), `readSet` what is read (rd)
 abbrev pub IsWith : ℕ → ℕ → ℕ → Type 0
 IsWith s v t = (i : ℕ) → Has t i ↔ (Has s i ⊎ (i ≡ v))
 
+-- t is s \ {v}, as in line 8
 abbrev pub IsWithout : ℕ → ℕ → ℕ → Type 0
 IsWithout s v t = (i : ℕ) → Has t i ↔ (Has s i × (i ≢ v))
 
--- {ℓ}
+-- {ℓ}, of the places that lines 12 to 14 come to
 unfoldable pub onlyOld : OldPlace → SetOf OldPlace
 onlyOld p q = eqb (p .0) (q .0)
 
@@ -92,6 +93,7 @@ module _ (old : Chart) where
     abbrev pub to : OldPlace → ℕ → Option Spot
     to ℓ Vdiff = some (record { place = ℓ; set = Vdiff })
 
+    -- lines 5 to 18: the calls of PROCESS in lines 9, 10, 16, 17 and 18, each by the lines that lead to it
     pub data Lines5to18 : Option Spot → Type 0 where
       -- and line 9
       line7 : {ℓ₂ : OldPlace} {Vdiff : ℕ}

@@ -15,7 +15,7 @@ pub record Headings : Type 0 where
   pub old : Heading
   pub new : Heading
 
--- the same of the charts
+-- the same of the charts: "n, alarm, row count" of each
 abbrev pub headings : Pair → Headings
 headings P = record { old = heading (P .old); new = heading (P .new) }
 
@@ -28,9 +28,9 @@ toldBoth (answer.Charts old rows new more) =
     })
 toldBoth (answer.Refused r) = refused r
 
--- The answer r, where a and b are read of the two texts, and the two tables before and after: the old chart's rows at
--- the front of the first, the new chart's at the front of the second, which is not touched where the old chart is
--- refused.
+-- "The program reads old.csv and new.csv": the answer r, where a and b are read of the two texts, and the two tables
+-- before and after: the old chart's rows at the front of the first, the new chart's at the front of the second, which
+-- is not touched where the old chart is refused.
 pub record BothAs (a b : Answer Chart) (r : Both) (old old′ new new′ : List ℕ) : Type 0 where
   pub told : toldBoth r ≡ mapped headings (bothOf a b)
   pub old-table : old′ ≡ filled a old

@@ -1,4 +1,4 @@
--- The row lookup with its part copied.
+-- The row lookup with its part copied: picker_lookup of include/picker.h.
 use mathlib.Core.Bool.{not}
 use mathlib.Core.List.{List, _++_}
 use Prim.Native.Nat.{ℕ}
@@ -20,6 +20,6 @@ unfoldable pub handed : Answer (List ℕ) → List ℕ → List ℕ
 handed (given part) rows = part ++ drop (length part) rows
 handed (refused r) rows = rows
 
--- a part: the count of its rows, 0, 0, 0
+-- picker_lookup_rows of include/picker.h, of a part: the count of its rows, 0, 0, 0
 abbrev pub ofRows : List ℕ → Four
 ofRows part = one (size part)

@@ -5,7 +5,8 @@ use Prim.Native.Nat.{ℕ, _+_, _*_}
 use lib.ListN.{getD}
 use Rattle.chart.specs.Charts.{Chart, size, from, leavingOf}
 
--- what a record has beside its start: marks by node, targets by pair and row, sets by pair
+-- of "a record (start, marks, targets, sets)" what it has beside its start: marks by node, targets by pair and row,
+-- sets by pair
 pub record Graph : Type 0 where
   pub marks : List ℕ
   pub targets : List ℕ
@@ -16,11 +17,11 @@ pub record Record : Type 0 where
   pub start : ℕ
   pub graph : Graph
 
--- a graph as the code has it, in lent slices
+-- a graph as the code has it, in lent slices: "Lent: marks [..], targets [..], sets"
 abbrev pub graphOf : List ℕ → List ℕ → List ℕ → Graph
 graphOf marks targets sets = record { marks = marks; targets = targets; sets = sets }
 
--- a record as the code has it
+-- "a record (start, marks, targets, sets)" as the code has it
 abbrev pub recordOf : ℕ → List ℕ → List ℕ → List ℕ → Record
 recordOf start marks targets sets = record { start = start; graph = graphOf marks targets sets }
 
@@ -37,14 +38,14 @@ setAt G m = getD (G .sets) m 0
 abbrev pub index : ℕ → ℕ → ℕ
 index m k = 2 * m + k
 
--- the target, at a pair, of row k of its new place
+-- the target, at a pair, of row k of its new place: "targets (8,192 u16, at 2 × pair + 0 or 1 [..])"
 abbrev pub target : Graph → ℕ → ℕ → ℕ
 target G m k = getD (G .targets) (index m k) 0
 
--- which row of its place row i of a table is: so many before it leave the same place
+-- "a place's first and second row": which one row i of a table is, as so many before it leave the same place
 abbrev pub rank : List ℕ → ℕ → ℕ
 rank t i = size (leavingOf t (from t i) i)
 
--- the target, at a node, of row i of the new chart
+-- "its target at the node": the target, at a node, of row i of the new chart
 abbrev pub targetOf : Chart → Graph → ℕ → ℕ → ℕ
 targetOf new G n i = target G n (rank (new .table) i)

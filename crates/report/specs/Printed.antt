@@ -22,7 +22,7 @@ pub record Pair : Type 0 where
 abbrev pub inNew : Refusal → Refusal
 inNew r = record { number = r .number; chart = 1; position = r .position }
 
--- the same of an answer
+-- the same of an answer: "1 new"
 abbrev pub ofNew : {A : Type 0} → Answer A → Answer A
 ofNew (given x) = given x
 ofNew (refused r) = refused (inNew r)

@@ -10,7 +10,7 @@ use Rattle.operations.specs.Assumptions.{Implies}
 use Rattle.report.specs.Printed.{printed}
 
 -- ---- texts and operations as document 01 writes them
--- the bytes of a text
+-- the bytes of a text: "old.csv, records split by spaces here"
 unfoldable pub bytes : String → List ℕ
 bytes []ˢ = []
 bytes (c ∷ˢ s) = code c ∷ bytes s
@@ -19,14 +19,15 @@ bytes (c ∷ˢ s) = code c ∷ bytes s
 abbrev pub adds : ℕ → ℕ → Operation
 adds b c = record { code = 2; a = 0; b = b; c = c }
 
--- "16 + r compares va with c", "32 + r compares va with vb"
+-- "16 + r compares va with c"
 abbrev pub constant : ℕ → ℕ → ℕ → Operation
 constant r a c = record { code = 16 + r; a = a; b = 0; c = c }
 
+-- "32 + r compares va with vb"
 abbrev pub variables : ℕ → ℕ → ℕ → Operation
 variables r a b = record { code = 32 + r; a = a; b = b; c = 0 }
 
--- ---- cases
+-- ---- the cases that are marked § ("Worked sessions (§ is proved)")
 pub data Case : Type 0 where
   -- old.csv, new.csv and what is printed
   prints : String → String → String → Case
@@ -46,7 +47,7 @@ Says (notImplied f g) = Implies f g → ⊥
 Says (anything f) = (g : Operation) → Implies f g
 Says (sum x y z) = (v : ℕ → ℕ) → v 0 ≡ x → value (adds 0 y) v ≡ z
 
--- every case of a list
+-- every case of a list: "gathered as one list checked by one theorem"
 pub data Every : List Case → Type 0 where
   none : Every []
   one : {c : Case} {l : List Case} → Says c → Every l → Every (c ∷ l)

@@ -4,7 +4,7 @@ use mathlib.Core.List.{List, [], _∷_}
 use Prim.Native.String.{String}
 use Rattle.sessions.specs.Cases.{Case, prints, implied, notImplied, anything, sum, constant, variables}
 
--- the files, whose records end in CRLF
+-- the files of the worked sessions: "old.csv, records split by spaces here", which end in CRLF
 abbrev pub old : String
 old = "6,5,5,0,0,0\r\n0,1,0,1,0,5\r\n1,2,18,0,0,100\r\n1,3,21,0,0,100\r\n3,5,20,1,0,50\r\n3,4,19,1,0,50\r\n"
 
@@ -16,6 +16,7 @@ amended = "6,5,5,0,0,0\r\n0,1,0,1,0,6\r\n1,2,18,0,0,100\r\n1,3,21,0,0,100\r\n3,5
 abbrev pub alarmed : String
 alarmed = "6,0,5,0,0,0\r\n0,1,0,1,0,5\r\n1,2,18,0,0,100\r\n1,3,21,0,0,100\r\n3,5,20,1,0,50\r\n3,4,19,1,0,50\r\n"
 
+-- "Those with §, gathered as one list checked by one theorem."
 unfoldable pub worked : List Case
 worked =
     prints old amended "0,3,2,1\r\n0,0,1,1\r\n1,1,130,3\r\n1,2,195,1\r\n195,3,4101,2\r\n195,4,4100,2\r\n"

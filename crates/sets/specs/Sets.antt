@@ -9,11 +9,11 @@ use lib.Bits.{bitAnd, bitOr}
 abbrev pub bit : ℕ → ℕ → ℕ
 bit s i = s / 2 ^ i % 2
 
--- the set of v alone
+-- "bit i for vi": the set of v alone
 unfoldable pub alone : ℕ → ℕ
 alone v = 2 ^ v
 
--- the members of both
+-- "its set gains the step's set": the members of both
 unfoldable pub joined : ℕ → ℕ → ℕ
 joined s t = bitOr s t
 

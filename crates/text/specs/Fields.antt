@@ -1,6 +1,6 @@
 -- Numbers and fields of a text ("Chart text", "The sender of a text"). An offset counts the text's bytes from 0, a
--- field is named by its number, counted from 0 through the whole text: field k stands in record k / 6, as its field k %
--- 6.
+-- field is named by its number, counted from 0 through the whole text: field k stands in record k / 6, as its
+-- field k % 6.
 use mathlib.Core.List.{List, [], _∷_}
 use mathlib.Core.Bool.{Bool, true, false, _&&_}
 use Prim.Native.Nat.{ℕ, _+_, _*_, _-_, _%_}

@@ -24,8 +24,8 @@ contents m l = map (map decimal) (sixes m l)
 pub record U32s (l : List ℕ) : Type 0 where
   pub small : (i : ℕ) → getD l i 0 ≤ 4294967295
 
--- The text is the file of a faultless chart: exactly 1 + row count records of six fields, whose contents are the
--- decimals of n, alarm, row count, 0, 0, 0, and then of the chart's rows.
+-- "The first record is n, alarm, row count, 0, 0, 0; then the rows.": the text is the file of a faultless chart,
+-- exactly 1 + row count records of six fields, whose contents are the decimals of these numbers.
 pub record FileOf (C : Chart) (text : List ℕ) : Type 0 where
   pub file : File text (contents (suc (size (C .table))) (numbers C))
   pub u32s : U32s (numbers C)

@@ -17,7 +17,7 @@ unfoldable pub digitsIn : ℕ → ℕ → List ℕ
 digitsIn zero x = x ∷ []
 digitsIn (suc k) x = elim (ltb x 10) [ true ↦ x ∷ [] | false ↦ digitsIn k (x / 10) ++ (x % 10 ∷ []) ]
 
--- a number has fewer digits than it counts
+-- "1 or more digits": those of x, of which there are at most x + 1
 unfoldable pub digitsOf : ℕ → List ℕ
 digitsOf x = digitsIn x x
 
@@ -44,7 +44,7 @@ fieldsText k (x ∷ l) = fieldText k x ++ fieldsText (suc k) l
 abbrev pub numbers : Chart → List ℕ
 numbers C = C .places ∷ C .alarm ∷ size (C .table) ∷ 0 ∷ 0 ∷ 0 ∷ C .table
 
--- the text of a chart, its fields counted from 0
+-- "The first record is n, alarm, row count, 0, 0, 0; then the rows.": the text of a chart, its fields counted from 0
 unfoldable pub written : Chart → List ℕ
 written C = fieldsText 0 (numbers C)
 
