@@ -57,15 +57,23 @@ pub fn is_known(o: Operation) -> bool
     }
 }
 
-pub fn is_assignment(o: Operation) -> bool
-    ensures { λ r. ⌜ r ≡ isAssignment o ⌝ }
+// Whether the operations with this code are assignments: for whoever has a row in a table, which need not be copied to
+// ask.
+pub fn is_assignment_code(code: u32) -> bool
+    ensures { λ r. ⌜ ((o : Operation) → o .code ≡ code → r ≡ isAssignment o) ⌝ }
 {
-    match kind_of(o.code) {
+    match kind_of(code) {
         Kind::Assignment => true,
         Kind::ConstantComparison => false,
         Kind::VariableComparison => false,
         Kind::Unknown => false,
     }
+}
+
+pub fn is_assignment(o: Operation) -> bool
+    ensures { λ r. ⌜ r ≡ isAssignment o ⌝ }
+{
+    is_assignment_code(o.code)
 }
 
 pub fn is_assumption(o: Operation) -> bool

@@ -1,46 +1,14 @@
--- `operations::is_assignment` meets its contract: kind by kind. Assumes nothing.
-use mathlib.Core.Path.{sym, _∙_}
+-- `operations::is_assignment` meets its contract: its code tells. Assumes nothing.
+use mathlib.Core.Path.{refl}
 use borrow.Author.Needs.{needs}
 use Rattle.operations.proofs.is_assignment.Statement.{statement}
 use Rattle.operations.proofs.is_assignment.Tie as tie
 
-kind-of-requires : tie.Need-kind-of-requires
-kind-of-requires c κs = search needs
-
-enum-told : tie.Need-enum-told
-enum-told c = search needs
-
-enum-told-2 : tie.Need-enum-told-2
-enum-told-2 c = search needs
-
-enum-told-3 : tie.Need-enum-told-3
-enum-told-3 c = search needs
-
-enum-told-4 : tie.Need-enum-told-4
-enum-told-4 c = search needs
+is-assignment-code-requires : tie.Need-is-assignment-code-requires
+is-assignment-code-requires c κs = search needs
 
 returns : tie.Need-returns
-returns c = rw (← (sym (c .enum-told .given .1) ∙ c .before .before .kind-of .ensures))
-
-returns-2 : tie.Need-returns-2
-returns-2 c = rw (← (sym (c .enum-told2 .given .1) ∙ c .before .before .kind-of .ensures))
-
-returns-3 : tie.Need-returns-3
-returns-3 c = rw (← (sym (c .enum-told3 .given .1) ∙ c .before .before .kind-of .ensures))
-
-returns-4 : tie.Need-returns-4
-returns-4 c = rw (← (sym (c .enum-told4 .given .1) ∙ c .before .before .kind-of .ensures))
+returns c = c .is-assignment-code .ensures (c .before .args .o) refl
 
 pub is-assignment-spec : {M : Type 1} → statement M
-is-assignment-spec =
-    tie.close
-    (tie.spec
-    kind-of-requires
-    enum-told
-    enum-told-2
-    enum-told-3
-    enum-told-4
-    returns
-    returns-2
-    returns-3
-    returns-4)
+is-assignment-spec = tie.close (tie.spec is-assignment-code-requires returns)
