@@ -4,7 +4,7 @@ ghost use mathlib.Core.Bool.{cond};
 ghost use Prim.Native.Nat.{ℕ, _+_, _-_, _*_, _<_, _≤_};
 ghost use lib.Dec.{eqb};
 ghost use lib.ListN.{length, getD, take, drop};
-ghost use Rattle.operations.specs.Operations.{same};
+ghost use Rattle.operations.specs.Operations.{isAssignment, same};
 ghost use Rattle.chart.specs.Charts.{size, from, to, operation, leaving};
 ghost use Rattle.chart.specs.Lookup.{Stands};
 ghost use Rattle.chart.specs.inner.Ascending.{Ascending};
@@ -30,6 +30,23 @@ pub fn to_at(rows: &[u32], i: usize) -> u32
     rows[i * 6 + 1]
 }
 
+// Whether its operation is an assignment: the code alone is looked at.
+pub fn is_assignment_at(rows: &[u32], i: usize) -> bool
+    requires { ⌜ i < size (now rows) ⌝ }
+    ensures { λ r. ⌜ r ≡ isAssignment (operation (now (rows .entry)) i) ⌝ }
+{
+    operations::is_assignment_code(rows[i * 6 + 2])
+}
+
+// The operand a of its operation alone: the variable that an assignment writes.
+pub fn a_at(rows: &[u32], i: usize) -> u32
+    requires { ⌜ i < size (now rows) ⌝ }
+    ensures { λ r. ⌜ r ≡ operation (now (rows .entry)) i .a ⌝ }
+{
+    rows[i * 6 + 3]
+}
+
+// Its operation, copied out of the table.
 pub fn operation_at(rows: &[u32], i: usize) -> Operation
     requires { ⌜ i < size (now rows) ⌝ }
     ensures { λ r. ⌜ r ≡ operation (now (rows .entry)) i ⌝ }
