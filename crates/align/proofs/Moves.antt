@@ -78,11 +78,11 @@ module _ (old : Chart) (h : Spot) (o : Operation) {rows : List ℕ} {x : Option 
       (λ j. record { place = record { 0 = (p ∙ ap (λ (rows : List ℕ). to rows k) r) j }; set = (z ∙ ap (rewritten (h .set)) i) j })
       ∙ ap (assigned old h o) (sym (sym sought ∙ q))
 
-  pub assigned-alone : {o′ : Operation} {s : ℕ} → x ≡ none → o′ ≡ o → s ≡ with (h .set) (o′ .a)
+  pub assigned-alone : {a s : ℕ} → x ≡ none → a ≡ o .a → s ≡ with (h .set) a
       → record { place = h .place; set = s } ≡ assigned old h o (find (rowsAt old (h .place)) (λ o′. same o′ o))
   unfolding assigned
   assigned-alone q i z =
-      (λ j. record { place = h .place; set = (z ∙ ap (λ (o : Operation). with (h .set) (o .a)) i) j })
+      (λ j. record { place = h .place; set = (z ∙ ap (with (h .set)) i) j })
       ∙ ap (assigned old h o) (sym (sym sought ∙ q))
 
 -- a place that a row of a faultless chart leads to is one of 64

@@ -16,8 +16,8 @@ use crate::spots::Spot;
 use base::Found;
 use chart::charts::Head;
 use chart::inner::pairs::bit;
+use chart::inner::rows::a_at;
 use chart::inner::rows::old_to;
-use chart::inner::rows::operation_at;
 use chart::inner::rows::rows_of;
 use chart::places::Place;
 use sets::inner::bits;
@@ -27,10 +27,9 @@ fn along(set: u64, rows: &[u32], k: usize) -> Spot
     requires { ⌜ (k < size (now rows)) × (operandsFit (operation (now rows) k) ≡ true) ⌝ }
     ensures { λ r. ⌜ some r ≡ along set (now (rows .entry)) (some k) ⌝ }
 {
-    let o = operation_at(rows, k);
     Spot {
         place: old_to(rows, k),
-        set: bits::with(set, o.a),
+        set: bits::with(set, a_at(rows, k)),
     }
 }
 

@@ -8,6 +8,7 @@ ghost use Rattle.chart.specs.Charts.{size, operation};
 ghost use Rattle.align.specs.Steps.{find, isImplied, matching};
 ghost use Rattle.base.specs.inner.Found.{toldFound};
 use base::Found;
+use chart::inner::rows::is_assignment_at;
 use chart::inner::rows::operation_at;
 use chart::inner::rows::same_operation;
 use operations::Operation;
@@ -37,7 +38,7 @@ pub fn assignment(rows: &[u32]) -> Found
     if rows.len() < 6 {
         return Found::Nothing;
     }
-    if operations::is_assignment(operation_at(rows, 0)) {
+    if is_assignment_at(rows, 0) {
         return Found::At(0);
     }
     Found::Nothing

@@ -17,6 +17,8 @@ use crate::spots::Followed;
 use crate::spots::Spot;
 use base::Found;
 use chart::charts::Head;
+use chart::inner::rows::a_at;
+use chart::inner::rows::is_assignment_at;
 use chart::inner::rows::new_to;
 use chart::inner::rows::old_to;
 use chart::inner::rows::operation_at;
@@ -59,15 +61,14 @@ fn assigned<'a>(
 {
     let p = h.place;
     let rows = rows_of(old_rows, new_rows, index, Place::Old(p));
-    let o = operation_at(part, j);
     match seek::same(rows, part, j) {
         Found::At(k) => Spot {
             place: old_to(rows, k),
-            set: rewritten(h.set, o),
+            set: rewritten(h.set, operation_at(part, j)),
         },
         Found::Nothing => Spot {
             place: p,
-            set: bits::with(h.set, o.a),
+            set: bits::with(h.set, a_at(part, j)),
         },
     }
 }
@@ -137,7 +138,7 @@ fn moved<'a>(
         × (operandsFit (operation (now part) j) ≡ true) ⌝ }
     ensures { λ r. ⌜ told r ≡ moved (charted old (now («old_rows» .entry))) h (operation (now (part .entry)) j) ⌝ }
 {
-    if operations::is_assignment(operation_at(part, j)) {
+    if is_assignment_at(part, j) {
         return Aligned::To(assigned(old, old_rows, new_rows, index, h, part, j));
     }
     match follow(old, old_rows, new_rows, index, h) {

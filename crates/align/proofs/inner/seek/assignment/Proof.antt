@@ -8,18 +8,15 @@ use Rattle.align.proofs.inner.seek.assignment.Tie as tie
 returns : tie.Need-returns
 returns c = nowhere _ _ (none-at-first _ _) (omega arith)
 
-operation-at-requires : tie.Need-operation-at-requires
-operation-at-requires c κs = omega arith
-
-is-assignment-requires : tie.Need-is-assignment-requires
-is-assignment-requires c κs = search needs
+is-assignment-at-requires : tie.Need-is-assignment-at-requires
+is-assignment-at-requires c κs = omega arith
 
 returns-2 : tie.Need-returns-2
-returns-2 c = found-here _ _ (none-at-first _ _) (omega arith) (rw (c .before .before .operation-at .ensures) at (c .before .is-assignment .ensures)) (c .if2 .taken)
+returns-2 c = found-here _ _ (none-at-first _ _) (omega arith) (c .before .is-assignment-at .ensures) (c .if2 .taken)
 
 returns-3 : tie.Need-returns-3
-returns-3 c = only-first _ _ (rw (c .before .before .operation-at .ensures) at (c .before .is-assignment .ensures)) (c .if2 .left) (c .before .before .before .before .before .pre)
+returns-3 c = only-first _ _ (c .before .is-assignment-at .ensures) (c .if2 .left) (c .before .before .before .before .pre)
 
 pub assignment-spec : {M : Type 1} → statement M
 assignment-spec =
-    tie.close (tie.spec returns operation-at-requires is-assignment-requires returns-2 returns-3)
+    tie.close (tie.spec returns is-assignment-at-requires returns-2 returns-3)

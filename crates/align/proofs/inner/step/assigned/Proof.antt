@@ -7,7 +7,7 @@ use Rattle.operations.specs.declared.Operation.{Operation}
 use Rattle.operations.specs.Operations.{isAssignment, operandsFit}
 use Rattle.chart.proofs.Faultless.{ascends}
 use mathlib.Core.Bool.{true}
-use Prim.Native.Nat.{_<_}
+use Prim.Native.Nat.{ℕ, _<_}
 use Rattle.operations.proofs.Codes.{fit-a}
 use borrow.Author.Needs.{needs}
 use Rattle.align.proofs.inner.step.assigned.Statement.{statement}
@@ -15,9 +15,6 @@ use Rattle.align.proofs.inner.step.assigned.Tie as tie
 
 rows-of-requires : tie.Need-rows-of-requires
 rows-of-requires c κs = (c .before .before .before .before .pre .1 .0, (ascends _ (c .before .before .before .before .pre .0), c .before .before .before .before .pre .1 .1 .0))
-
-operation-at-requires : tie.Need-operation-at-requires
-operation-at-requires c κs = search needs
 
 same-requires : tie.Need-same-requires
 same-requires c κs = search needs
@@ -28,32 +25,41 @@ enum-known-k c = search needs
 old-to-requires : tie.Need-old-to-requires
 old-to-requires c κs = found-inside _ _ _ (sym (ap toldFound (c .before .k .given .1)) ∙ c .before .before .before .same .ensures)
 
+operation-at-requires : tie.Need-operation-at-requires
+operation-at-requires c κs = search needs
+
 rewritten-requires : tie.Need-rewritten-requires
-rewritten-requires c κs = subst (λ (o : Operation). (isAssignment o ≡ true) × (operandsFit o ≡ true)) (sym (c .before .before .before .before .before .operation-at .ensures)) (c .before .before .before .before .before .before .before .before .before .before .before .pre .1 .1 .1 .1, c .before .before .before .before .before .before .before .before .before .before .before .pre .1 .1 .1 .2)
+rewritten-requires c κs =
+    let p = c .before .before .before .before .before .before .before .before .before .before .before .pre .1 .1 .1 in
+    subst (λ (o : Operation). (isAssignment o ≡ true) × (operandsFit o ≡ true)) (sym (c .operation-at .ensures)) (p .1, p .2)
 
 enum-told : tie.Need-enum-told
 enum-told c = search needs
 
+a-at-requires : tie.Need-a-at-requires
+a-at-requires c κs = search needs
+
 with-requires : tie.Need-with-requires
-with-requires c κs = subst (λ (o : Operation). o .a < 64) (sym (c .before .before .before .operation-at .ensures)) (fit-a _ (c .before .before .before .before .before .before .before .before .before .pre .1 .1 .1 .2))
+with-requires c κs = subst (λ (a : ℕ). a < 64) (sym (c .a-at .ensures)) (fit-a _ (c .before .before .before .before .before .before .before .before .before .pre .1 .1 .1 .2))
 
 returns : tie.Need-returns
-returns c = assigned-equal _ _ _ (c .before .before .before .before .before .before .before .rows-of .ensures) (c .before .before .before .before .before .same .ensures) (ap toldFound (c .before .before .before .k .given .1)) (c .before .old-to .ensures) (c .before .before .before .before .before .before .operation-at .ensures) (c .rewritten .ensures)
+returns c = assigned-equal _ _ _ (c .before .before .before .before .before .before .before .rows-of .ensures) (c .before .before .before .before .before .before .same .ensures) (ap toldFound (c .before .before .before .before .k .given .1)) (c .before .before .old-to .ensures) (c .before .operation-at .ensures) (c .rewritten .ensures)
 
 returns-2 : tie.Need-returns-2
-returns-2 c = assigned-alone _ _ _ (c .before .before .before .before .before .rows-of .ensures) (c .before .before .before .same .ensures) (ap toldFound (c .before .enum-told .given .1)) (c .before .before .before .before .operation-at .ensures) (c .with .ensures)
+returns-2 c = assigned-alone _ _ _ (c .before .before .before .before .before .rows-of .ensures) (c .before .before .before .before .same .ensures) (ap toldFound (c .before .before .enum-told .given .1)) (c .before .a-at .ensures) (c .with .ensures)
 
 pub assigned-spec : {M : Type 1} → statement M
 assigned-spec =
     tie.close
     (tie.spec
     rows-of-requires
-    operation-at-requires
     same-requires
     enum-known-k
     old-to-requires
+    operation-at-requires
     rewritten-requires
     enum-told
+    a-at-requires
     with-requires
     returns
     returns-2)
