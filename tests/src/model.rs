@@ -12,7 +12,7 @@ pub fn is_assumption(o: Operation) -> bool {
     (16..=21).contains(&o.code) || (32..=37).contains(&o.code)
 }
 
-/// What codes 0 to 5 write.
+/// What codes 0 to 5 write: sums and code 5 wrap, code 4 stops at 0.
 pub fn value(o: Operation, v: &[u32]) -> u32 {
     let at = |i: u32| v[i as usize];
     match o.code {
@@ -20,7 +20,7 @@ pub fn value(o: Operation, v: &[u32]) -> u32 {
         1 => at(o.b),
         2 => at(o.b).wrapping_add(o.c),
         3 => at(o.b).wrapping_add(at(o.c)),
-        4 => at(o.b).wrapping_sub(at(o.c)),
+        4 => at(o.b).saturating_sub(at(o.c)),
         5 => at(o.b).wrapping_neg(),
         _ => unreachable!(),
     }

@@ -23,6 +23,28 @@ fn vectors_of_implication() {
     assert!(count > 1000, "only {count} vectors");
 }
 
+/// Each line of the vectors: op, a, b, c, the value of vb, that of v(c) or, where c is no variable, one that is not
+/// read; then what is written.
+#[test]
+fn vectors_of_values() {
+    let mut random = Random::new(20281);
+    let (mut count, mut stopped) = ([0; 6], 0);
+    for line in include_str!("../vectors/105/values.txt").lines() {
+        let n: Vec<u32> = line.split_whitespace().map(|w| w.parse().unwrap()).collect();
+        let o = Operation { code: n[0], a: n[1], b: n[2], c: n[3] };
+        let mut values = [0; 64].map(|_| random.word());
+        if [3, 4].contains(&o.code) {
+            values[o.c as usize] = n[5];
+        }
+        values[o.b as usize] = n[4];
+        assert_eq!(written(o, &values), n[6] as u64, "{line}");
+        assert_eq!(model::value(o, &values), n[6], "{line}");
+        count[o.code as usize] += 1;
+        stopped += (o.code == 4 && n[4] < n[5]) as usize;
+    }
+    assert!(count[2..].iter().all(|n| *n > 30) && stopped > 50, "only {count:?} vectors, {stopped} of which stop at 0");
+}
+
 #[test]
 fn assumptions_as_modelled() {
     let mut random = Random::new(20261);

@@ -8,4 +8,5 @@ pub mod Independent
 pub mod Orders
 pub mod Opposed
 pub mod Meaning
+pub mod Arithmetic
 pub mod Answers

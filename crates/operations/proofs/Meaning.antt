@@ -14,7 +14,7 @@ use Rattle.operations.specs.declared.Operation.{Operation}
 use Rattle.operations.specs.declared.Kind.{Kind}
 use Rattle.operations.specs.declared.Kind.the-variants.{Assignment, ConstantComparison, VariableComparison, Unknown}
 use Rattle.operations.specs.declared.Operand.the-variants.{Variable, Unused}
-use Rattle.operations.specs.Operations.{kind, byKind, isAssignment, isAssumption, operandB, assignedC, operandC, ifVariable, reads, plus, minus, value, order, key, relation, related, holds}
+use Rattle.operations.specs.Operations.{kind, byKind, isAssignment, isAssumption, operandB, assignedC, operandC, ifVariable, reads, plus, minus, monus, value, order, key, relation, related, holds}
 use Rattle.operations.proofs.Codes.{assigning}
 
 -- f and g agree on the variables listed
@@ -51,7 +51,7 @@ value-reads o t f g =
     (λ h. h .0)
     (λ h. ap (λ (x : ℕ). plus x (o .c)) (h .0))
     (λ h. ap₂ plus (h .0) (h .1 .0))
-    (λ h. ap₂ minus (h .0) (h .1 .0))
+    (λ h. ap₂ monus (h .0) (h .1 .0))
     (λ h. ap (minus 0) (h .0))
 
 pub value-small : (o : Operation) → isAssignment o ≡ true → (v : ℕ → ℕ) → o .c < 2 ^ 32 → ((i : ℕ) → v i < 2 ^ 32) → value o v < 2 ^ 32
@@ -62,7 +62,7 @@ value-small o t v hc hv =
     (λ h. hv (o .b))
     (λ h. mod-lt (v (o .b) + o .c) (pow-pos 32))
     (λ h. mod-lt (v (o .b) + v (o .c)) (pow-pos 32))
-    (λ h. mod-lt (v (o .b) + (2 ^ 32 - v (o .c))) (pow-pos 32))
+    (λ h. let small = hv (o .b) in omega (arith, small))
     (λ h. mod-lt (0 + (2 ^ 32 - v (o .b))) (pow-pos 32)) hc
 
 -- ---- whether an assumption holds

@@ -84,11 +84,17 @@ same o o′ = eqb (o .code) (o′ .code) && (eqb (o .a) (o′ .a) && (eqb (o .b)
 abbrev pub plus : ℕ → ℕ → ℕ
 plus x y = (x + y) % 2 ^ 32
 
--- "Here sums and differences wrap at 4,294,967,296": the difference
+-- "Here sums and differences wrap at 4,294,967,296": the difference, of code 5 alone since "Codes 2, 3 and 5 go on
+-- wrapping" (document 02, #105)
 abbrev pub minus : ℕ → ℕ → ℕ
 minus x y = (x + (2 ^ 32 - y)) % 2 ^ 32
 
--- "Assignments to va: 0 c; 1 vb; 2 vb + c; 3 vb + v(c); 4 vb − v(c); 5 0 − vb"
+-- "code 4, fuel less burn, now gives 0 where the subtrahend is larger" (document 02, #105): truncated subtraction, which
+-- is the one that ℕ has
+abbrev pub monus : ℕ → ℕ → ℕ
+monus x y = x - y
+
+-- "Assignments to va: 0 c; 1 vb; 2 vb + c; 3 vb + v(c); 4 vb − v(c); 5 0 − vb", with #105's code 4
 unfoldable pub value : Operation → (ℕ → ℕ) → ℕ
 value o v =
     getD
@@ -96,7 +102,7 @@ value o v =
     ∷ v (o .b)
     ∷ plus (v (o .b)) (o .c)
     ∷ plus (v (o .b)) (v (o .c))
-    ∷ minus (v (o .b)) (v (o .c))
+    ∷ monus (v (o .b)) (v (o .c))
     ∷ minus 0 (v (o .b))
     ∷ []) (o .code) 0
 

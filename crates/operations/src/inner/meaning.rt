@@ -3,7 +3,8 @@ ghost use mathlib.Core.Path.{_≡_};
 ghost use mathlib.Core.Bool.{true};
 ghost use Prim.Native.Nat.{_<_};
 ghost use lib.ListN.{length};
-ghost use Rattle.operations.specs.Operations.{isAssignment, operandsFit, value, related, right, holds};
+ghost use Rattle.operations.specs.Operations.{isAssignment, operandsFit, plus, minus, monus, value};
+ghost use Rattle.operations.specs.Operations.{related, right, holds};
 ghost use Rattle.operations.specs.Values.{var};
 use crate::Operation;
 use crate::with_constant;
@@ -17,6 +18,30 @@ fn held(values: &[u32], k: u32) -> u32
     values[at]
 }
 
+// The sum, which wraps.
+fn plus(x: u32, y: u32) -> u32
+    ensures { λ r. ⌜ r ≡ plus x y ⌝ }
+{
+    std::num::wrapping_add_u32(x, y)
+}
+
+// The difference that wraps.
+fn minus(x: u32, y: u32) -> u32
+    ensures { λ r. ⌜ r ≡ minus x y ⌝ }
+{
+    std::num::wrapping_sub_u32(x, y)
+}
+
+// The difference that stops at nought.
+fn monus(x: u32, y: u32) -> u32
+    ensures { λ r. ⌜ r ≡ monus x y ⌝ }
+{
+    if x < y {
+        return 0;
+    }
+    x - y
+}
+
 pub fn value(o: Operation, values: &[u32]) -> u32
     requires { ⌜ (isAssignment o ≡ true) × (operandsFit o ≡ true) × (length (now values) ≡ 64) ⌝ }
     ensures { λ r. ⌜ r ≡ value o (var (now (values .entry))) ⌝ }
@@ -25,10 +50,10 @@ pub fn value(o: Operation, values: &[u32]) -> u32
     match code {
         0 => o.c,
         1 => held(values, o.b),
-        2 => std::num::wrapping_add_u32(held(values, o.b), o.c),
-        3 => std::num::wrapping_add_u32(held(values, o.b), held(values, o.c)),
-        4 => std::num::wrapping_sub_u32(held(values, o.b), held(values, o.c)),
-        _ => std::num::wrapping_sub_u32(0, held(values, o.b)),
+        2 => plus(held(values, o.b), o.c),
+        3 => plus(held(values, o.b), held(values, o.c)),
+        4 => monus(held(values, o.b), held(values, o.c)),
+        _ => minus(0, held(values, o.b)),
     }
 }
 
