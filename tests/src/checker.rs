@@ -169,21 +169,33 @@ pub fn covers(new: &Chart, record: &Record, run: &[usize]) -> bool {
     false
 }
 
-/// The rows that a chart takes from given values, at most so many, and whether they reach its alarm. A faultless chart lets at most one
-/// row go on from any place and values.
-pub fn run(chart: &Chart, values: &[u32; 64], most: usize) -> (Vec<usize>, bool) {
+/// What a chart does from given values.
+pub struct Run {
+    /// The rows that it takes, by number.
+    pub rows: Vec<usize>,
+    /// They reach its alarm.
+    pub reached: bool,
+    /// One of them subtracted more than there was, and so stopped at 0 (code 4).
+    pub stopped: bool,
+}
+
+/// The run of a chart from given values, of at most so many rows. A faultless chart lets at most one row go on from
+/// any place and values.
+pub fn run(chart: &Chart, values: &[u32; 64], most: usize) -> Run {
     let rows = rows_by_place(chart);
-    let (mut place, mut values, mut taken) = (0, *values, Vec::new());
-    let mut reached = chart.alarm == 0;
-    while taken.len() < most {
+    let (mut place, mut values) = (0, *values);
+    let mut run = Run { rows: Vec::new(), reached: chart.alarm == 0, stopped: false };
+    while run.rows.len() < most {
         let next = rows[place as usize].iter().find(|r| model::is_assignment(r.2) || model::holds(r.2, &values));
         let Some(&(i, to, o)) = next else { break };
+        let too_much = o.code == 4 && values[o.b as usize] < values[o.c as usize];
         if model::is_assignment(o) {
             values[o.a as usize] = model::value(o, &values);
         }
+        run.stopped |= too_much && values[o.a as usize] == 0;
         place = to;
-        taken.push(i);
-        reached |= place == chart.alarm;
+        run.rows.push(i);
+        run.reached |= place == chart.alarm;
     }
-    (taken, reached)
+    run
 }

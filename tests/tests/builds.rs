@@ -142,7 +142,7 @@ fn drawn_charts_are_varied() {
 mod proved {
     use super::*;
     use picker_tests::conditions::{build, check, Buffers};
-    use picker_tests::texts;
+    use picker_tests::{texts, written};
 
     /// Buffers of the stated lengths, holding anything.
     fn rubbish(random: &mut Random) -> Buffers {
@@ -319,10 +319,10 @@ mod proved {
     }
 
     /// Whether a run of the new chart reaches its alarm and is covered; then the old chart's run from the same values reaches its own.
-    fn keeps_promise(old: &Chart, new: &Chart, record: &Record, values: &[u32; 64], (rows, reached): &(Vec<usize>, bool)) -> bool {
-        let due = *reached && checker::covers(new, record, rows);
+    fn keeps_promise(old: &Chart, new: &Chart, record: &Record, values: &[u32; 64], run: &checker::Run) -> bool {
+        let due = run.reached && checker::covers(new, record, &run.rows);
         // At most 64 old assignments and one old assumption are taken for each new row.
-        if due && !checker::run(old, values, 65 * (1 + rows.len())).1 {
+        if due && !checker::run(old, values, 65 * (1 + run.rows.len())).reached {
             panic!("a covered run is a new fault: {old:?} {new:?} {values:?} {record:?}");
         }
         due
@@ -332,7 +332,7 @@ mod proved {
     #[test]
     fn covered_runs_reach_the_old_alarm() {
         let mut random = Random::new(20275);
-        let (mut covered, mut tried) = (0, 0);
+        let (mut covered, mut stopped, mut tried) = (0, 0, 0);
         for sort in [Sort::Graphs, Sort::AmendedGraphs, Sort::Procedures, Sort::Renumbered, Sort::Sparse, Sort::Dense] {
             for _ in 0..share(sort, 500) {
                 let (old, new) = drawn::pair(&mut random, sort);
@@ -354,13 +354,35 @@ mod proved {
                         *v = random.one_of(&[0, 0, 1, 1, 2, 3, 4, 99, 100, 101, u32::MAX, u32::MAX - 1, any]);
                     }
                     let run = checker::run(&new, &values, 200);
-                    tried += run.1 as usize;
-                    covered += all.iter().filter(|record| keeps_promise(&old, &new, record, &values, &run)).count();
+                    tried += run.reached as usize;
+                    let by = all.iter().filter(|record| keeps_promise(&old, &new, record, &values, &run)).count();
+                    covered += by;
+                    stopped += if run.stopped { by } else { 0 };
                 }
             }
         }
-        println!("runs to the new alarm {tried}; covered ones {covered}");
-        assert!(covered > 1000);
+        println!("runs to the new alarm {tried}; covered ones {covered}, of which {stopped} stop at 0");
+        assert!(covered > 1000 && stopped > 100);
+    }
+
+    /// Code 4 stops at 0, and the runs of both charts with it: where the burn is larger both come to the alarm of fuel
+    /// below 50, to which no difference that wraps would lead from these values. All runs with a row are covered.
+    #[test]
+    fn fuel_stops_at_nought() {
+        let old = chart_of("4,2,3,0,0,0 0,1,4,0,1,2 1,2,18,0,0,50 1,3,21,0,0,50");
+        let new = chart_of("5,3,4,0,0,0 0,1,0,5,0,7 1,2,4,0,1,2 2,3,18,0,0,50 2,4,21,0,0,50");
+        let record = compare(&old, &new, rubbish(&mut Random::new(20282)));
+        assert!(checker::covers(&new, &record, &[0]));
+        let less = Operation { code: 4, a: 0, b: 1, c: 2 };
+        for (fuel, burn, left) in [(5, 100, 0), (0, 1, 0), (100, 100, 0), (100, 5, 95)] {
+            let mut values = [0; 64];
+            (values[1], values[2]) = (fuel, burn);
+            assert_eq!(written(less, &values), left);
+            let runs = [&old, &new].map(|chart| checker::run(chart, &values, 100));
+            let last = if left < 50 { 1 } else { 2 };
+            assert_eq!(runs.each_ref().map(|run| run.rows.clone()), [vec![0, last], vec![0, 1, last + 1]]);
+            assert_eq!(runs.each_ref().map(|run| run.reached), [left < 50; 2]);
+        }
     }
 
     // ---- refusals
