@@ -1,4 +1,5 @@
 //! docs/ARCHITECTURE.md's map of crates is the one that their imports draw, and no crate knows what it must not know.
+//! No definition of a step, a check or a build knows the value that an assignment writes.
 
 use std::collections::{BTreeMap, BTreeSet};
 use std::fs;
@@ -131,4 +132,41 @@ fn a_crate_is_proved_with_what_it_imports_and_no_more() {
         let listed: BTreeSet<_> = with.iter().filter(|o| crates.contains_key(*o)).cloned().collect();
         assert_eq!(listed, known, "{name} in crates.txt");
     }
+}
+
+/// Whether a file takes a name, or anything at all, over from a crate's file of definitions.
+fn takes(text: &str, of: &str, file: &str, name: Option<&str>) -> bool {
+    let paths = [format!("·{of}.specs.{file}"), format!("·{of}·specs.specs.{file}")];
+    let mut uses = text.lines().filter(|l| l.contains("use ") && paths.iter().any(|path| l.contains(path)));
+    uses.any(|l| match (l.split_once('{'), name) {
+        (Some((_, names)), Some(name)) => names.trim_end_matches('}').split(", ").any(|n| n.split(' ').next() == Some(name)),
+        _ => true,
+    })
+}
+
+/// The files of definitions, of all crates, that take it.
+fn takers(of: &str, file: &str, name: Option<&str>) -> Vec<String> {
+    let mut found = Vec::new();
+    for name in listed().keys() {
+        files(&root().join("crates").join(name).join("specs"), &mut found);
+    }
+    found.retain(|path| takes(&fs::read_to_string(path).unwrap(), of, file, name));
+    let mut names: Vec<_> = found.iter().map(|path| path.strip_prefix(root().join("crates")).unwrap().display().to_string()).collect();
+    names.sort();
+    names
+}
+
+/// "Built conditions don't alter" (document 02, #105): the value that an assignment writes is `value`, of which the
+/// answer of `value_written`, the worked sum and runs are made; of runs the check's promise, and of these nothing else.
+/// So no definition of a step, a check's answer or a build has it.
+#[test]
+fn no_step_check_or_build_knows_the_value_that_is_written() {
+    assert_eq!(
+        takers("operations", "Operations", Some("value")),
+        ["chart/specs/Runs.antt", "operations/specs/Answers.antt", "sessions/specs/Cases.antt"]
+    );
+    assert_eq!(takers("operations", "Answers", None), [""; 0]);
+    assert_eq!(takers("chart", "Runs", None), ["checker/specs/Promise.antt"]);
+    assert_eq!(takers("checker", "Promise", None), [""; 0]);
+    assert_eq!(takers("sessions", "Cases", None), ["sessions/specs/Worked.antt"]);
 }
