@@ -62,7 +62,7 @@ value-small o t v hc hv =
     (λ h. hv (o .b))
     (λ h. mod-lt (v (o .b) + o .c) (pow-pos 32))
     (λ h. mod-lt (v (o .b) + v (o .c)) (pow-pos 32))
-    (λ h. let small = hv (o .b) in omega (arith, small))
+    (λ h. omega (arith, hv (o .b)))
     (λ h. mod-lt (0 + (2 ^ 32 - v (o .b))) (pow-pos 32)) hc
 
 -- ---- whether an assumption holds

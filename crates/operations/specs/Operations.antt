@@ -84,17 +84,17 @@ same o o′ = eqb (o .code) (o′ .code) && (eqb (o .a) (o′ .a) && (eqb (o .b)
 abbrev pub plus : ℕ → ℕ → ℕ
 plus x y = (x + y) % 2 ^ 32
 
--- "Here sums and differences wrap at 4,294,967,296": the difference, of code 5 alone since "Codes 2, 3 and 5 go on
+-- "Here sums and differences wrap at 4,294,967,296": the difference, now of code 5 alone, "Codes 2, 3 and 5 go on
 -- wrapping" (document 02, #105)
 abbrev pub minus : ℕ → ℕ → ℕ
 minus x y = (x + (2 ^ 32 - y)) % 2 ^ 32
 
--- "code 4, fuel less burn, now gives 0 where the subtrahend is larger" (document 02, #105): truncated subtraction, which
--- is the one that ℕ has
+-- "code 4, fuel less burn, now gives 0 where the subtrahend is larger" (document 02, #105): the difference of ℕ, which
+-- is 0 there
 abbrev pub monus : ℕ → ℕ → ℕ
 monus x y = x - y
 
--- "Assignments to va: 0 c; 1 vb; 2 vb + c; 3 vb + v(c); 4 vb − v(c); 5 0 − vb", with #105's code 4
+-- "Assignments to va: 0 c; 1 vb; 2 vb + c; 3 vb + v(c); 4 vb − v(c); 5 0 − vb", code 4 as #105 amends it
 unfoldable pub value : Operation → (ℕ → ℕ) → ℕ
 value o v =
     getD
