@@ -1,11 +1,12 @@
 -- Which kind each code is, and what follows of an operation's operands. Assumes nothing.
 use mathlib.Core.Path.{_≡_, refl, sym, _∙_}
 use mathlib.Core.Bool.{Bool, true, false, cond, _&&_, and-assoc}
+use mathlib.Core.Logic.{_⊎_, inl, inr}
 use mathlib.Core.List.{[], _∷_}
-use Prim.Native.Nat.{ℕ, zero, suc, _+_, _≤_, _<_}
+use Prim.Native.Nat.{ℕ, zero, suc, _+_, _*_, _/_, _%_, _^_, _≤_, _<_}
 use native.Mathlib.Decide.{ℕ-discrete, decLt}
 use native.Mathlib.Omega.{arith}
-use borrow.Author.Tests.{leb-true, eqb-true}
+use borrow.Author.Tests.{leb-true, eqb-true, lt-ltb, le-ltb}
 use lib.Dec.{eqb, leb, ltb, leb·suc-zero, leb·suc-suc, eqb·suc-zero}
 use lib.ListN.{List·getD-eq-default}
 use Rattle.base.specs.Tests.{within}
@@ -14,7 +15,7 @@ use Rattle.operations.specs.declared.Operation.{Operation}
 use Rattle.operations.specs.declared.Kind.{Kind}
 use Rattle.operations.specs.declared.Kind.the-variants.{Assignment, ConstantComparison, VariableComparison, Unknown}
 use Rattle.operations.specs.declared.Operand.the-variants.{Variable, Constant, Unused}
-use Rattle.operations.specs.Operations.{kind, byKind, isKnown, operandB, assignedC, operandC, fits, operandsFit}
+use Rattle.operations.specs.Operations.{kind, byKind, isKnown, operandB, assignedC, operandC, fits, operandsFit, plus}
 
 -- a number that is not between two others
 outside : (m n x : ℕ) → (m ≤ x → x ≤ n → ⊥) → within m n x ≡ false
@@ -35,26 +36,39 @@ module _ (x : ℕ) where
   unfolding kind
   constants l u = rw (within-high 0 5 x (omega arith), within-yes 16 21 x l u)
 
+  pub more-constants : 24 ≤ x → x ≤ 29 → ConstantComparison ≡ kind x
+  unfolding kind
+  more-constants l u = rw (within-high 0 5 x (omega arith), within-high 16 21 x (omega arith), within-yes 24 29 x l u)
+
   pub variables : 32 ≤ x → x ≤ 37 → VariableComparison ≡ kind x
   unfolding kind
-  variables l u = rw (within-high 0 5 x (omega arith), within-high 16 21 x (omega arith), within-yes 32 37 x l u)
+  variables l u = rw (within-high 0 5 x (omega arith), within-high 16 21 x (omega arith), within-high 24 29 x (omega arith), within-yes 32 37 x l u)
 
-  -- a code in none of the three runs
-  pub unknown : (x ≤ 5 → ⊥) → (16 ≤ x → x ≤ 21 → ⊥) → (32 ≤ x → x ≤ 37 → ⊥) → Unknown ≡ kind x
+  pub more-variables : 40 ≤ x → x ≤ 45 → VariableComparison ≡ kind x
   unfolding kind
-  unknown f g h = rw (outside 0 5 x (λ _. f), outside 16 21 x g, outside 32 37 x h)
+  more-variables l u =
+      rw (within-high 0 5 x (omega arith), within-high 16 21 x (omega arith), within-high 24 29 x (omega arith), within-high 32 37 x (omega arith), within-yes 40 45 x l u)
+
+  -- a code in none of the five runs
+  pub unknown : (x ≤ 5 → ⊥) → (16 ≤ x → x ≤ 21 → ⊥) → (24 ≤ x → x ≤ 29 → ⊥) → (32 ≤ x → x ≤ 37 → ⊥) → (40 ≤ x → x ≤ 45 → ⊥) → Unknown ≡ kind x
+  unfolding kind
+  unknown f g h i j = rw (outside 0 5 x (λ _. f), outside 16 21 x g, outside 24 29 x h, outside 32 37 x i, outside 40 45 x j)
 
   -- the codes of assignments are 0 to 5
   pub assigning : byKind (kind x) true false false false ≡ true → x ≤ 5
   unfolding kind
-  assigning e = go (within 0 5 x) (within 16 21 x) (within 32 37 x) (λ t. leb-true x 5 (and-true (leb 0 x) (leb x 5) t .1)) e
+  assigning e =
+      go (within 0 5 x) (within 16 21 x) (within 24 29 x) (within 32 37 x) (within 40 45 x) (λ t. leb-true x 5 (and-true (leb 0 x) (leb x 5) t .1)) e
     where
-      go : (p q r : Bool) → (p ≡ true → x ≤ 5)
-          → byKind (cond p Assignment (cond q ConstantComparison (cond r VariableComparison Unknown))) true false false false ≡ true → x ≤ 5
-      go true q r h e = h refl
-      go false true r h e = absurd (T-true e)
-      go false false true h e = absurd (T-true e)
-      go false false false h e = absurd (T-true e)
+      go : (p q r s t : Bool) → (p ≡ true → x ≤ 5)
+          → byKind (cond p Assignment (cond q ConstantComparison (cond r ConstantComparison (cond s VariableComparison (cond t VariableComparison Unknown))))) true false false false ≡ true
+          → x ≤ 5
+      go true q r s t h e = h refl
+      go false true r s t h e = absurd (T-true e)
+      go false false true s t h e = absurd (T-true e)
+      go false false false true t h e = absurd (T-true e)
+      go false false false false true h e = absurd (T-true e)
+      go false false false false false h e = absurd (T-true e)
 
 -- c is unused in code 5, and in no other further one
 pub no-more-codes : (code : ℕ) → 5 ≤ code → Unused ≡ assignedC code
@@ -84,18 +98,61 @@ module _ (N : Type 0) (m x : ℕ) where
   ]
 
 module _ (x : ℕ) where
-  abbrev Low : Type 0
-  Low = NoneOf Unit 0 6 x
+  abbrev To-5 : Type 0
+  To-5 = NoneOf Unit 0 6 x
 
-  abbrev Middle : Type 0
-  Middle = NoneOf Low 16 6 x
+  abbrev To-21 : Type 0
+  To-21 = NoneOf To-5 16 6 x
 
-  pub no-code : NoneOf Middle 32 6 x → Unknown ≡ kind x
-  no-code r =
-      let q = arms-before Middle 32 x 6 r in
-      let p = arms-before Low 16 x 6 q in
-      unknown x (λ u. none-from Unit 0 x 6 p (omega arith) (omega arith)) (λ l u. none-from Low 16 x 6 q l (omega arith))
-      (λ l u. none-from Middle 32 x 6 r l (omega arith))
+  abbrev To-29 : Type 0
+  To-29 = NoneOf To-21 24 6 x
+
+  abbrev To-37 : Type 0
+  To-37 = NoneOf To-29 32 6 x
+
+  pub no-code : NoneOf To-37 40 6 x → Unknown ≡ kind x
+  no-code t =
+      let s = arms-before To-37 40 x 6 t in
+      let r = arms-before To-29 32 x 6 s in
+      let q = arms-before To-21 24 x 6 r in
+      let p = arms-before To-5 16 x 6 q in
+      unknown x (λ u. none-from Unit 0 x 6 p (omega arith) (omega arith)) (λ l u. none-from To-5 16 x 6 q l (omega arith))
+      (λ l u. none-from To-21 24 x 6 r l (omega arith)) (λ l u. none-from To-29 32 x 6 s l (omega arith)) (λ l u. none-from To-37 40 x 6 t l (omega arith))
+
+-- ---- comparisons with a constant
+-- d is how far the code that x repeats, or x itself, is from 16
+module _ (x d : ℕ) (h : d < 2 ^ 32) (e : plus d 16 ≡ x / 16 * 16 + x % 8) where
+  pub constant-codes : ltb d 6 ≡ byKind (kind x) false true false false
+  constant-codes = elim (decLt x 16) [
+    | yes u ↦ let z : x / 16 ≡ 0 = omega arith in rw (le-ltb d 6 (omega arith)) (elim (decLt x 6) [
+      | yes u ↦ rw (← assigns x (omega arith))
+      | no m ↦ rw (← none (inr (inl (omega arith, u))))
+    ])
+    | no l ↦ elim (decLt (x % 8) 6) [
+      | no r ↦ rw (le-ltb d 6 (omega arith), ← none (inl (omega arith)))
+      | yes r ↦ elim (decLt x 32) [
+        | yes u ↦ rw (lt-ltb d 6 (near (x % 8) r (e ∙ over-16 (omega arith)))) (elim (decLt x 22) [
+          | yes m ↦ rw (← constants x (omega arith) (omega arith))
+          | no m ↦ rw (← more-constants x (omega arith) (omega arith))
+        ])
+        | no u ↦ rw (le-ltb d 6 (omega arith)) (elim (decLt x 40) [
+          | yes m ↦ rw (← variables x (omega arith) (omega arith))
+          | no m ↦ elim (decLt x 48) [ yes k ↦ rw (← more-variables x (omega arith) (omega arith)) | no k ↦ rw (← none (inr (inr (omega arith)))) ]
+        ])
+      ]
+    ]
+  ]
+    where
+      over-16 : x / 16 ≡ 1 → x / 16 * 16 + x % 8 ≡ 16 + x % 8
+      over-16 z = rw z
+
+      near : (r : ℕ) → r < 6 → plus d 16 ≡ 16 + r → d < 6
+      near r l z = omega arith
+
+      none : (6 ≤ x % 8) ⊎ (((6 ≤ x) × (x < 16)) ⊎ (48 ≤ x)) → Unknown ≡ kind x
+      none (inl h) = unknown x (λ u. omega arith) (λ l u. omega arith) (λ l u. omega arith) (λ l u. omega arith) (λ l u. omega arith)
+      none (inr (inl h)) = unknown x (λ u. omega arith) (λ l u. omega arith) (λ l u. omega arith) (λ l u. omega arith) (λ l u. omega arith)
+      none (inr (inr h)) = unknown x (λ u. omega arith) (λ l u. omega arith) (λ l u. omega arith) (λ l u. omega arith) (λ l u. omega arith)
 
 -- ---- the tables of what can stand in the places of b and c
 pub at-most-zero : (x : ℕ) → leb x 0 ≡ eqb x 0

@@ -3,8 +3,8 @@ use mathlib.Core.Path.{_≡_, refl, sym, ap, ap₂, subst, subst₂, _∙_}
 use mathlib.Core.Bool.{Bool, true, false, cond, not}
 use mathlib.Core.Logic.{_↔_}
 use mathlib.Core.List.{List, [], _∷_}
-use Prim.Native.Nat.{ℕ, zero, suc, _%_, _^_, _<_}
-use native.Mathlib.Nat.{le-of-suc-le-suc, not-suc-le-zero}
+use Prim.Native.Nat.{ℕ, zero, suc, _^_, _<_}
+use native.Mathlib.Nat.{le-of-suc-le-suc, not-suc-le-zero, mod-lt}
 use native.Mathlib.Omega.{arith}
 use lib.Dec.{T, T-not, not-T, eqb}
 use lib.ListN.{length, getD}
@@ -13,13 +13,13 @@ use Rattle.operations.specs.declared.Operation.{Operation}
 use Rattle.operations.specs.declared.assumptions.Implication.{Implication}
 use Rattle.operations.specs.declared.assumptions.Implication.the-variants.{Never, Implied, NotImplied}
 use Rattle.operations.specs.declared.inner.trials.Seats.{Seats}
-use Rattle.operations.specs.Operations.{withConstant, order, key, related, holds}
+use Rattle.operations.specs.Operations.{withConstant, plus, order, relation, compared, holds}
 use Rattle.operations.specs.Values.{Values, var}
 use Rattle.operations.specs.Assumptions.{Operands, NeverHolds, Implies, ExactlyOne, Means}
-use Rattle.operations.specs.Trials.{alike, seats, trial, points, shown, shownBy, together, never, implies, exclusive, implication}
+use Rattle.operations.specs.Trials.{alike, inside, own, seats, trial, pointsOf, shown, shownBy, together, never, implies, exclusive, implication}
 use Rattle.base.proofs.Tests.{T-and, T-both, T-true, is-true, differ, yields, opposite}
 use Rattle.base.proofs.Lists.{any-at, All, any-all}
-use Rattle.operations.proofs.Trials.{tried}
+use Rattle.operations.proofs.Trials.{joint, bound-small, points-small, tried}
 
 pub alike-self : (b : Bool) → T (alike b b)
 alike-self true = tt
@@ -56,12 +56,12 @@ tab-small v (suc n) h (suc k) = tab-small (λ k. v (suc k)) n (λ k. h (suc k)) 
 holds-tab : (f : Operation) → Operands f → (v : ℕ → ℕ) → holds f (var (tab v 64)) ≡ holds f v
 unfolding holds
 holds-tab f F v =
-    ap₂ (λ (m n : ℕ). related (f .code % 8) (key (order f) m) (key (order f) (cond (withConstant f) (f .c) n)))
+    ap₂ (λ (m n : ℕ). compared (order f) (relation f) m (cond (withConstant f) (f .c) n))
     (tab-at v 64 (f .a) (F .a)) (tab-at v 64 (f .b) (F .b))
 
-trial-small : (s : Seats) (x y : ℕ) → x < 2 ^ 32 → y < 2 ^ 32 → (k : ℕ) → trial s x y k < 2 ^ 32
+trial-small : (s : Seats) → s .rest < 2 ^ 32 → (x y : ℕ) → x < 2 ^ 32 → y < 2 ^ 32 → (k : ℕ) → trial s x y k < 2 ^ 32
 unfolding trial
-trial-small s x y hx hy k = pick (eqb k (s .first)) hx (pick (eqb k (s .second)) hy (pick (s .apart) {m = 1} (omega arith) hy))
+trial-small s h x y hx hy k = pick (eqb k (s .first)) hx (pick (eqb k (s .second)) hy (pick (s .apart) h hy))
   where
     pick : (b : Bool) {m n : ℕ} → m < 2 ^ 32 → n < 2 ^ 32 → cond b m n < 2 ^ 32
     pick true h k = h
@@ -73,7 +73,7 @@ Small v = (k : ℕ) → v k < 2 ^ 32
 
 module _ (f g : Operation) (hf : f .c < 2 ^ 32) (hg : g .c < 2 ^ 32) where
   l : List ℕ
-  l = points (f .c) (g .c)
+  l = pointsOf f g
 
   -- what values do, some trial does
   pub covered-by : (v : ℕ → ℕ) → Small v → {p q : Bool} → holds f v ≡ p → holds g v ≡ q → T (together f p g q)
@@ -83,16 +83,25 @@ module _ (f g : Operation) (hf : f .c < 2 ^ 32) (hg : g .c < 2 ^ 32) where
       any-at (shownBy (seats f g) f p g q l) l (t .x) (t .x-in) (any-at (shown (seats f g) f p g q (t .x)) l (t .y) (t .y-in)
       (rw (t .same-f, t .same-g, a, b) (T-both (alike p p) (alike q q) (alike-self p) (alike-self q))))
 
+  rest-small : seats f g .rest < 2 ^ 32
+  unfolding seats
+  rest-small = go (inside f g) (inside g f)
+    where
+      go : (a b : Bool) → cond a (joint (f .a)) (cond b (joint (g .a)) (record { first = own f g; second = own g f; apart = true; rest = plus (order f) 1 })) .rest < 2 ^ 32
+      go true b = pow-pos 32
+      go false true = pow-pos 32
+      go false false = mod-lt _ (pow-pos 32)
+
   -- what some trial does, values do
   pub found-by : (p q : Bool) → T (together f p g q) → (v : ℕ → ℕ) × Small v × (holds f v ≡ p) × (holds g v ≡ q)
   unfolding together shown l
   found-by p q t =
-      let S : All (λ x. x < 2 ^ 32) l = omega arith in
+      let S = points-small f g (bound-small f hf) (bound-small g hg) in
       let (x, hx, t′) = any-all (shownBy (seats f g) f p g q l) (λ x. x < 2 ^ 32) l S t in
       let (y, hy, t″) = any-all (shown (seats f g) f p g q x) (λ x. x < 2 ^ 32) l S t′ in
       let e = trial (seats f g) x y in
       let (a, b) = T-and (alike p (holds f e)) (alike q (holds g e)) t″ in
-      (e, trial-small (seats f g) x y hx hy, alike-is p (holds f e) a, alike-is q (holds g e) b)
+      (e, trial-small (seats f g) rest-small x y hx hy, alike-is p (holds f e) a, alike-is q (holds g e) b)
 
 module _ (f g : Operation) (F : Operands f) (G : Operands g) where
   pub covered : (v : List ℕ) → Values v → T (together f (holds f (var v)) g (holds g (var v)))

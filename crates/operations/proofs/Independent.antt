@@ -3,16 +3,19 @@ use mathlib.Core.Path.{_≡_, refl, sym, ap, ap₂, subst, _∙_}
 use mathlib.Core.Bool.{Bool, true, false, cond, _&&_, _||_, not}
 use mathlib.Core.Logic.{inl, inr}
 use Prim.Native.Nat.{ℕ, _-_, _^_, _<_}
+use native.Mathlib.Nat.{mod-lt}
 use native.Mathlib.Decide.{ℕ-discrete, decLt}
 use native.Mathlib.Omega.{arith}
 use lib.Dec.{T, T-not, not-T, eqb, ltb, ltb→lt, lt→ltb, eqb→eq}
+use lib.Pow.{pow-pos}
 use borrow.Author.Tests.{eq-eqb, ne-eqb, eqb-true, not-true, not-false}
 use Rattle.base.proofs.Tests.{T-and, T-both, T-or, T-or-l, T-or-r, T-true, is-true}
 use Rattle.operations.specs.declared.Operation.{Operation}
-use Rattle.operations.specs.Operations.{withConstant, order, key, relation, related, right, holds}
+use Rattle.operations.specs.Operations.{withConstant, plus, minus, order, key, relation, related, compared, right, holds}
 use Rattle.operations.specs.Trials.{alike, partner, compares, together, never, implies, exclusive}
 use Rattle.operations.specs.inner.ShortWays.{fixed, disjoint, independent, canBeBelow, canBeAbove}
-use Rattle.operations.proofs.Order.{Same, related-same, same-self}
+use Rattle.operations.proofs.Order.{Same, Alike, related-same, same-self, key-least, key-second, key-greatest}
+use Rattle.operations.proofs.TwoOrders.{order-small}
 use Rattle.operations.proofs.Trials.{holds-pair}
 use Rattle.operations.proofs.Exact.{Small, alike-self, alike-is, covered-by, found-by}
 
@@ -22,13 +25,25 @@ both-ways true b h k = sym (is-true b (h tt))
 both-ways false true h k = absurd (k tt)
 both-ways false false h k = refl
 
+-- one of two tests, by a third
+pub either : (b x y : Bool) → (b && x) || (not b && y) ≡ cond b x y
+either true true y = refl
+either true false y = refl
+either false x y = refl
+
 -- ---- one assumption
 module _ (f : Operation) (h : f .c < 2 ^ 32) (p : Bool) where
   abbrev r : ℕ
   r = relation f
 
+  abbrev s : ℕ
+  s = order f
+
+  hs : s < 2 ^ 32
+  hs = order-small f
+
   -- values of which va and what it is compared with compare as x and y do
-  by : (v : ℕ → ℕ) → Small v → (x y : ℕ) → Same (v (f .a)) (right f v) x y → T (alike p (related r x y)) → T (together f p f p)
+  by : (v : ℕ → ℕ) → Small v → (x y : ℕ) → Same (key s (v (f .a))) (key s (right f v)) x y → T (alike p (related r x y)) → T (together f p f p)
   unfolding holds
   by v W x y S t = let e : holds f v ≡ p = related-same r S ∙ alike-is p (related r x y) t in covered-by f f h h v W e e
 
@@ -46,44 +61,46 @@ module _ (f : Operation) (h : f .c < 2 ^ 32) (p : Bool) where
   other : T (not (eqb (f .a) (f .b))) → f .b ≡ f .a → ⊥
   other t e = T-not (eqb (f .a) (f .b)) t (T-true (eq-eqb (f .a) (f .b) (sym e)))
 
-  under : T (canBeBelow f) → Same (at 0 1 (f .a)) (right f (at 0 1)) 0 1
-  under t = rw (eq-eqb (f .a) (f .a) refl) (go (withConstant f) t)
+  -- the least value of the order for va, and the next for all others
+  under : T (canBeBelow f) → Same (key s (at s (plus s 1) (f .a))) (key s (right f (at s (plus s 1)))) 0 1
+  under t = rw (eq-eqb (f .a) (f .a) refl, key-least s hs) (go (withConstant f) t)
     where
-      go : (b : Bool) → T (cond b (ltb 0 (f .c)) (not (eqb (f .a) (f .b)))) → Same 0 (cond b (f .c) (at 0 1 (f .b))) 0 1
-      go true t = let l = ltb→lt 0 (f .c) t in omega arith
-      go false t = rw (ne-eqb (f .b) (f .a) (other t)) (omega arith)
+      go : (b : Bool) → T (cond b (ltb 0 (key s (f .c))) (not (eqb (f .a) (f .b)))) → Same 0 (key s (cond b (f .c) (at s (plus s 1) (f .b)))) 0 1
+      go true t = let l = ltb→lt 0 (key s (f .c)) t in omega arith
+      go false t = rw (ne-eqb (f .b) (f .a) (other t), key-second s hs) (omega arith)
 
-  over : T (canBeAbove f) → Same (at (2 ^ 32 - 1) 0 (f .a)) (right f (at (2 ^ 32 - 1) 0)) 1 0
-  over t = rw (eq-eqb (f .a) (f .a) refl) (go (withConstant f) t)
+  -- the greatest value of the order for va, and the least for all others
+  over : T (canBeAbove f) → Same (key s (at (minus s 1) s (f .a))) (key s (right f (at (minus s 1) s))) 1 0
+  over t = rw (eq-eqb (f .a) (f .a) refl, key-greatest s hs) (go (withConstant f) t)
     where
-      go : (b : Bool) → T (cond b (ltb (f .c) (2 ^ 32 - 1)) (not (eqb (f .a) (f .b)))) → Same (2 ^ 32 - 1) (cond b (f .c) (at (2 ^ 32 - 1) 0 (f .b))) 1 0
-      go true t = let l = ltb→lt (f .c) (2 ^ 32 - 1) t in omega arith
-      go false t = rw (ne-eqb (f .b) (f .a) (other t)) (omega arith)
+      go : (b : Bool) → T (cond b (ltb (key s (f .c)) (2 ^ 32 - 1)) (not (eqb (f .a) (f .b)))) → Same (2 ^ 32 - 1) (key s (cond b (f .c) (at (minus s 1) s (f .b)))) 1 0
+      go true t = let l = ltb→lt (key s (f .c)) (2 ^ 32 - 1) t in omega arith
+      go false t = rw (ne-eqb (f .b) (f .a) (other t), key-least s hs) (omega arith)
 
-  level : Same (f .c) (right f (λ _. f .c)) 1 1
+  level : Same (key s (f .c)) (key s (right f (λ _. f .c))) 1 1
   level = go (withConstant f)
     where
-      go : (b : Bool) → Same (f .c) (cond b (f .c) (f .c)) 1 1
+      go : (b : Bool) → Same (key s (f .c)) (key s (cond b (f .c) (f .c))) 1 1
       go true = same-self _ _
       go false = same-self _ _
 
   -- va is below, above: it can be
-  is-under : (v : ℕ → ℕ) → v (f .a) < right f v → T (canBeBelow f)
+  is-under : (v : ℕ → ℕ) → key s (v (f .a)) < key s (right f v) → T (canBeBelow f)
   is-under v = go (withConstant f)
     where
-      go : (b : Bool) → v (f .a) < cond b (f .c) (v (f .b)) → T (cond b (ltb 0 (f .c)) (not (eqb (f .a) (f .b))))
-      go true l = lt→ltb 0 (f .c) (omega arith)
-      go false l = not-T (eqb (f .a) (f .b)) (λ t. let e = ap v (eqb→eq (f .a) (f .b) t) in omega arith)
+      go : (b : Bool) → key s (v (f .a)) < key s (cond b (f .c) (v (f .b))) → T (cond b (ltb 0 (key s (f .c))) (not (eqb (f .a) (f .b))))
+      go true l = lt→ltb 0 (key s (f .c)) (omega arith)
+      go false l = not-T (eqb (f .a) (f .b)) (λ t. let e = ap (λ (k : ℕ). key s (v k)) (eqb→eq (f .a) (f .b) t) in omega arith)
 
-  is-over : (v : ℕ → ℕ) → Small v → right f v < v (f .a) → T (canBeAbove f)
-  is-over v W = go (withConstant f)
+  is-over : (v : ℕ → ℕ) → key s (right f v) < key s (v (f .a)) → T (canBeAbove f)
+  is-over v = go (withConstant f)
     where
-      go : (b : Bool) → cond b (f .c) (v (f .b)) < v (f .a) → T (cond b (ltb (f .c) (2 ^ 32 - 1)) (not (eqb (f .a) (f .b))))
-      go true l = lt→ltb (f .c) (2 ^ 32 - 1) (omega (arith, W (f .a)))
-      go false l = not-T (eqb (f .a) (f .b)) (λ t. let e = ap v (eqb→eq (f .a) (f .b) t) in omega arith)
+      go : (b : Bool) → key s (cond b (f .c) (v (f .b))) < key s (v (f .a)) → T (cond b (ltb (key s (f .c)) (2 ^ 32 - 1)) (not (eqb (f .a) (f .b))))
+      go true l = let u : key s (v (f .a)) < 2 ^ 32 = mod-lt _ (pow-pos 32) in lt→ltb (key s (f .c)) (2 ^ 32 - 1) (omega arith)
+      go false l = not-T (eqb (f .a) (f .b)) (λ t. let e = ap (λ (k : ℕ). key s (v k)) (eqb→eq (f .a) (f .b) t) in omega arith)
 
   -- values that meet f as p says show that any two in the order of va and what it is compared with do
-  as-met : (v : ℕ → ℕ) → holds f v ≡ p → (x y : ℕ) → Same (v (f .a)) (right f v) x y → T (alike p (related r x y))
+  as-met : (v : ℕ → ℕ) → holds f v ≡ p → (x y : ℕ) → Same (key s (v (f .a))) (key s (right f v)) x y → T (alike p (related r x y))
   unfolding holds
   as-met v e x y S = rw (sym (related-same r S) ∙ e) (alike-self p)
 
@@ -103,24 +120,26 @@ module _ (f : Operation) (h : f .c < 2 ^ 32) (p : Bool) where
       there : T ((B || E) || A) → T (together f p f p)
       there t = elim (T-or (B || E) A t) [
         | inl u ↦ elim (T-or B E u) [
-          | inl w ↦ let (m, n) = T-and (canBeBelow f) (alike p (related r 0 1)) w in by (at 0 1) (at-small 0 1 (omega arith) (omega arith)) 0 1 (under m) n
+          | inl w ↦
+              let (m, n) = T-and (canBeBelow f) (alike p (related r 0 1)) w in
+              by (at s (plus s 1)) (at-small s (plus s 1) hs (mod-lt _ (pow-pos 32))) 0 1 (under m) n
           | inr w ↦ by (λ _. f .c) (λ _. h) 1 1 level w
         ]
         | inr u ↦
             let (m, n) = T-and (canBeAbove f) (alike p (related r 1 0)) u in
-            by (at (2 ^ 32 - 1) 0) (at-small (2 ^ 32 - 1) 0 (omega arith) (omega arith)) 1 0 (over m) n
+            by (at (minus s 1) s) (at-small (minus s 1) s (mod-lt _ (pow-pos 32)) hs) 1 0 (over m) n
       ]
 
       back : T (together f p f p) → T ((B || E) || A)
       back t =
           let (v, W, e, e′) = found-by f f h h p p t in
-          let x = v (f .a) in
-          let y = right f v in
+          let x = key s (v (f .a)) in
+          let y = key s (right f v) in
           elim (ℕ-discrete x y) [
             | yes q ↦ T-or-l (B || E) A (T-or-r B E (as-met v e 1 1 (omega arith)))
             | no n ↦ elim (decLt x y) [
               | yes l ↦ T-or-l (B || E) A (T-or-l B E (T-both (canBeBelow f) _ (is-under v l) (as-met v e 0 1 (omega arith))))
-              | no m ↦ T-or-r (B || E) A (T-both (canBeAbove f) _ (is-over v W (omega arith)) (as-met v e 1 0 (omega arith)))
+              | no m ↦ T-or-r (B || E) A (T-both (canBeAbove f) _ (is-over v (omega arith)) (as-met v e 1 0 (omega arith)))
             ]
           ]
 
@@ -130,19 +149,19 @@ agreeing : (f : Operation) (e v : ℕ → ℕ) → e (f .a) ≡ v (f .a) → e (
 unfolding holds
 agreeing f e v p q = go (withConstant f) q
   where
-    compared : ℕ → ℕ → Bool
-    compared x y = related (relation f) (key (order f) x) (key (order f) y)
+    by : ℕ → ℕ → Bool
+    by = compared (order f) (relation f)
 
-    go : (b : Bool) → e (cond b (f .a) (f .b)) ≡ v (cond b (f .a) (f .b)) → compared (e (f .a)) (cond b (f .c) (e (f .b))) ≡ compared (v (f .a)) (cond b (f .c) (v (f .b)))
-    go true q = ap (λ (x : ℕ). compared x (f .c)) p
-    go false q = ap₂ compared p q
+    go : (b : Bool) → e (cond b (f .a) (f .b)) ≡ v (cond b (f .a) (f .b)) → by (e (f .a)) (cond b (f .c) (e (f .b))) ≡ by (v (f .a)) (cond b (f .c) (v (f .b)))
+    go true q = ap (λ (x : ℕ). by x (f .c)) p
+    go false q = ap₂ by p q
 
 -- a variable compared with itself
 unmoved : (f : Operation) → T (fixed f) → (e v : ℕ → ℕ) → holds f e ≡ holds f v
 unmoved f t e v =
     let (m, n) = T-and (not (withConstant f)) (eqb (f .a) (f .b)) t in
     let q = eqb→eq (f .a) (f .b) n in
-    holds-pair f e v (not-true (withConstant f) (is-true _ m)) (subst (λ (k : ℕ). Same (e (f .a)) (e k) (v (f .a)) (v k)) q (same-self _ _))
+    holds-pair f e v (not-true (withConstant f) (is-true _ m)) (subst (λ (k : ℕ). Alike (order f) (e (f .a)) (e k) (v (f .a)) (v k)) q (same-self _ _))
 
 module _ (f g : Operation) (hf : f .c < 2 ^ 32) (hg : g .c < 2 ^ 32) (p q : Bool) where
   -- g's variables as in w, all others as in v

@@ -1,6 +1,7 @@
 -- Laws that several proofs cite.
 pub mod Codes
 pub mod Order
+pub mod TwoOrders
 pub mod Trials
 pub mod Exact
 pub mod Fewer

@@ -14,7 +14,7 @@ use Rattle.operations.specs.declared.Operation.{Operation}
 use Rattle.operations.specs.declared.Kind.{Kind}
 use Rattle.operations.specs.declared.Kind.the-variants.{Assignment, ConstantComparison, VariableComparison, Unknown}
 use Rattle.operations.specs.declared.Operand.the-variants.{Variable, Unused}
-use Rattle.operations.specs.Operations.{kind, byKind, isAssignment, isAssumption, operandB, assignedC, operandC, ifVariable, reads, plus, minus, monus, value, order, key, relation, related, holds}
+use Rattle.operations.specs.Operations.{kind, byKind, isAssignment, isAssumption, operandB, assignedC, operandC, ifVariable, reads, plus, minus, monus, value, order, relation, compared, holds}
 use Rattle.operations.proofs.Codes.{assigning}
 
 -- f and g agree on the variables listed
@@ -66,19 +66,15 @@ value-small o t v hc hv =
     (λ h. mod-lt (0 + (2 ^ 32 - v (o .b))) (pow-pos 32)) hc
 
 -- ---- whether an assumption holds
--- how an assumption compares two numbers
-abbrev compared : Operation → ℕ → ℕ → Bool
-compared o x y = related (relation o) (key (order o) x) (key (order o) y)
-
 pub holds-reads : (o : Operation) → isAssumption o ≡ true → (f g : ℕ → ℕ) → Agree f g (reads o) → holds o f ≡ holds o g
 unfolding reads operandB holds
 holds-reads o t f g h = go (kind (o .code)) t h
   where
     go : (k : Kind) → byKind k false true true false ≡ true
         → Agree f g (byKind k [] (o .a ∷ []) (o .a ∷ []) [] ++ (ifVariable (byKind k (cond (eqb (o .code) 0) Unused Variable) Unused Variable Unused) (o .b) ++ ifVariable (operandC o) (o .c)))
-        → compared o (f (o .a)) (cond (byKind k false true false false) (o .c) (f (o .b)))
-        ≡ compared o (g (o .a)) (cond (byKind k false true false false) (o .c) (g (o .b)))
+        → compared (order o) (relation o) (f (o .a)) (cond (byKind k false true false false) (o .c) (f (o .b)))
+        ≡ compared (order o) (relation o) (g (o .a)) (cond (byKind k false true false false) (o .c) (g (o .b)))
     go Assignment t h = absurd (T-true t)
-    go ConstantComparison t h = ap (λ (x : ℕ). compared o x (o .c)) (h .0)
-    go VariableComparison t h = ap₂ (compared o) (h .0) (h .1 .0)
+    go ConstantComparison t h = ap (λ (x : ℕ). compared (order o) (relation o) x (o .c)) (h .0)
+    go VariableComparison t h = ap₂ (compared (order o) (relation o)) (h .0) (h .1 .0)
     go Unknown t h = absurd (T-true t)

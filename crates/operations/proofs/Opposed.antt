@@ -1,20 +1,19 @@
 -- Two assumptions that compare the same in opposite ways: exactly one holds, whatever the values. Assumes nothing.
-use mathlib.Core.Path.{_≡_, refl, sym, ap, ap₂, subst, _∙_}
+use mathlib.Core.Path.{_≡_, refl, sym, ap, subst, _∙_}
 use mathlib.Core.Bool.{Bool, true, false, cond, _&&_, not}
-use Prim.Native.Nat.{ℕ, _%_, _<_}
+use Prim.Native.Nat.{ℕ, _/_, _%_, _<_}
 use native.Mathlib.Decide.{ℕ-discrete, decLt}
 use native.Mathlib.Omega.{arith}
 use borrow.Author.Tests.{eqb-true, ltb-true}
 use lib.Dec.{eqb, ltb}
 use lib.ListN.{getD}
 use Rattle.base.proofs.Lists.{any-false}
-use Rattle.base.proofs.Tests.{T-true, and-true}
+use Rattle.base.proofs.Tests.{and-true}
 use Rattle.operations.specs.declared.Operation.{Operation}
-use Rattle.operations.specs.Operations.{kind, byKind, isAssumption, relation, related, withConstant, right, holds}
+use Rattle.operations.specs.Operations.{kind, byKind, isAssumption, order, key, relation, related, compared, withConstant, right, holds}
 use Rattle.operations.specs.inner.Opposed.{OppositeCodes, Opposed}
-use Rattle.operations.specs.Trials.{alike, seats, trial, points, shown, shownBy, together, exclusive}
+use Rattle.operations.specs.Trials.{alike, seats, trial, pointsOf, shown, shownBy, together, exclusive}
 use Rattle.operations.proofs.Order.{below-table, equal-table, above-table, related-lt, related-eq, related-gt}
-use Rattle.operations.proofs.Exact.{alike-is}
 
 -- s holds where r does not, if it is so of numbers that are below, equal and above
 pub turned : (r s : ℕ) → getD below-table s false ≡ not (getD below-table r false) → getD equal-table s false ≡ not (getD equal-table r false)
@@ -28,29 +27,20 @@ turned r s b e a x y = go (ℕ-discrete x y) (decLt x y)
 
 -- codes whose relations are opposite of numbers that are below, equal and above
 pub opposite-codes : (f g : ℕ) → byKind (kind f) false true true false ≡ true → byKind (kind g) false true true false ≡ true
-    → byKind (kind f) false true false false ≡ byKind (kind g) false true false false
+    → byKind (kind f) false true false false ≡ byKind (kind g) false true false false → f / 8 ≡ g / 8
     → getD below-table (f % 8) false ≡ not (getD below-table (g % 8) false) → getD equal-table (f % 8) false ≡ not (getD equal-table (g % 8) false)
     → getD above-table (f % 8) false ≡ not (getD above-table (g % 8) false) → OppositeCodes f g
-opposite-codes f g p q w b e a = record { first = p; second = q; sort = w; relations = turned (g % 8) (f % 8) b e a }
-
-alike-same : (p q : Bool) → p ≡ q → alike p q ≡ true
-alike-same true true e = refl
-alike-same false false e = refl
-alike-same true false e = absurd (T-true (sym e))
-alike-same false true e = absurd (T-true e)
+opposite-codes f g p q w o b e a = record { first = p; second = q; sort = w; order = o; relations = turned (g % 8) (f % 8) b e a }
 
 module _ (f g : Operation) where
-  -- the same two numbers, compared by opposite relations
-  pub opposed-by : f .a ≡ g .a → f .b ≡ g .b → f .c ≡ g .c → alike (withConstant f) (withConstant g) ≡ true
+  -- the same two values, compared in one order by opposite relations
+  opposed-by : f .a ≡ g .a → f .b ≡ g .b → f .c ≡ g .c → withConstant f ≡ withConstant g → f .code / 8 ≡ g .code / 8
       → ((x y : ℕ) → related (relation f) x y ≡ not (related (relation g) x y)) → Opposed f g
   unfolding holds
-  opposed-by ea eb ec w h v = h (v (f .a)) (right f v) ∙ ap not (ap₂ (related (relation g)) (ap v ea) (go (withConstant f) (withConstant g) (alike-is _ _ (T-true w))))
-    where
-      go : (p q : Bool) → q ≡ p → cond p (f .c) (v (f .b)) ≡ cond q (g .c) (v (g .b))
-      go true true e = ec
-      go false false e = ap v eb
-      go true false e = absurd (T-true e)
-      go false true e = absurd (T-true (sym e))
+  opposed-by ea eb ec w o h v =
+      let s : order f ≡ order g = rw o in
+      h (key (order f) (v (f .a))) (key (order f) (right f v))
+      ∙ ap not (λ i. compared (s i) (relation g) (v (ea i)) (cond (w i) (ec i) (v (eb i))))
 
   pub opposed-codes : (s : ℕ) → ((s ≡ 6 → ⊥) → OppositeCodes (f .code) s)
       → (((eqb (f .a) (g .a) && eqb (f .b) (g .b)) && eqb (f .c) (g .c)) && eqb s (g .code)) && ltb 15 (g .code) ≡ true
@@ -65,7 +55,7 @@ module _ (f g : Operation) where
       let o : OppositeCodes (f .code) (g .code) = subst (OppositeCodes (f .code)) q (h (λ z. omega (arith, q, l))) in (
         o .first,
         o .second,
-        opposed-by (eqb-true _ _ a) (eqb-true _ _ b) (eqb-true _ _ c) (alike-same (withConstant f) (withConstant g) (o .sort)) (o .relations),
+        opposed-by (eqb-true _ _ a) (eqb-true _ _ b) (eqb-true _ _ c) (o .sort) (o .order) (o .relations),
       )
 
   -- no trial meets both, and none fails both
@@ -78,8 +68,8 @@ module _ (f g : Operation) where
   apart : Opposed f g → (b : Bool) → together f b g b ≡ false
   unfolding together shown
   apart h b =
-      any-false (shownBy (seats f g) f b g b (points (f .c) (g .c))) (points (f .c) (g .c))
-      (λ x. any-false (shown (seats f g) f b g b x) (points (f .c) (g .c))
+      any-false (shownBy (seats f g) f b g b (pointsOf f g)) (pointsOf f g)
+      (λ x. any-false (shown (seats f g) f b g b x) (pointsOf f g)
       (λ y. rw (h (trial (seats f g) x y)) (neither b (holds g (trial (seats f g) x y)))))
 
   pub opposed-one : Opposed f g → true ≡ exclusive f g

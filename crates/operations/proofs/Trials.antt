@@ -3,17 +3,21 @@ use mathlib.Core.Path.{_≡_, refl, sym, ap, subst, subst₂, _∙_}
 use mathlib.Core.Bool.{Bool, true, false, cond, _&&_, not}
 use mathlib.Core.Logic.{_≢_, _⊎_, inl, inr}
 use mathlib.Core.List.{List}
-use Prim.Native.Nat.{ℕ, _-_, _^_, _<_}
+use Prim.Native.Nat.{ℕ, _^_, _<_}
+use native.Mathlib.Nat.{mod-lt}
 use native.Mathlib.Decide.{ℕ-discrete}
+use native.Mathlib.Omega.{arith}
+use lib.Pow.{pow-pos}
 use lib.Dec.{T, T-not, eqb, eqb→eq}
 use borrow.Author.Tests.{eq-eqb, ne-eqb}
 use Rattle.operations.specs.declared.Operation.{Operation}
 use Rattle.operations.specs.declared.inner.trials.Seats.{Seats}
-use Rattle.operations.specs.Operations.{withConstant, Order, order, holds}
-use Rattle.operations.specs.Trials.{partner, compares, inside, own, seats, trial, points}
+use Rattle.operations.specs.Operations.{withConstant, plus, minus, order, holds}
+use Rattle.operations.specs.Trials.{partner, compares, inside, own, seats, trial, bound, pointsOf}
 use Rattle.base.proofs.Tests.{T-and, T-or, T-or-r}
-use Rattle.base.proofs.Lists.{has}
-use Rattle.operations.proofs.Order.{Alike, related-same, same-flip, same-self, beside-one, Point, Ends, below, Stand, stand, ends, point-c, point-d}
+use Rattle.base.proofs.Lists.{has, All}
+use Rattle.operations.proofs.Order.{Alike, related-same, same-flip, same-self, beside, Point, Ends, below, Stand, stand, ends-s, ends-t, point-c, point-d}
+use Rattle.operations.proofs.TwoOrders.{order-small, inside-both}
 
 -- ---- what an assumption depends on
 module _ (f : Operation) (e v : ℕ → ℕ) where
@@ -52,22 +56,35 @@ tried-swap R = record { x = R .x; y = R .y; x-in = R .x-in; y-in = R .y-in; same
 
 -- ---- one assumption inside the other: x at i and y at all others
 abbrev pub joint : ℕ → Seats
-joint i = record { first = i; second = i; apart = false }
+joint i = record { first = i; second = i; apart = false; rest = 0 }
 
 -- m stands for n: x for u, or y for w
 data Seat (x u y w : ℕ) : ℕ → ℕ → Type 0 where
   at-x : Seat x u y w x u
   at-y : Seat x u y w y w
 
-module _ {l : List ℕ} (v : ℕ → ℕ) (i j : ℕ) (S : Stand l (v i) (v j)) where
+-- s is one of the two orders in which an x and y stand for two values
+data OneOf (s t : ℕ) : ℕ → Type 0 where
+  the-first : OneOf s t s
+  the-second : OneOf s t t
+
+module _ {l : List ℕ} {s t : ℕ} (E : Ends l s) (F : Ends l t) (v : ℕ → ℕ) (i j : ℕ) (S : Stand l s t (v i) (v j)) where
   abbrev Seated : ℕ → ℕ → Type 0
   Seated m n = Seat (S .x) (v i) (S .y) (v j) m n
 
-  seats-alike : (s : Order) {m n m′ n′ : ℕ} → Seated m n → Seated m′ n′ → Alike s m m′ n n′
-  seats-alike s at-x at-x = same-self _ _
-  seats-alike s at-x at-y = S .pair s
-  seats-alike s at-y at-x = same-flip (S .pair s)
-  seats-alike s at-y at-y = same-self _ _
+  paired : (k : ℕ) → OneOf s t k → Alike k (S .x) (S .y) (v i) (v j)
+  paired k the-first = S .pair .0
+  paired k the-second = S .pair .1
+
+  ends-of : (k : ℕ) → OneOf s t k → Ends l k
+  ends-of k the-first = E
+  ends-of k the-second = F
+
+  seats-alike : (k : ℕ) → OneOf s t k → {m n m′ n′ : ℕ} → Seated m n → Seated m′ n′ → Alike k m m′ n n′
+  seats-alike k o at-x at-x = same-self _ _
+  seats-alike k o at-x at-y = paired k o
+  seats-alike k o at-y at-x = same-flip (paired k o)
+  seats-alike k o at-y at-y = same-self _ _
 
   seat : (k : ℕ) → (k ≡ i) ⊎ (k ≡ j) → Seated (trial (joint i) (S .x) (S .y) k) (v k)
   unfolding trial
@@ -78,34 +95,35 @@ module _ {l : List ℕ} (v : ℕ → ℕ) (i j : ℕ) (S : Stand l (v i) (v j)) 
       go (no n) (inl e) = absurd (n e)
       go (no n) (inr e) = rw (ne-eqb k i n) (subst (Seated (S .y)) (ap v (sym e)) at-y)
 
-  -- an assumption over vi and vj alone, which compares vi if it compares one with c
-  fits : (f : Operation) → Point l (f .c) → (f .a ≡ i) ⊎ (f .a ≡ j) → (partner f ≡ i) ⊎ (partner f ≡ j) → (T (withConstant f) → f .a ≡ i)
+  -- an assumption over vi and vj alone, in one of the two orders, which compares vi if it compares one with c
+  fits : (f : Operation) → OneOf s t (order f) → Point l (bound f) → (f .a ≡ i) ⊎ (f .a ≡ j) → (partner f ≡ i) ⊎ (partner f ≡ j) → (T (withConstant f) → f .a ≡ i)
       → holds f (trial (joint i) (S .x) (S .y)) ≡ holds f v
   unfolding trial
-  fits f F p r n = go (withConstant f) refl r n
+  fits f o P p r n = go (withConstant f) refl P r n
     where
-      go : (b : Bool) → withConstant f ≡ b → (cond b (f .a) (f .b) ≡ i) ⊎ (cond b (f .a) (f .b) ≡ j) → (T b → f .a ≡ i)
+      go : (b : Bool) → withConstant f ≡ b → Point l (cond b (f .c) (order f)) → (cond b (f .a) (f .b) ≡ i) ⊎ (cond b (f .a) (f .b) ≡ j) → (T b → f .a ≡ i)
           → holds f (trial (joint i) (S .x) (S .y)) ≡ holds f v
-      go true q r n = holds-withConstant f _ v q (rw (eq-eqb (f .a) i (n tt), n tt) (S .alike (f .c) F (order f)))
-      go false q r n = holds-pair f _ v q (seats-alike (order f) (seat (f .a) p) (seat (f .b) r))
+      go true q P r n = holds-withConstant f _ v q (rw (eq-eqb (f .a) i (n tt), n tt) (S .alike (f .c) P (order f) (ends-of (order f) o)))
+      go false q P r n = holds-pair f _ v q (seats-alike (order f) o (seat (f .a) p) (seat (f .b) r))
 
-module _ (l : List ℕ) (E : Ends l) (v : ℕ → ℕ) (small : (k : ℕ) → v k < 2 ^ 32) where
+module _ (l : List ℕ) (v : ℕ → ℕ) (small : (k : ℕ) → v k < 2 ^ 32) where
   -- j is the other variable that g compares
-  joined : (f g : Operation) → Point l (f .c) → Point l (g .c) → Compares g (f .a) → Compares g (partner f) → Tried l f g v (joint (f .a))
+  joined : (f g : Operation) → Ends l (order f) → Ends l (order g) → Point l (bound f) → Point l (bound g)
+      → Compares g (f .a) → Compares g (partner f) → Tried l f g v (joint (f .a))
   unfolding Compares
-  joined f g F G p q = go p q
+  joined f g E F P Q p q = go p q
     where
       by : (j : ℕ) → (partner f ≡ f .a) ⊎ (partner f ≡ j) → (g .a ≡ f .a) ⊎ (g .a ≡ j) → (partner g ≡ f .a) ⊎ (partner g ≡ j)
           → (T (withConstant g) → g .a ≡ f .a) → Tried l f g v (joint (f .a))
       by j p q r n =
-          let S = stand l E (v (f .a)) (v j) (small (f .a)) (small j) in
+          let S = stand l (order f) (order g) E F (v (f .a)) (v j) (small (f .a)) (small j) in
           record {
             x = S .x;
             y = S .y;
             x-in = S .x-in;
             y-in = S .y-in;
-            same-f = fits v (f .a) j S f F (inl refl) p (λ _. refl);
-            same-g = fits v (f .a) j S g G q r n;
+            same-f = fits E F v (f .a) j S f the-first P (inl refl) p (λ _. refl);
+            same-g = fits E F v (f .a) j S g the-second Q q r n;
           }
 
       first : (b : Bool) → T b → f .a ≡ cond b (g .a) (g .b) → g .a ≡ f .a
@@ -117,51 +135,57 @@ module _ (l : List ℕ) (E : Ends l) (v : ℕ → ℕ) (small : (k : ℕ) → v 
       go (inr p) q = by (g .a) (elim q [ inl r ↦ inr r | inr r ↦ inl (r ∙ sym p) ]) (inr refl) (inl (sym p)) (λ t. first (withConstant g) t p)
 
   -- ---- each with a variable of its own
-  -- with x at variable i of f and 1 at its other one, f does as the values do
-  record Alone (f : Operation) (i : ℕ) : Type 0 where
+  -- with x at variable i of f and z at its other one, f does as the values do
+  record Alone (z : ℕ) (f : Operation) (i : ℕ) : Type 0 where
     x : ℕ
     x-in : T (has l x)
-    does : (e : ℕ → ℕ) → e i ≡ x → ((k : ℕ) → Compares f k → k ≢ i → e k ≡ 1) → holds f e ≡ holds f v
+    does : (e : ℕ → ℕ) → e i ≡ x → ((k : ℕ) → Compares f k → k ≢ i → e k ≡ z) → holds f e ≡ holds f v
 
-  -- a point that compares with 1 as u does with w
-  beside : (s : Order) (u w : ℕ) → (x : ℕ) × T (has l x) × Alike s x 1 u w
-  beside s u w = elim (beside-one s u w) [ inl (inl A) ↦ (0, E .zero .this, A) | inl (inr A) ↦ (1, E .zero .next, A) | inr A ↦ (2 ^ 32 - 1, E .top .this, A) ]
+  -- z is a point, and at no end of the order from s on
+  module _ (z : ℕ) (hz : z < 2 ^ 32) (z-in : T (has l z)) where
+    -- a point that compares with z as u does with w
+    beside-z : (s : ℕ) → Ends l s → z ≢ s → z ≢ minus s 1 → (u w : ℕ) → (x : ℕ) × T (has l x) × Alike s x z u w
+    beside-z s E n m u w = elim (beside s (E .least .small) z u w hz n m) [
+      | inl (inl A) ↦ (s, E .least .this, A)
+      | inl (inr A) ↦ (z, z-in, A)
+      | inr A ↦ (minus s 1, E .greatest .this, A)
+    ]
 
-  alone : (f : Operation) → Point l (f .c) → (i : ℕ) → Compares f i → Alone f i
-  unfolding Compares
-  alone f F i r = go (withConstant f) refl (ℕ-discrete (f .a) (f .b)) r
-    where
-      go : (b : Bool) → withConstant f ≡ b → Dec (f .a ≡ f .b) → (i ≡ f .a) ⊎ (i ≡ cond b (f .a) (f .b)) → Alone f i
-      go true q h r =
-          let z : i ≡ f .a = elim r [ inl p ↦ p | inr p ↦ p ] in
-          let B = below l E (v (f .a)) (small (f .a)) in
-          record { x = B .x; x-in = B .x-in; does = λ e p n. holds-withConstant f e v q (rw (← z, p) (rw z (B .alike (f .c) F (order f)))) }
-      go false q (yes h) r =
-          record {
-            x = 0;
-            x-in = E .zero .this;
-            does = λ e p n. holds-pair f e v q (subst (λ (k : ℕ). Alike (order f) (e (f .a)) (e k) (v (f .a)) (v k)) h (same-self _ _));
-          }
-      go false q (no h) (inl r) =
-          let (x, t, A) = beside (order f) (v (f .a)) (v (f .b)) in
-          record {
-            x = x;
-            x-in = t;
-            does = λ e p n. holds-pair f e v q (subst₂ (λ (k m : ℕ). Alike (order f) k m (v (f .a)) (v (f .b)))
-                (sym (ap e (sym r) ∙ p)) (sym (n (f .b) (inr (rw q)) (λ z. h (sym (z ∙ r))))) A);
-          }
-      go false q (no h) (inr r) =
-          let (x, t, A) = beside (order f) (v (f .b)) (v (f .a)) in
-          record {
-            x = x;
-            x-in = t;
-            does = λ e p n. holds-pair f e v q (subst₂ (λ (k m : ℕ). Alike (order f) k m (v (f .a)) (v (f .b)))
-                (sym (n (f .a) (inl refl) (λ z. h (z ∙ r)))) (sym (ap e (sym r) ∙ p)) (same-flip A));
-          }
+    alone : (f : Operation) → Ends l (order f) → z ≢ order f → z ≢ minus (order f) 1 → Point l (bound f) → (i : ℕ) → Compares f i → Alone z f i
+    unfolding Compares
+    alone f E n m P i r = go (withConstant f) refl P (ℕ-discrete (f .a) (f .b)) r
+      where
+        go : (b : Bool) → withConstant f ≡ b → Point l (cond b (f .c) (order f)) → Dec (f .a ≡ f .b) → (i ≡ f .a) ⊎ (i ≡ cond b (f .a) (f .b)) → Alone z f i
+        go true q P h r =
+            let k : i ≡ f .a = elim r [ inl p ↦ p | inr p ↦ p ] in
+            let B = below l (order f) E (v (f .a)) (small (f .a)) in
+            record { x = B .x; x-in = B .x-in; does = λ e p n. holds-withConstant f e v q (rw (← k, p) (rw k (B .alike (f .c) P (order f) E))) }
+        go false q P (yes h) r =
+            record {
+              x = z;
+              x-in = z-in;
+              does = λ e p n. holds-pair f e v q (subst (λ (k : ℕ). Alike (order f) (e (f .a)) (e k) (v (f .a)) (v k)) h (same-self _ _));
+            }
+        go false q P (no h) (inl r) =
+            let (x, t, A) = beside-z (order f) E n m (v (f .a)) (v (f .b)) in
+            record {
+              x = x;
+              x-in = t;
+              does = λ e p n. holds-pair f e v q (subst₂ (λ (k m : ℕ). Alike (order f) k m (v (f .a)) (v (f .b)))
+                  (sym (ap e (sym r) ∙ p)) (sym (n (f .b) (inr (rw q)) (λ z. h (sym (z ∙ r))))) A);
+            }
+        go false q P (no h) (inr r) =
+            let (x, t, A) = beside-z (order f) E n m (v (f .b)) (v (f .a)) in
+            record {
+              x = x;
+              x-in = t;
+              does = λ e p n. holds-pair f e v q (subst₂ (λ (k m : ℕ). Alike (order f) k m (v (f .a)) (v (f .b)))
+                  (sym (n (f .a) (inl refl) (λ z. h (z ∙ r)))) (sym (ap e (sym r) ∙ p)) (same-flip A));
+            }
 
-module _ (i j x y : ℕ) where
+module _ (i j z x y : ℕ) where
   abbrev loose : Seats
-  loose = record { first = i; second = j; apart = true }
+  loose = record { first = i; second = j; apart = true; rest = z }
 
   trial-first : trial loose x y i ≡ x
   unfolding trial
@@ -171,7 +195,7 @@ module _ (i j x y : ℕ) where
   unfolding trial
   trial-second n = rw (ne-eqb j i n, eq-eqb j j refl)
 
-  trial-rest : (k : ℕ) → k ≢ i → k ≢ j → trial loose x y k ≡ 1
+  trial-rest : (k : ℕ) → k ≢ i → k ≢ j → trial loose x y k ≡ z
   unfolding trial
   trial-rest k n m = rw (ne-eqb k i n, ne-eqb k j m)
 
@@ -185,41 +209,61 @@ own-own f g t = go (compares g (f .a)) refl t
     go false q t = (inl refl, compares-not g (f .a) (rw q tt))
 
 -- ---- all three cases
+pub bound-small : (f : Operation) → f .c < 2 ^ 32 → bound f < 2 ^ 32
+bound-small f h = go (withConstant f)
+  where
+    go : (b : Bool) → cond b (f .c) (order f) < 2 ^ 32
+    go true = h
+    go false = order-small f
+
+pub points-small : (f g : Operation) → bound f < 2 ^ 32 → bound g < 2 ^ 32 → All (λ x. x < 2 ^ 32) (pointsOf f g)
+points-small f g c d =
+    let s = order-small f in
+    let t = order-small g in
+    omega arith
+
 module _ (f g : Operation) (hf : f .c < 2 ^ 32) (hg : g .c < 2 ^ 32) (v : ℕ → ℕ) (small : (k : ℕ) → v k < 2 ^ 32) where
   abbrev P : List ℕ
-  P = points (f .c) (g .c)
+  P = pointsOf f g
+
+  abbrev z : ℕ
+  z = plus (order f) 1
 
   pub tried : Tried P f g v (seats f g)
   unfolding seats
   tried = go (inside f g) (inside g f) refl refl
     where
-      E : Ends P
-      E = ends (f .c) (g .c)
+      E : Ends P (order f)
+      E = ends-s _ _ _ _ (order-small f)
 
-      F : Point P (f .c)
-      F = point-c (f .c) (g .c) hf
+      E′ : Ends P (order g)
+      E′ = ends-t (order f) (order g) (bound f) (bound g) (order-small g)
 
-      G : Point P (g .c)
-      G = point-d (f .c) (g .c) hg
+      F : Point P (bound f)
+      F = point-c (order f) (order g) (bound f) (bound g) (bound-small f hf)
+
+      G : Point P (bound g)
+      G = point-d (order f) (order g) (bound f) (bound g) (bound-small g hg)
 
       go : (b d : Bool) → inside f g ≡ b → inside g f ≡ d
-          → Tried P f g v (cond b (joint (f .a)) (cond d (joint (g .a)) (record { first = own f g; second = own g f; apart = true })))
+          → Tried P f g v (cond b (joint (f .a)) (cond d (joint (g .a)) (record { first = own f g; second = own g f; apart = true; rest = z })))
       go true d q r =
           let (m, n) = T-and (compares g (f .a)) (compares g (partner f)) (rw q tt) in
-          joined P E v small f g F G (compares-is g (f .a) m) (compares-is g (partner f) n)
+          joined P v small f g E E′ F G (compares-is g (f .a) m) (compares-is g (partner f) n)
       go false true q r =
           let (m, n) = T-and (compares f (g .a)) (compares f (partner g)) (rw r tt) in
-          tried-swap (joined P E v small g f G F (compares-is f (g .a) m) (compares-is f (partner g) n))
+          tried-swap (joined P v small g f E′ E G F (compares-is f (g .a) m) (compares-is f (partner g) n))
       go false false q r =
           let (mf, nf) = own-own f g (rw q tt) in
           let (mg, ng) = own-own g f (rw r tt) in
-          let M = alone P E v small f F (own f g) mf in
-          let N = alone P E v small g G (own g f) mg in
+          let hz : z < 2 ^ 32 = mod-lt _ (pow-pos 32) in
+          let M = alone P v small z hz (E .least .next) f E (inside-both f f .0) (inside-both f f .1) F (own f g) mf in
+          let N = alone P v small z hz (E .least .next) g E′ (inside-both f g .0) (inside-both f g .1) G (own g f) mg in
           record {
             x = M .x;
             y = N .x;
             x-in = M .x-in;
             y-in = N .x-in;
-            same-f = M .does _ (trial-first _ _ _ _) (λ k h n. trial-rest _ _ _ _ k n (λ e. ng (subst (Compares f) e h)));
-            same-g = N .does _ (trial-second _ _ _ _ (λ e. nf (subst (Compares g) e mg))) (λ k h n. trial-rest _ _ _ _ k (λ e. nf (subst (Compares g) e h)) n);
+            same-f = M .does _ (trial-first _ _ _ _ _) (λ k h n. trial-rest _ _ _ _ _ k n (λ e. ng (subst (Compares f) e h)));
+            same-g = N .does _ (trial-second _ _ _ _ _ (λ e. nf (subst (Compares g) e mg))) (λ k h n. trial-rest _ _ _ _ _ k (λ e. nf (subst (Compares g) e h)) n);
           }

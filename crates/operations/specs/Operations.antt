@@ -2,7 +2,7 @@
 -- An operation is the code "op" of a row with its operands a, b and c. Values are given by number of the variable.
 use mathlib.Core.Bool.{Bool, true, false, cond, _&&_, not}
 use mathlib.Core.List.{List, [], _∷_, _++_}
-use Prim.Native.Nat.{ℕ, _+_, _-_, _%_, _^_}
+use Prim.Native.Nat.{ℕ, _+_, _-_, _/_, _%_, _^_}
 use lib.Dec.{eqb, leb, ltb}
 use lib.ListN.{getD}
 use Rattle.base.specs.Tests.{within}
@@ -14,11 +14,13 @@ use Rattle.operations.specs.declared.Operand.the-variants.{Variable, Con
 
 -- ---- kinds
 -- "Operation codes run 0 to 5, 16 to 21 and 32 to 37": assignments, comparisons with a constant, comparisons of two
--- variables
+-- variables; "Codes 24 to 29 and 40 to 45 repeat 16 to 21 and 32 to 37" (document 02, #102)
 unfoldable pub kind : ℕ → Kind
 kind code =
     cond (within 0 5 code) Assignment
-    (cond (within 16 21 code) ConstantComparison (cond (within 32 37 code) VariableComparison Unknown))
+    (cond (within 16 21 code) ConstantComparison
+    (cond (within 24 29 code) ConstantComparison
+    (cond (within 32 37 code) VariableComparison (cond (within 40 45 code) VariableComparison Unknown))))
 
 -- what is said of each kind: "match on the code with ranges for assignments, constant and two-variable comparisons, and
 -- the unknown rest"
@@ -36,12 +38,13 @@ isKnown o = byKind (kind (o .code)) true true true false
 abbrev pub isAssignment : Operation → Bool
 isAssignment o = byKind (kind (o .code)) true false false false
 
--- "Assumptions: 16 + r compares va with c; 32 + r compares va with vb"
+-- "Assumptions: 16 + r compares va with c; 32 + r compares va with vb", and the twelve codes that repeat these
 abbrev pub isAssumption : Operation → Bool
 isAssumption o = byKind (kind (o .code)) false true true false
 
 -- ---- operands
--- "Unused operands are 0: b in codes 0 and 16 to 21; c in codes 1, 5 and 32 to 37"
+-- "Unused operands are 0: b in codes 0 and 16 to 21; c in codes 1, 5 and 32 to 37". It goes by the kind of a code, so
+-- that b is unused in 24 to 29 too: "7 treats them as the unsigned ones" (document 02, #102)
 unfoldable pub operandB : Operation → Operand
 operandB o = byKind (kind (o .code)) (cond (eqb (o .code) 0) Unused Variable) Unused Variable Unused
 
@@ -49,7 +52,7 @@ operandB o = byKind (kind (o .code)) (cond (eqb (o .code) 0) Unused Variable) Un
 unfoldable pub assignedC : ℕ → Operand
 assignedC code = getD (Constant ∷ Unused ∷ Constant ∷ Variable ∷ Variable ∷ Unused ∷ []) code Unused
 
--- "c in codes 1, 5 and 32 to 37" is unused
+-- "c in codes 1, 5 and 32 to 37" is unused, and in 40 to 45, which "7 treats .. as the unsigned ones"
 unfoldable pub operandC : Operation → Operand
 operandC o = byKind (kind (o .code)) (assignedC (o .code)) Constant Unused Unused
 
@@ -84,8 +87,8 @@ same o o′ = eqb (o .code) (o′ .code) && (eqb (o .a) (o′ .a) && (eqb (o .b)
 abbrev pub plus : ℕ → ℕ → ℕ
 plus x y = (x + y) % 2 ^ 32
 
--- "Here sums and differences wrap at 4,294,967,296": the difference, now of code 5 alone, "Codes 2, 3 and 5 go on
--- wrapping" (document 02, #105)
+-- "Here sums and differences wrap at 4,294,967,296": the difference, of assignments now that of code 5 alone, "Codes 2,
+-- 3 and 5 go on wrapping" (document 02, #105); and a distance in an order, below
 abbrev pub minus : ℕ → ℕ → ℕ
 minus x y = (x + (2 ^ 32 - y)) % 2 ^ 32
 
@@ -106,28 +109,40 @@ value o v =
     ∷ minus 0 (v (o .b))
     ∷ []) (o .code) 0
 
+-- ---- orders
+-- An order of the values is given by its least one: from there on they ascend by 1, and after 4,294,967,295 comes 0.
+-- "unsigned": from 0 on
+abbrev pub unsigned : ℕ
+unsigned = 0
+
+-- "values read as two's complement of 32 bits" (document 02, #102): from -2^31 on, which is written 2^31
+abbrev pub signed : ℕ
+signed = 2 ^ 31
+
+-- the order in which an operation compares: "Codes 24 to 29 and 40 to 45" are signed, and 24 and 40 are odd multiples
+-- of 8, 16 and 32 even ones
+abbrev pub order : Operation → ℕ
+order o = cond (eqb (o .code / 8 % 2) 1) signed unsigned
+
+-- where x stands in the order with this least value: how many values come before it
+abbrev pub key : ℕ → ℕ → ℕ
+key least x = minus x least
+
 -- ---- assumptions
--- the order in which an assumption compares: all are "unsigned"
-pub data Order : Type 0 where
-  unsigned : Order
-
--- that of an operation: "unsigned", of every code
-abbrev pub order : Operation → Order
-order o = unsigned
-
--- a number that stands where the value stands in that order, "unsigned"
-abbrev pub key : Order → ℕ → ℕ
-key unsigned x = x
-
 -- "r: 0 =, 1 ≠, 2 <, 3 ≤, 4 >, 5 ≥"
 unfoldable pub related : ℕ → ℕ → ℕ → Bool
 related r x y = getD (eqb x y ∷ not (eqb x y) ∷ ltb x y ∷ leb x y ∷ ltb y x ∷ leb y x ∷ []) r false
 
--- the r of "16 + r" and "32 + r", both multiples of 8
+-- whether r holds of two values in the order with this least value: "values read as two's complement of 32 bits,
+-- constants too" (document 02, #102)
+abbrev pub compared : ℕ → ℕ → ℕ → ℕ → Bool
+compared least r x y = related r (key least x) (key least y)
+
+-- the r of "16 + r" and "32 + r", and of 24 + r and 40 + r, all multiples of 8
 abbrev pub relation : Operation → ℕ
 relation o = o .code % 8
 
--- "16 + r compares va with c"
+-- "16 + r compares va with c", and so does 24 + r
 abbrev pub withConstant : Operation → Bool
 withConstant o = byKind (kind (o .code)) false true false false
 
@@ -137,4 +152,4 @@ right o v = cond (withConstant o) (o .c) (v (o .b))
 
 -- "an assumption must hold of the values": whether it does
 unfoldable pub holds : Operation → (ℕ → ℕ) → Bool
-holds o v = related (relation o) (key (order o) (v (o .a))) (key (order o) (right o v))
+holds o v = compared (order o) (relation o) (v (o .a)) (right o v)

@@ -4,14 +4,14 @@
 -- (proofs/Exact.antt): whoever believes that file may pass over this one.
 use mathlib.Core.Bool.{Bool, true, false, cond, _&&_, _||_, not}
 use mathlib.Core.List.{List, [], _∷_}
-use Prim.Native.Nat.{ℕ, _-_, _^_}
+use Prim.Native.Nat.{ℕ}
 use lib.Dec.{eqb}
 use Rattle.base.specs.Lists.{any}
 use Rattle.operations.specs.declared.Operation.{Operation}
 use Rattle.operations.specs.declared.assumptions.Implication.{Implication}
 use Rattle.operations.specs.declared.assumptions.Implication.the-variants.{Never, Implied, NotImplied}
 use Rattle.operations.specs.declared.inner.trials.Seats.{Seats}
-use Rattle.operations.specs.Operations.{withConstant, plus, holds}
+use Rattle.operations.specs.Operations.{withConstant, plus, minus, order, holds}
 
 -- ---- "all values": the few that stand for them
 -- "all values meeting the first meet the second", of one pair of values: the second is as the first says
@@ -36,20 +36,31 @@ abbrev pub own : Operation → Operation → ℕ
 own f g = cond (compares g (f .a)) (partner f) (f .a)
 
 -- for "all values", which variables a trial gives x and y to: where one is inside the other, x to its first variable
--- and y to all others; else x and y to a variable that only f and only g compares, and 1 to all others
+-- and y to all others; else x and y to a variable that only f and only g compares, and to all others a value that is at
+-- no end of either order
 unfoldable pub seats : Operation → Operation → Seats
 seats f g =
-    cond (inside f g) (record { first = f .a; second = f .a; apart = false })
-    (cond (inside g f) (record { first = g .a; second = g .a; apart = false })
-    (record { first = own f g; second = own g f; apart = true }))
+    cond (inside f g) (record { first = f .a; second = f .a; apart = false; rest = 0 })
+    (cond (inside g f) (record { first = g .a; second = g .a; apart = false; rest = 0 })
+    (record { first = own f g; second = own g f; apart = true; rest = plus (order f) 1 }))
 
 -- one of "all values", the trial with x and y: the value that it gives to variable k
 unfoldable pub trial : Seats → ℕ → ℕ → ℕ → ℕ
-trial s x y k = cond (eqb k (s .first)) x (cond (eqb k (s .second)) y (cond (s .apart) 1 y))
+trial s x y k = cond (eqb k (s .first)) x (cond (eqb k (s .second)) y (cond (s .apart) (s .rest) y))
 
--- of "all values" those that are tried: where a comparison with a constant or with an end of the order can change
-abbrev pub points : ℕ → ℕ → List ℕ
-points c d = 0 ∷ 1 ∷ c ∷ plus c 1 ∷ d ∷ plus d 1 ∷ (2 ^ 32 - 1) ∷ []
+-- the c of "compares va with c", where f has it; else the least value of its order, which is tried anyway
+abbrev pub bound : Operation → ℕ
+bound f = cond (withConstant f) (f .c) (order f)
+
+-- of "all values" those that are tried: where a comparison with c in the order from s on, or with d in the order from t
+-- on, can change; and of both orders the greatest value, the least and the one after it
+abbrev pub points : ℕ → ℕ → ℕ → ℕ → List ℕ
+points s t c d =
+    minus s 1 ∷ s ∷ plus s 1 ∷ t ∷ plus t 1 ∷ c ∷ plus c 1 ∷ d ∷ plus d 1 ∷ minus t 1 ∷ []
+
+-- of "all values" those that are tried on f and g
+abbrev pub pointsOf : Operation → Operation → List ℕ
+pointsOf f g = points (order f) (order g) (bound f) (bound g)
 
 -- "values meeting the first meet the second", or not: the trial with x and y meets f or not as p says, and g as q says
 unfoldable pub shown : Seats → Operation → Bool → Operation → Bool → ℕ → ℕ → Bool
@@ -61,7 +72,7 @@ shownBy s f p g q l x = any (shown s f p g q x) l
 
 -- of "all values" some meet f or not as p says, and g as q says: some trial shows it
 unfoldable pub together : Operation → Bool → Operation → Bool → Bool
-together f p g q = any (shownBy (seats f g) f p g q (points (f .c) (g .c))) (points (f .c) (g .c))
+together f p g q = any (shownBy (seats f g) f p g q (pointsOf f g)) (pointsOf f g)
 
 -- ---- the answers
 -- not "some values meet the new assumption"

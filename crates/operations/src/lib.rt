@@ -5,7 +5,7 @@ ghost use mathlib.Core.Path.{_≡_};
 ghost use mathlib.Core.Bool.{_&&_};
 ghost use Prim.Native.Nat.{ℕ, _^_, _<_};
 ghost use lib.Dec.{ltb};
-ghost use Rattle.operations.specs.Operations.{kind, isKnown, isAssignment, isAssumption, withConstant, operandB, assignedC, operandC, fits, operandsFit};
+ghost use Rattle.operations.specs.Operations.{kind, isKnown, isAssignment, isAssumption, withConstant, order, operandB, assignedC, operandC, fits, operandsFit};
 
 pub mod assumptions; // assumptions.rt: the exact test of two assumptions
 pub mod inner; // inner.rt: for the crates above
@@ -33,15 +33,17 @@ pub enum Operand {
     Unused,
 }
 
-// Kinds of codes are told apart here and nowhere else; the tables of limit_b, limit_c and opposite (inner/opposed.rt)
-// go by the codes themselves.
+// Kinds of codes are told apart by ranges here alone; with_constant reckons with the code, and the tables of limit_b,
+// limit_c and opposite (inner/opposed.rt) go by the codes themselves.
 pub fn kind_of(code: u32) -> Kind
     ensures { λ r. ⌜ r ≡ kind code ⌝ }
 {
     match code {
         0..=5 => Kind::Assignment,
         16..=21 => Kind::ConstantComparison,
+        24..=29 => Kind::ConstantComparison,
         32..=37 => Kind::VariableComparison,
+        40..=45 => Kind::VariableComparison,
         _ => Kind::Unknown,
     }
 }
@@ -87,16 +89,21 @@ pub fn is_assumption(o: Operation) -> bool
     }
 }
 
-// Whether it compares with its constant.
+// Whether it compares with its constant: reckoned with the code, so that the step, which asks it of every assumption,
+// takes no jump.
 pub fn with_constant(o: Operation) -> bool
     ensures { λ r. ⌜ r ≡ withConstant o ⌝ }
 {
-    match kind_of(o.code) {
-        Kind::Assignment => false,
-        Kind::ConstantComparison => true,
-        Kind::VariableComparison => false,
-        Kind::Unknown => false,
-    }
+    // The code that this one repeats, if it repeats one.
+    let code = o.code / 16 * 16 + o.code % 8;
+    std::num::wrapping_sub_u32(code, 16) < 6
+}
+
+// The least value of the order in which it compares: 0, or that of two's complement.
+pub fn order_of(o: Operation) -> u32
+    ensures { λ r. ⌜ r ≡ order o ⌝ }
+{
+    if o.code / 8 % 2 == 1 { 2147483648 } else { 0 }
 }
 
 // What b is to an operation.
@@ -184,12 +191,24 @@ fn limit_b(code: u32) -> u32
         19 => 1,
         20 => 1,
         21 => 1,
+        24 => 1,
+        25 => 1,
+        26 => 1,
+        27 => 1,
+        28 => 1,
+        29 => 1,
         32 => 64,
         33 => 64,
         34 => 64,
         35 => 64,
         36 => 64,
         37 => 64,
+        40 => 64,
+        41 => 64,
+        42 => 64,
+        43 => 64,
+        44 => 64,
+        45 => 64,
         _ => 0,
     }
 }
@@ -213,12 +232,24 @@ fn limit_c(code: u32) -> u64
         19 => 4294967296,
         20 => 4294967296,
         21 => 4294967296,
+        24 => 4294967296,
+        25 => 4294967296,
+        26 => 4294967296,
+        27 => 4294967296,
+        28 => 4294967296,
+        29 => 4294967296,
         32 => 1,
         33 => 1,
         34 => 1,
         35 => 1,
         36 => 1,
         37 => 1,
+        40 => 1,
+        41 => 1,
+        42 => 1,
+        43 => 1,
+        44 => 1,
+        45 => 1,
         _ => 0,
     }
 }

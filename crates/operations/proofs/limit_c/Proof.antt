@@ -58,30 +58,78 @@ returns-12 c = λ o e x l. rw (e ∙ c .match .keys12) (lt-ltb x _ (omega arith)
 
 returns-13 : tie.Need-returns-13
 unfolding kind assignedC operandC
-returns-13 c = λ o e x l. rw (e ∙ c .match .keys13) (below-one x)
+returns-13 c = λ o e x l. rw (e ∙ c .match .keys13) (lt-ltb x _ (omega arith))
 
 returns-14 : tie.Need-returns-14
 unfolding kind assignedC operandC
-returns-14 c = λ o e x l. rw (e ∙ c .match .keys14) (below-one x)
+returns-14 c = λ o e x l. rw (e ∙ c .match .keys14) (lt-ltb x _ (omega arith))
 
 returns-15 : tie.Need-returns-15
 unfolding kind assignedC operandC
-returns-15 c = λ o e x l. rw (e ∙ c .match .keys15) (below-one x)
+returns-15 c = λ o e x l. rw (e ∙ c .match .keys15) (lt-ltb x _ (omega arith))
 
 returns-16 : tie.Need-returns-16
 unfolding kind assignedC operandC
-returns-16 c = λ o e x l. rw (e ∙ c .match .keys16) (below-one x)
+returns-16 c = λ o e x l. rw (e ∙ c .match .keys16) (lt-ltb x _ (omega arith))
 
 returns-17 : tie.Need-returns-17
 unfolding kind assignedC operandC
-returns-17 c = λ o e x l. rw (e ∙ c .match .keys17) (below-one x)
+returns-17 c = λ o e x l. rw (e ∙ c .match .keys17) (lt-ltb x _ (omega arith))
 
 returns-18 : tie.Need-returns-18
 unfolding kind assignedC operandC
-returns-18 c = λ o e x l. rw (e ∙ c .match .keys18) (below-one x)
+returns-18 c = λ o e x l. rw (e ∙ c .match .keys18) (lt-ltb x _ (omega arith))
 
 returns-19 : tie.Need-returns-19
-returns-19 c = λ o e x l. rw (e, ← no-code _ (c .match .rest)) (leb·suc-zero x)
+unfolding kind assignedC operandC
+returns-19 c = λ o e x l. rw (e ∙ c .match .keys19) (below-one x)
+
+returns-20 : tie.Need-returns-20
+unfolding kind assignedC operandC
+returns-20 c = λ o e x l. rw (e ∙ c .match .keys20) (below-one x)
+
+returns-21 : tie.Need-returns-21
+unfolding kind assignedC operandC
+returns-21 c = λ o e x l. rw (e ∙ c .match .keys21) (below-one x)
+
+returns-22 : tie.Need-returns-22
+unfolding kind assignedC operandC
+returns-22 c = λ o e x l. rw (e ∙ c .match .keys22) (below-one x)
+
+returns-23 : tie.Need-returns-23
+unfolding kind assignedC operandC
+returns-23 c = λ o e x l. rw (e ∙ c .match .keys23) (below-one x)
+
+returns-24 : tie.Need-returns-24
+unfolding kind assignedC operandC
+returns-24 c = λ o e x l. rw (e ∙ c .match .keys24) (below-one x)
+
+returns-25 : tie.Need-returns-25
+unfolding kind assignedC operandC
+returns-25 c = λ o e x l. rw (e ∙ c .match .keys25) (below-one x)
+
+returns-26 : tie.Need-returns-26
+unfolding kind assignedC operandC
+returns-26 c = λ o e x l. rw (e ∙ c .match .keys26) (below-one x)
+
+returns-27 : tie.Need-returns-27
+unfolding kind assignedC operandC
+returns-27 c = λ o e x l. rw (e ∙ c .match .keys27) (below-one x)
+
+returns-28 : tie.Need-returns-28
+unfolding kind assignedC operandC
+returns-28 c = λ o e x l. rw (e ∙ c .match .keys28) (below-one x)
+
+returns-29 : tie.Need-returns-29
+unfolding kind assignedC operandC
+returns-29 c = λ o e x l. rw (e ∙ c .match .keys29) (below-one x)
+
+returns-30 : tie.Need-returns-30
+unfolding kind assignedC operandC
+returns-30 c = λ o e x l. rw (e ∙ c .match .keys30) (below-one x)
+
+returns-31 : tie.Need-returns-31
+returns-31 c = λ o e x l. rw (e, ← no-code _ (c .match .rest)) (leb·suc-zero x)
 
 pub limit-c-spec : {M : Type 1} → statement M
 limit-c-spec =
@@ -105,4 +153,16 @@ limit-c-spec =
     returns-16
     returns-17
     returns-18
-    returns-19)
+    returns-19
+    returns-20
+    returns-21
+    returns-22
+    returns-23
+    returns-24
+    returns-25
+    returns-26
+    returns-27
+    returns-28
+    returns-29
+    returns-30
+    returns-31)

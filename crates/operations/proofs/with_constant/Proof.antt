@@ -1,46 +1,21 @@
--- `operations::with_constant` meets its contract: kind by kind. Assumes nothing.
-use mathlib.Core.Path.{sym, _∙_}
+-- `operations::with_constant` meets its contract: by the code that it repeats. Assumes nothing.
+use native.Mathlib.Omega.{arith}
 use borrow.Author.Needs.{needs}
+use Rattle.operations.proofs.Codes.{constant-codes}
 use Rattle.operations.proofs.with_constant.Statement.{statement}
 use Rattle.operations.proofs.with_constant.Tie as tie
 
-kind-of-requires : tie.Need-kind-of-requires
-kind-of-requires c κs = search needs
+mul-code : tie.Need-mul-code
+mul-code c = search needs
 
-enum-told : tie.Need-enum-told
-enum-told c = search needs
+add-code : tie.Need-add-code
+add-code c = search needs
 
-enum-told-2 : tie.Need-enum-told-2
-enum-told-2 c = search needs
-
-enum-told-3 : tie.Need-enum-told-3
-enum-told-3 c = search needs
-
-enum-told-4 : tie.Need-enum-told-4
-enum-told-4 c = search needs
+wrapping-sub-u32-requires : tie.Need-wrapping-sub-u32-requires
+wrapping-sub-u32-requires c κs = search needs
 
 returns : tie.Need-returns
-returns c = rw (← (sym (c .enum-told .given .1) ∙ c .before .before .kind-of .ensures))
-
-returns-2 : tie.Need-returns-2
-returns-2 c = rw (← (sym (c .enum-told2 .given .1) ∙ c .before .before .kind-of .ensures))
-
-returns-3 : tie.Need-returns-3
-returns-3 c = rw (← (sym (c .enum-told3 .given .1) ∙ c .before .before .kind-of .ensures))
-
-returns-4 : tie.Need-returns-4
-returns-4 c = rw (← (sym (c .enum-told4 .given .1) ∙ c .before .before .kind-of .ensures))
+returns c = constant-codes _ _ (omega arith) (c .wrapping-sub-u32 .ensures)
 
 pub with-constant-spec : {M : Type 1} → statement M
-with-constant-spec =
-    tie.close
-    (tie.spec
-    kind-of-requires
-    enum-told
-    enum-told-2
-    enum-told-3
-    enum-told-4
-    returns
-    returns-2
-    returns-3
-    returns-4)
+with-constant-spec = tie.close (tie.spec mul-code add-code wrapping-sub-u32-requires returns)

@@ -4,9 +4,10 @@ ghost use mathlib.Core.Bool.{true};
 ghost use Prim.Native.Nat.{_<_};
 ghost use lib.ListN.{length};
 ghost use Rattle.operations.specs.Operations.{isAssignment, operandsFit, plus, minus, monus, value};
-ghost use Rattle.operations.specs.Operations.{related, right, holds};
+ghost use Rattle.operations.specs.Operations.{key, related, compared, right, holds};
 ghost use Rattle.operations.specs.Values.{var};
 use crate::Operation;
+use crate::order_of;
 use crate::with_constant;
 
 // The value of variable k.
@@ -19,14 +20,14 @@ fn held(values: &[u32], k: u32) -> u32
 }
 
 // The sum, which wraps.
-fn plus(x: u32, y: u32) -> u32
+pub fn plus(x: u32, y: u32) -> u32
     ensures { λ r. ⌜ r ≡ plus x y ⌝ }
 {
     std::num::wrapping_add_u32(x, y)
 }
 
 // The difference that wraps.
-fn minus(x: u32, y: u32) -> u32
+pub fn minus(x: u32, y: u32) -> u32
     ensures { λ r. ⌜ r ≡ minus x y ⌝ }
 {
     std::num::wrapping_sub_u32(x, y)
@@ -110,6 +111,20 @@ pub fn related(r: u32, x: u32, y: u32) -> bool
     (x < y) & when_below(r) | (x == y) & when_equal(r) | (y < x) & when_above(r)
 }
 
+// Where x stands in the order from `least` on.
+pub fn key(least: u32, x: u32) -> u32
+    ensures { λ r. ⌜ r ≡ key least x ⌝ }
+{
+    minus(x, least)
+}
+
+// The relation r between two values in the order from `least` on.
+pub fn compared(least: u32, r: u32, x: u32, y: u32) -> bool
+    ensures { λ b. ⌜ b ≡ compared least r x y ⌝ }
+{
+    related(r, key(least, x), key(least, y))
+}
+
 // What va is compared with.
 fn right(o: Operation, values: &[u32]) -> u32
     requires { ⌜ (operandsFit o ≡ true) × (length (now values) ≡ 64) ⌝ }
@@ -125,5 +140,5 @@ pub fn holds(o: Operation, values: &[u32]) -> bool
     requires { ⌜ (operandsFit o ≡ true) × (length (now values) ≡ 64) ⌝ }
     ensures { λ r. ⌜ r ≡ holds o (var (now (values .entry))) ⌝ }
 {
-    related(o.code % 8, held(values, o.a), right(o, values))
+    compared(order_of(o), o.code % 8, held(values, o.a), right(o, values))
 }

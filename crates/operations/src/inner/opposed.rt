@@ -5,7 +5,7 @@ ghost use Rattle.operations.specs.Operations.{isAssumption};
 ghost use Rattle.operations.specs.inner.Opposed.{OppositeCodes, Opposed};
 use crate::Operation;
 
-// The code that compares in the opposite way; 6, which is no code, where there is none.
+// The code that compares in the opposite way, in the same order; 6, which is no code, where there is none.
 fn opposite(code: u32) -> u32
     ensures { λ s. ⌜ ((s ≡ 6 → ⊥) → OppositeCodes code s) ⌝ }
 {
@@ -16,12 +16,24 @@ fn opposite(code: u32) -> u32
         19 => 20,
         20 => 19,
         21 => 18,
+        24 => 25,
+        25 => 24,
+        26 => 29,
+        27 => 28,
+        28 => 27,
+        29 => 26,
         32 => 33,
         33 => 32,
         34 => 37,
         35 => 36,
         36 => 35,
         37 => 34,
+        40 => 41,
+        41 => 40,
+        42 => 45,
+        43 => 44,
+        44 => 43,
+        45 => 42,
         _ => 6,
     }
 }

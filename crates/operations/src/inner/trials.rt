@@ -4,20 +4,26 @@ ghost use mathlib.Core.Path.{_≡_};
 ghost use mathlib.Core.Bool.{true, false};
 ghost use Rattle.base.specs.Lists.{any};
 ghost use Rattle.operations.specs.Operations.{withConstant, right, holds};
-ghost use Rattle.operations.specs.Trials.{alike, partner, compares, inside, own, seats, trial, points, shown, shownBy, together, never, implies};
+ghost use Rattle.operations.specs.Trials.{alike, partner, compares, inside, own, seats, trial, bound, points, shown, shownBy, together, never, implies};
 ghost use Rattle.operations.specs.inner.ShortWays.{paired, fixed, disjoint, independent, canBeBelow, canBeAbove, repeated, meetsBoth};
 use crate::Operation;
-use crate::inner::meaning::related;
+use crate::inner::meaning::compared;
+use crate::inner::meaning::key;
+use crate::inner::meaning::minus;
+use crate::inner::meaning::plus;
 use crate::inner::meaning::when_above;
 use crate::inner::meaning::when_below;
 use crate::inner::meaning::when_equal;
+use crate::order_of;
 use crate::with_constant;
 
-// The variables to which a trial gives its two values.
+// The variables to which a trial gives its two values, and what it gives to the others, where each of two assumptions
+// has a variable of its own.
 pub struct Seats {
     pub first: u32,
     pub second: u32,
     pub apart: bool,
+    pub rest: u32,
 }
 
 // The value that a trial with x and y gives to variable k.
@@ -30,7 +36,7 @@ fn trial(s: Seats, x: u32, y: u32, k: u32) -> u32
     if k == s.second {
         return y;
     }
-    if s.apart { 1 } else { y }
+    if s.apart { s.rest } else { y }
 }
 
 // What va is compared with in a trial.
@@ -48,7 +54,12 @@ fn right(f: Operation, s: Seats, x: u32, y: u32) -> u32
 fn holds(f: Operation, s: Seats, x: u32, y: u32) -> bool
     ensures { λ r. ⌜ r ≡ holds f (trial s x y) ⌝ }
 {
-    related(f.code % 8, trial(s, x, y, f.a), right(f, s, x, y))
+    compared(
+        order_of(f),
+        f.code % 8,
+        trial(s, x, y, f.a),
+        right(f, s, x, y),
+    )
 }
 
 // The second variable that f compares, if any, else the first.
@@ -86,6 +97,7 @@ fn seats_of(f: Operation, g: Operation) -> Seats
             first: f.a,
             second: f.a,
             apart: false,
+            rest: 0,
         };
     }
     if inside(g, f) {
@@ -93,12 +105,14 @@ fn seats_of(f: Operation, g: Operation) -> Seats
             first: g.a,
             second: g.a,
             apart: false,
+            rest: 0,
         };
     }
     Seats {
         first: own(f, g),
         second: own(g, f),
         apart: true,
+        rest: plus(order_of(f), 1),
     }
 }
 
@@ -141,31 +155,54 @@ fn shown_by_some(s: Seats, f: Operation, p: bool, g: Operation, q: bool, l: &[u3
     false
 }
 
-// The values that are tried.
-fn points(c: u32, d: u32) -> [u32; 7]
-    ensures { λ r. ⌜ r ≡ points c d ⌝ }
+// The constant that f compares with, if it has one; else the least value of its order.
+fn bound(f: Operation) -> u32
+    ensures { λ r. ⌜ r ≡ bound f ⌝ }
 {
-    let e = std::num::wrapping_add_u32(c, 1);
-    let h = std::num::wrapping_add_u32(d, 1);
-    [0, 1, c, e, d, h, 4294967295]
+    if with_constant(f) { f.c } else { order_of(f) }
 }
 
-// How many points at the front stand again after them.
-fn repeated(c: u32, d: u32) -> usize
-    ensures { λ r. ⌜ r ≡ repeated c d ⌝ }
+// The values that are tried, of the orders from s and t on and the constants c and d.
+fn points(s: u32, t: u32, c: u32, d: u32) -> [u32; 10]
+    ensures { λ r. ⌜ r ≡ points s t c d ⌝ }
 {
-    if c == 0 {
-        return if d == 0 { 4 } else { 2 };
+    [
+        minus(s, 1),
+        s,
+        plus(s, 1),
+        t,
+        plus(t, 1),
+        c,
+        plus(c, 1),
+        d,
+        plus(d, 1),
+        minus(t, 1),
+    ]
+}
+
+// So many points at the front are known to stand again after them.
+fn repeated(s: u32, t: u32, c: u32, d: u32) -> usize
+    ensures { λ r. ⌜ r ≡ repeated s t c d ⌝ }
+{
+    if s != t {
+        return 0;
     }
-    if d == 0 { 2 } else { 0 }
+    if c == t {
+        return if d == t { 7 } else { 5 };
+    }
+    if d == t { 5 } else { 3 }
 }
 
-// The search over all trials. Where a constant is 0, as an unused one is, points that stand again are not tried twice.
+// The search over all trials, without the points that are known to stand again.
 fn by_trials(f: Operation, p: bool, g: Operation, q: bool) -> bool
     ensures { λ r. ⌜ r ≡ together f p g q ⌝ }
 {
-    let l = points(f.c, g.c);
-    let k = repeated(f.c, g.c);
+    let s = order_of(f);
+    let t = order_of(g);
+    let c = bound(f);
+    let d = bound(g);
+    let l = points(s, t, c, d);
+    let k = repeated(s, t, c, d);
     shown_by_some(seats_of(f, g), f, p, g, q, &l[k..])
 }
 
@@ -173,7 +210,8 @@ fn by_trials(f: Operation, p: bool, g: Operation, q: bool) -> bool
 fn meets_both(f: Operation, p: bool, g: Operation, q: bool, x: u32) -> bool
     ensures { λ r. ⌜ r ≡ meetsBoth f p g q x ⌝ }
 {
-    alike(p, related(f.code % 8, x, f.c)) && alike(q, related(g.code % 8, x, g.c))
+    alike(p, compared(order_of(f), f.code % 8, x, f.c))
+        && alike(q, compared(order_of(g), g.code % 8, x, g.c))
 }
 
 fn met_by_some(f: Operation, p: bool, g: Operation, q: bool, l: &[u32]) -> bool
@@ -194,8 +232,11 @@ fn by_values(f: Operation, p: bool, g: Operation, q: bool) -> bool
     requires { ⌜ (withConstant f ≡ true) × (withConstant g ≡ true) × (f .a ≡ g .a) ⌝ }
     ensures { λ r. ⌜ r ≡ together f p g q ⌝ }
 {
-    let l = points(f.c, g.c);
-    met_by_some(f, p, g, q, &l)
+    let s = order_of(f);
+    let t = order_of(g);
+    let l = points(s, t, f.c, g.c);
+    let k = repeated(s, t, f.c, g.c);
+    met_by_some(f, p, g, q, &l[k..])
 }
 
 // Whether f and g both compare two variables, and f only those that g compares.
@@ -206,23 +247,36 @@ fn paired(f: Operation, g: Operation) -> bool
 }
 
 // The search where neither has a constant: only the order of the two variables matters, so that one is tried below, at
-// and above the other.
+// and above the other; and, where the two orders differ, below in the one and above in the other.
 fn by_orders(f: Operation, p: bool, g: Operation, q: bool) -> bool
     requires { ⌜ paired f g ≡ true ⌝ }
     ensures { λ r. ⌜ r ≡ together f p g q ⌝ }
 {
-    let s = Seats {
+    let s = order_of(f);
+    let t = order_of(g);
+    let e = plus(s, 1);
+    let seats = Seats {
         first: f.a,
         second: f.a,
         apart: false,
+        rest: 0,
     };
-    if shown(s, f, p, g, q, 0, 1) {
+    if shown(seats, f, p, g, q, s, e) {
         return true;
     }
-    if shown(s, f, p, g, q, 1, 1) {
+    if shown(seats, f, p, g, q, s, s) {
         return true;
     }
-    shown(s, f, p, g, q, 1, 0)
+    if shown(seats, f, p, g, q, e, s) {
+        return true;
+    }
+    if s == t {
+        return false;
+    }
+    if shown(seats, f, p, g, q, s, t) {
+        return true;
+    }
+    shown(seats, f, p, g, q, t, s)
 }
 
 // Whether f compares a variable with itself, so that it makes the same of all values.
@@ -260,26 +314,20 @@ pub fn sought(f: Operation, p: bool, g: Operation, q: bool) -> bool
     by_trials(f, p, g, q)
 }
 
-// Whether va can be below what f compares it with.
+// Whether va can be below what f compares it with. All of it is worked out, so that no jump depends on f.
 fn below(f: Operation) -> bool
     ensures { λ r. ⌜ r ≡ canBeBelow f ⌝ }
 {
-    if with_constant(f) {
-        0 < f.c
-    } else {
-        f.a != f.b
-    }
+    let w = with_constant(f);
+    w & (0 < key(order_of(f), f.c)) | !w & (f.a != f.b)
 }
 
-// Whether va can be above what f compares it with.
+// Whether va can be above what f compares it with, likewise.
 fn above(f: Operation) -> bool
     ensures { λ r. ⌜ r ≡ canBeAbove f ⌝ }
 {
-    if with_constant(f) {
-        f.c < 4294967295
-    } else {
-        f.a != f.b
-    }
+    let w = with_constant(f);
+    w & (key(order_of(f), f.c) < 4294967295) | !w & (f.a != f.b)
 }
 
 // Whether some values meet f if p says so, else not: va is below, at or above what it is compared with, and no trial

@@ -5,18 +5,21 @@ use borrow.Author.Needs.{needs}
 use Rattle.operations.proofs.inner.meaning.holds.Statement.{statement}
 use Rattle.operations.proofs.inner.meaning.holds.Tie as tie
 
+order-of-requires : tie.Need-order-of-requires
+order-of-requires c κs = search needs
+
 held-requires : tie.Need-held-requires
-held-requires c κs = (fit-a _ (c .before .before .pre .0), c .before .before .pre .1)
+held-requires c κs = (fit-a _ (c .before .before .before .pre .0), c .before .before .before .pre .1)
 
 right-requires : tie.Need-right-requires
 right-requires c κs = search needs
 
-related-requires : tie.Need-related-requires
-related-requires c κs = search needs
+compared-requires : tie.Need-compared-requires
+compared-requires c κs = search needs
 
 returns : tie.Need-returns
 unfolding holds
-returns c = rw (← c .before .before .held .ensures, ← c .before .right .ensures) (c .related .ensures)
+returns c = rw (← c .before .before .before .before .order-of .ensures, ← c .before .before .held .ensures, ← c .before .right .ensures) (c .compared .ensures)
 
 pub holds-spec : {M : Type 1} → statement M
-holds-spec = tie.close (tie.spec held-requires right-requires related-requires returns)
+holds-spec = tie.close (tie.spec order-of-requires held-requires right-requires compared-requires returns)

@@ -1,16 +1,28 @@
 -- `operations::inner::trials::above` meets its contract: by the sort of its operand. Assumes nothing.
+use mathlib.Core.Bool.{not}
+use Prim.Native.Nat.{_-_, _^_}
+use lib.Dec.{eqb, ltb}
 use borrow.Author.Needs.{needs}
+use Rattle.operations.specs.Operations.{withConstant, order, key}
+use Rattle.operations.proofs.Independent.{either}
 use Rattle.operations.proofs.inner.trials.above.Statement.{statement}
 use Rattle.operations.proofs.inner.trials.above.Tie as tie
 
 with-constant-requires : tie.Need-with-constant-requires
 with-constant-requires c κs = search needs
 
-returns : tie.Need-returns
-returns c = rw (← c .before .before .with-constant .ensures, c .before .if1 .taken)
+order-of-requires : tie.Need-order-of-requires
+order-of-requires c κs = search needs
 
-returns-2 : tie.Need-returns-2
-returns-2 c = rw (← c .before .before .with-constant .ensures, c .before .if1 .left)
+key-requires : tie.Need-key-requires
+key-requires c κs = search needs
+
+returns : tie.Need-returns
+returns c =
+    let f = c .before .before .before .before .args .f in
+    let k = key (order f) (f .c) in
+    rw (c .before .before .before .with-constant .ensures, c .before .key .ensures, c .before .before .order-of .ensures)
+    (either (withConstant f) (ltb k (2 ^ 32 - 1)) (not (eqb (f .a) (f .b))))
 
 pub above-spec : {M : Type 1} → statement M
-above-spec = tie.close (tie.spec with-constant-requires returns returns-2)
+above-spec = tie.close (tie.spec with-constant-requires order-of-requires key-requires returns)

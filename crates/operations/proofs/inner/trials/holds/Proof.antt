@@ -4,18 +4,21 @@ use borrow.Author.Needs.{needs}
 use Rattle.operations.proofs.inner.trials.holds.Statement.{statement}
 use Rattle.operations.proofs.inner.trials.holds.Tie as tie
 
+order-of-requires : tie.Need-order-of-requires
+order-of-requires c κs = search needs
+
 trial-requires : tie.Need-trial-requires
 trial-requires c κs = search needs
 
 right-requires : tie.Need-right-requires
 right-requires c κs = search needs
 
-related-requires : tie.Need-related-requires
-related-requires c κs = search needs
+compared-requires : tie.Need-compared-requires
+compared-requires c κs = search needs
 
 returns : tie.Need-returns
 unfolding holds
-returns c = rw (← c .before .before .trial .ensures, ← c .before .right .ensures) (c .related .ensures)
+returns c = rw (← c .before .before .before .before .order-of .ensures, ← c .before .before .trial .ensures, ← c .before .right .ensures) (c .compared .ensures)
 
 pub holds-spec : {M : Type 1} → statement M
-holds-spec = tie.close (tie.spec trial-requires right-requires related-requires returns)
+holds-spec = tie.close (tie.spec order-of-requires trial-requires right-requires compared-requires returns)

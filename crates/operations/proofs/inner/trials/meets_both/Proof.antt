@@ -3,31 +3,42 @@ use borrow.Author.Needs.{needs}
 use Rattle.operations.proofs.inner.trials.meets_both.Statement.{statement}
 use Rattle.operations.proofs.inner.trials.meets_both.Tie as tie
 
-related-requires : tie.Need-related-requires
-related-requires c κs = search needs
+order-of-requires : tie.Need-order-of-requires
+order-of-requires c κs = search needs
+
+compared-requires : tie.Need-compared-requires
+compared-requires c κs = search needs
 
 alike-requires : tie.Need-alike-requires
 alike-requires c κs = search needs
 
-related-requires-2 : tie.Need-related-requires-2
-related-requires-2 c κs = search needs
+order-of-requires-2 : tie.Need-order-of-requires-2
+order-of-requires-2 c κs = search needs
+
+compared-requires-2 : tie.Need-compared-requires-2
+compared-requires-2 c κs = search needs
 
 alike-requires-2 : tie.Need-alike-requires-2
 alike-requires-2 c κs = search needs
 
 returns : tie.Need-returns
-returns c = rw (← c .before .related2 .ensures, ← c .before .before .before .before .before .related .ensures, ← c .before .before .before .before .alike .ensures, c .before .before .before .if1 .taken) (c .alike2 .ensures)
+returns c =
+    let d = c .before .before .before .before .before in
+    rw (← c .before .before .before .order-of2 .ensures, ← c .before .compared2 .ensures, ← d .before .before .before .order-of .ensures, ← d .before .compared .ensures, ← d .alike .ensures, c .before .before .before .before .if1 .taken) (c .alike2 .ensures)
 
 returns-2 : tie.Need-returns-2
-returns-2 c = rw (← c .before .before .related .ensures, ← c .before .alike .ensures, c .if1 .left)
+returns-2 c =
+    rw (← c .before .before .before .before .order-of .ensures, ← c .before .before .compared .ensures, ← c .before .alike .ensures, c .if1 .left)
 
 pub meets-both-spec : {M : Type 1} → statement M
 meets-both-spec =
     tie.close
     (tie.spec
-    related-requires
+    order-of-requires
+    compared-requires
     alike-requires
-    related-requires-2
+    order-of-requires-2
+    compared-requires-2
     alike-requires-2
     returns
     returns-2)

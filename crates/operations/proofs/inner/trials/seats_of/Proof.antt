@@ -24,9 +24,17 @@ own-requires c κs = search needs
 own-requires-2 : tie.Need-own-requires-2
 own-requires-2 c κs = search needs
 
+order-of-requires : tie.Need-order-of-requires
+order-of-requires c κs = search needs
+
+plus-requires : tie.Need-plus-requires
+plus-requires c κs = search needs
+
 returns-3 : tie.Need-returns-3
 unfolding seats
-returns-3 c = rw (← c .before .before .before .before .before .inside .ensures, c .before .before .before .before .if1 .left, ← c .before .before .before .inside2 .ensures, c .before .before .if2 .left, c .own2 .ensures, c .before .own .ensures)
+returns-3 c =
+    let d = c .before .before .before .before in
+    rw (← d .before .before .before .inside .ensures, d .before .before .if1 .left, ← d .before .inside2 .ensures, d .if2 .left, ← c .before .order-of .ensures, c .plus .ensures, c .before .before .own2 .ensures, c .before .before .before .own .ensures)
 
 pub seats-of-spec : {M : Type 1} → statement M
 seats-of-spec =
@@ -38,4 +46,6 @@ seats-of-spec =
     returns-2
     own-requires
     own-requires-2
+    order-of-requires
+    plus-requires
     returns-3)

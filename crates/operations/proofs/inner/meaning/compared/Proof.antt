@@ -1,0 +1,19 @@
+-- `operations::inner::meaning::compared` meets its contract: from its parts. Assumes nothing.
+use borrow.Author.Needs.{needs}
+use Rattle.operations.proofs.inner.meaning.compared.Statement.{statement}
+use Rattle.operations.proofs.inner.meaning.compared.Tie as tie
+
+key-requires : tie.Need-key-requires
+key-requires c κs = search needs
+
+key-requires-2 : tie.Need-key-requires-2
+key-requires-2 c κs = search needs
+
+related-requires : tie.Need-related-requires
+related-requires c κs = search needs
+
+returns : tie.Need-returns
+returns c = rw (← c .before .before .key .ensures, ← c .before .key2 .ensures) (c .related .ensures)
+
+pub compared-spec : {M : Type 1} → statement M
+compared-spec = tie.close (tie.spec key-requires key-requires-2 related-requires returns)
