@@ -23,11 +23,16 @@ adds b c = record { code = 2; a = 0; b = b; c = c }
 abbrev pub constant : ℕ → ℕ → ℕ → Operation
 constant r a c = record { code = 16 + r; a = a; b = 0; c = c }
 
+-- "Codes 24 to 29 .. repeat 16 to 21 .. with values read as two's complement of 32 bits, constants too" (document 02,
+-- #102): 24 + r compares va with c
+abbrev pub signedConstant : ℕ → ℕ → ℕ → Operation
+signedConstant r a c = record { code = 24 + r; a = a; b = 0; c = c }
+
 -- "32 + r compares va with vb"
 abbrev pub variables : ℕ → ℕ → ℕ → Operation
 variables r a b = record { code = 32 + r; a = a; b = b; c = 0 }
 
--- ---- the cases that are marked § ("Worked sessions (§ is proved)")
+-- ---- the cases that are marked § ("Worked sessions (§ is proved)"), and those of document 02
 pub data Case : Type 0 where
   -- old.csv, new.csv and what is printed
   prints : String → String → String → Case

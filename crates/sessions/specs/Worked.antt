@@ -1,8 +1,8 @@
--- The cases that document 01 marks by § ("Worked sessions"), in its order. That each is so is one theorem, in
--- proofs/Theorem.antt.
+-- The cases that document 01 marks by § ("Worked sessions"), in its order, and those of document 02 that have landed.
+-- That each is so is one theorem, in proofs/Theorem.antt.
 use mathlib.Core.List.{List, [], _∷_}
 use Prim.Native.String.{String}
-use Rattle.sessions.specs.Cases.{Case, prints, implied, notImplied, anything, sum, constant, variables}
+use Rattle.sessions.specs.Cases.{Case, prints, implied, notImplied, anything, sum, constant, signedConstant, variables}
 
 -- the files of the worked sessions: "old.csv, records split by spaces here", which end in CRLF
 abbrev pub old : String
@@ -42,4 +42,6 @@ worked =
     ∷ notImplied (constant 3 0 100) (constant 2 0 100)
     -- "4294967295 + 1 is 0"
     ∷ sum 4294967295 1 0
+    -- "v0 <s 0 implies v0 ≥ 2147483648" (document 02, #102)
+    ∷ implied (signedConstant 2 0 0) (constant 5 0 2147483648)
     ∷ []
