@@ -39,7 +39,7 @@ fn rd(o: Operation) -> Variables {
         0 => Variables::new(),
         1 | 2 | 5 => Variables::from([o.b]),
         3 | 4 => Variables::from([o.b, o.c]),
-        16..=21 => Variables::from([o.a]),
+        16..=21 | 24..=29 => Variables::from([o.a]),
         _ => Variables::from([o.a, o.b]),
     }
 }
@@ -356,46 +356,82 @@ fn ways(r: u32) -> &'static [(Option<i64>, Option<i64>)] {
 
 /// The assumption that is met exactly where this one is not.
 fn opposite(o: Operation) -> Operation {
-    Operation { code: o.code / 16 * 16 + [1, 0, 5, 4, 3, 2][(o.code % 16) as usize], ..o }
+    Operation { code: o.code / 8 * 8 + [1, 0, 5, 4, 3, 2][(o.code % 8) as usize], ..o }
 }
 
-/// Whether some values meet all of a few assumptions. Each is a bound on differences of variables and 0 (or a choice of two such bounds);
-/// such bounds can be met by whole numbers exactly if no round of differences has a negative bound.
+/// How many numbers there are; two's complement reads a number of the upper half, from 2^31 on, as so much less.
+const ROUND: i64 = 1 << 32;
+
+/// A variable where it stands among the bounds, and how much it is above what two's complement reads in it.
+#[derive(Clone, Copy)]
+struct Seat {
+    variable: u32,
+    at: usize,
+    above: i64,
+}
+
+/// The largest differences x − y that are allowed, by the seats of x and y; that of 0 is 0.
+type Bounds = [[i64; 5]; 5];
+
+/// Whether some values meet all of a few assumptions. Where one of them is signed, each variable is in the lower half or
+/// in the upper one, and every choice of halves is tried; where none is, a variable is anywhere.
 fn met_together(all: &[Operation]) -> bool {
     let mut variables: Vec<u32> = all.iter().flat_map(|o| rd(*o)).collect();
     variables.sort_unstable();
     variables.dedup();
-    let seat = |v: u32| 1 + variables.iter().position(|x| *x == v).unwrap();
-    const FAR: i64 = 1 << 40;
-    let mut bounds = [[FAR; 5]; 5];
-    for v in 1..=variables.len() {
-        bounds[v][0] = u32::MAX as i64;
-        bounds[0][v] = 0;
-    }
-    fn go(all: &[Operation], mut bounds: [[i64; 5]; 5], seat: &dyn Fn(u32) -> usize) -> bool {
-        let Some((o, rest)) = all.split_first() else {
-            for k in 0..5 {
-                for i in 0..5 {
-                    for j in 0..5 {
-                        bounds[i][j] = bounds[i][j].min(bounds[i][k] + bounds[k][j]);
-                    }
+    let signed = all.iter().any(|o| matches!(o.code, 24..=29 | 40..=45));
+    let choices = if signed { 1 << variables.len() } else { 1 };
+    (0..choices).any(|upper: u32| {
+        const FAR: i64 = 1 << 40;
+        let mut bounds = [[FAR; 5]; 5];
+        let mut seats = Vec::new();
+        for (at, &variable) in (1..).zip(&variables) {
+            let (least, most, above) = match (signed, upper >> (at - 1) & 1) {
+                (false, _) => (0, ROUND - 1, 0),
+                (true, 0) => (0, ROUND / 2 - 1, 0),
+                (true, _) => (ROUND / 2, ROUND - 1, ROUND),
+            };
+            bounds[at][0] = most;
+            bounds[0][at] = -least;
+            seats.push(Seat { variable, at, above });
+        }
+        met_within(all, bounds, &seats)
+    })
+}
+
+/// Whether some values within bounds meet all of a few assumptions. With every half chosen each of these is a bound on
+/// differences of variables and 0 (or a choice of two such bounds), a signed one too; such bounds can be met by whole
+/// numbers exactly if no round of differences has a negative bound.
+fn met_within(all: &[Operation], mut bounds: Bounds, seats: &[Seat]) -> bool {
+    let Some((o, rest)) = all.split_first() else {
+        for k in 0..5 {
+            for i in 0..5 {
+                for j in 0..5 {
+                    bounds[i][j] = bounds[i][j].min(bounds[i][k] + bounds[k][j]);
                 }
             }
-            return (0..5).all(|i| bounds[i][i] >= 0);
-        };
-        let (x, y, c) = if o.code < 32 { (seat(o.a), 0, o.c as i64) } else { (seat(o.a), seat(o.b), 0) };
-        ways(o.code % 16).iter().any(|&(up, down)| {
-            let mut bounds = bounds;
-            if let Some(d) = up {
-                bounds[x][y] = bounds[x][y].min(c + d);
-            }
-            if let Some(d) = down {
-                bounds[y][x] = bounds[y][x].min(d - c);
-            }
-            go(rest, bounds, seat)
-        })
-    }
-    go(all, bounds, &seat)
+        }
+        return (0..5).all(|i| bounds[i][i] >= 0);
+    };
+    let seat = |v: u32| *seats.iter().find(|s| s.variable == v).unwrap();
+    let x = seat(o.a);
+    // The assumption compares x with y + c.
+    let (y, c) = match o.code {
+        16..=21 => (0, o.c as i64),
+        24..=29 => (0, x.above + o.c as i64 - if o.c < 1 << 31 { 0 } else { ROUND }),
+        32..=37 => (seat(o.b).at, 0),
+        _ => (seat(o.b).at, x.above - seat(o.b).above),
+    };
+    ways(o.code % 8).iter().any(|&(up, down)| {
+        let mut bounds = bounds;
+        if let Some(d) = up {
+            bounds[x.at][y] = bounds[x.at][y].min(c + d);
+        }
+        if let Some(d) = down {
+            bounds[y][x.at] = bounds[y][x.at].min(d - c);
+        }
+        met_within(rest, bounds, seats)
+    })
 }
 
 /// 0 where no values meet the first, 1 where all that meet it meet the second, else 2.

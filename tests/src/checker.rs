@@ -41,7 +41,7 @@ fn read_by(o: Operation) -> u64 {
         0 => 0,
         1 | 2 | 5 => bit(o.b),
         3 | 4 => bit(o.b) | bit(o.c),
-        16..=21 => bit(o.a),
+        16..=21 | 24..=29 => bit(o.a),
         _ => bit(o.a) | bit(o.b),
     }
 }
@@ -177,6 +177,8 @@ pub struct Run {
     pub reached: bool,
     /// One of them subtracted more than there was, and so stopped at 0 (code 4).
     pub stopped: bool,
+    /// One of them is a signed assumption which the same values, read unsigned, do not meet.
+    pub signed: bool,
 }
 
 /// The run of a chart from given values, of at most so many rows. A faultless chart lets at most one row go on from
@@ -184,11 +186,12 @@ pub struct Run {
 pub fn run(chart: &Chart, values: &[u32; 64], most: usize) -> Run {
     let rows = rows_by_place(chart);
     let (mut place, mut values) = (0, *values);
-    let mut run = Run { rows: Vec::new(), reached: chart.alarm == 0, stopped: false };
+    let mut run = Run { rows: Vec::new(), reached: chart.alarm == 0, stopped: false, signed: false };
     while run.rows.len() < most {
         let next = rows[place as usize].iter().find(|r| model::is_assignment(r.2) || model::holds(r.2, &values));
         let Some(&(i, to, o)) = next else { break };
         let too_much = o.code == 4 && values[o.b as usize] < values[o.c as usize];
+        run.signed |= model::is_signed(o) && !model::holds(Operation { code: o.code - 8, ..o }, &values);
         if model::is_assignment(o) {
             values[o.a as usize] = model::value(o, &values);
         }

@@ -1,7 +1,8 @@
 //! Pairs of faultless charts drawn at random, of the sorts that the builder meets, and records spoilt at random.
 
 use crate::checker::Record;
-use crate::{model, texts, Chart, Operation, Random};
+use crate::model::{self, HALF};
+use crate::{texts, Chart, Operation, Random};
 
 #[derive(Clone, Copy, Debug, PartialEq, Eq)]
 pub enum Sort {
@@ -43,30 +44,37 @@ pub fn pair(random: &mut Random, sort: Sort) -> (Chart, Chart) {
         }
         Sort::Procedures => {
             let size = random.one_of(&[8, 16, 32, 64]);
-            procedures(random, size)
+            procedures(random, size, Orders::Both)
         }
         Sort::Renumbered => {
             let size = random.one_of(&[8, 16, 32, 64]);
-            let (old, mut new) = procedures(random, size);
+            let (old, mut new) = procedures(random, size, Orders::Both);
             if random.below(2) == 0 {
                 new = old.clone();
             }
             (old, renumbered(random, &new))
         }
         Sort::Sparse => {
-            let taste = Taste { variables: random.one_of(&[2, 8]), constants: 3 };
+            let taste = Taste::both(random.one_of(&[2, 8]), 3);
             let old = graph(random, taste, 64, 0);
             (old.clone(), amended_graph(random, taste, &old))
         }
         Sort::Dense => {
-            let taste = Taste { variables: 2, constants: 2 };
+            let taste = Taste::both(2, 2);
             let old = graph(random, taste, 64, ALL);
             let new = if random.below(2) == 0 { graph(random, taste, 64, ALL) } else { amended_graph(random, taste, &old) };
             (old, new)
         }
         Sort::Wide => {
             let (assigned, asked) = random.one_of(&[(0, 0), (5, 0), (30, 0), (10, 5), (30, 5)]);
-            (wide(random, 64, assigned, asked), wide(random, 64, assigned, asked))
+            let mut both = [wide(random, 64, assigned, asked), wide(random, 64, assigned, asked)];
+            for chart in &mut both {
+                if random.below(3) == 0 {
+                    compare_in_the_other_order(chart);
+                }
+            }
+            let [old, new] = both;
+            (old, new)
         }
     };
     for chart in [&old, &new] {
@@ -75,26 +83,52 @@ pub fn pair(random: &mut Random, sort: Sort) -> (Chart, Chart) {
     (old, new)
 }
 
-/// How many variables and constants operations draw from: the fewer, the more of them meet.
+/// In which orders comparisons are drawn.
+#[derive(Clone, Copy, PartialEq, Eq)]
+pub enum Orders {
+    Unsigned,
+    Both,
+}
+
+/// Which constants and comparisons operations draw from, and how many variables: the fewer, the more of them meet.
 #[derive(Clone, Copy)]
 struct Taste {
     variables: u64,
-    constants: usize,
+    constants: &'static [u32],
+    orders: Orders,
 }
 
 impl Taste {
     fn any(random: &mut Random) -> Taste {
-        Taste { variables: random.one_of(&[1, 2, 3, 8, 64]), constants: random.one_of(&[1, 3, 10]) }
+        Taste::both(random.one_of(&[1, 2, 3, 8, 64]), random.one_of(&[1, 3, 5, CONSTANTS.len()]))
+    }
+
+    fn both(variables: u64, constants: usize) -> Taste {
+        Taste { variables, constants: &CONSTANTS[..constants], orders: Orders::Both }
+    }
+
+    /// The codes of comparisons.
+    fn codes(self) -> &'static [u32] {
+        match self.orders {
+            Orders::Unsigned => &model::CODES[6..18],
+            Orders::Both => &model::CODES[6..],
+        }
     }
 }
 
+/// The constants, the ends of both orders and their neighbours among them; a taste takes the first few.
+const CONSTANTS: [u32; 12] = [1, 0, u32::MAX, HALF, HALF - 1, 2, 3, 99, 100, 101, u32::MAX - 1, HALF + 1];
+
+/// Those of charts without signed comparisons.
+const UNSIGNED_CONSTANTS: [u32; 10] = [1, 0, u32::MAX, 2, 3, 99, 100, 101, u32::MAX - 1, HALF];
+
 fn operation(random: &mut Random, taste: Taste, codes: &[u32]) -> Operation {
-    let constant = random.one_of(&[1, 0, u32::MAX, 2, 3, 99, 100, 101, u32::MAX - 1, 1 << 31][..taste.constants]);
+    let constant = random.one_of(taste.constants);
     let (a, b, c) = (random.below(taste.variables) as u32, random.below(taste.variables) as u32, random.below(taste.variables) as u32);
     let code = random.one_of(codes);
     match code {
-        0 | 16..=21 => Operation { code, a, b: 0, c: constant },
-        1 | 5 | 32..=37 => Operation { code, a, b, c: 0 },
+        0 | 16..=21 | 24..=29 => Operation { code, a, b: 0, c: constant },
+        1 | 5 | 32..=37 | 40..=45 => Operation { code, a, b, c: 0 },
         2 => Operation { code, a, b, c: constant },
         _ => Operation { code, a, b, c },
     }
@@ -104,16 +138,61 @@ fn assignment(random: &mut Random, taste: Taste) -> Operation {
     operation(random, taste, &model::CODES[..6])
 }
 
-/// Two assumptions of which exactly one holds, now and then of different operands.
+/// A signed assumption and an unsigned one of one variable, of which exactly one holds, each as its code and constant:
+/// one half of the numbers beside the other, or one number beside all others.
+const MIXED: [[(u32, u32); 2]; 8] = [
+    [(26, 0), (18, HALF)],
+    [(27, u32::MAX), (19, HALF - 1)],
+    [(28, u32::MAX), (20, HALF - 1)],
+    [(29, 0), (21, HALF)],
+    [(26, HALF + 1), (17, HALF)],
+    [(26, HALF - 1), (16, HALF - 1)],
+    [(25, 0), (18, 1)],
+    [(24, u32::MAX), (18, u32::MAX)],
+];
+
+/// Two assumptions of which exactly one holds, now and then of different operands or in different orders.
 fn choice(random: &mut Random, taste: Taste) -> (Operation, Operation) {
-    let o = operation(random, taste, &model::CODES[6..]);
-    let other = Operation { code: o.code / 16 * 16 + [1, 0, 5, 4, 3, 2][(o.code % 16) as usize], ..o };
-    let turned = Operation { code: 32 + [0, 1, 4, 5, 2, 3][(other.code % 16) as usize], a: other.b, b: other.a, c: 0 };
+    let o = operation(random, taste, taste.codes());
+    let (over, r) = (o.code / 8 * 8, o.code as usize % 8);
+    let other = Operation { code: over + [1, 0, 5, 4, 3, 2][r], ..o };
+    let turned = Operation { code: over + [1, 0, 3, 2, 5, 4][r], a: o.b, b: o.a, c: 0 };
     match (random.below(12), o.code) {
-        (0, 32..=37) => (o, turned),
+        (0, 32..=37 | 40..=45) => (o, turned),
         (1, 18) if o.c > 0 => (o, Operation { code: 20, c: o.c - 1, ..o }),
+        (1, 26) if o.c != HALF => (o, Operation { code: 28, c: o.c.wrapping_sub(1), ..o }),
         (2, _) => (Operation { code: 18, a: o.a, b: 0, c: 0 }, Operation { code: 35, a: o.b, b: o.b, c: 0 }),
+        _ if taste.orders == Orders::Unsigned => (o, other),
+        (3, _) => (Operation { code: 26, a: o.a, b: 0, c: HALF }, Operation { code: 43, a: o.b, b: o.b, c: 0 }),
+        (4, _) => {
+            let [f, g] = random.one_of(&MIXED).map(|(code, c)| Operation { code, a: o.a, b: 0, c });
+            random.one_of(&[(f, g), (g, f)])
+        }
+        (5 | 6, _) if r < 2 => (o, in_the_other_order(other)),
         _ => (o, other),
+    }
+}
+
+/// Turns every comparison of a wide chart, which has v < 5 beside v ≥ 5 alone, to the other order.
+fn compare_in_the_other_order(chart: &mut Chart) {
+    for row in chart.rows.chunks_exact_mut(6).filter(|row| row[2] > 5) {
+        row[2] ^= 8;
+    }
+}
+
+/// The same comparison in the other order: 16 becomes 24, and 24 becomes 16.
+fn in_the_other_order(o: Operation) -> Operation {
+    Operation { code: o.code ^ 8, ..o }
+}
+
+/// Another choice in place of f and g; or, where both orders are drawn, now and then f and g in the other one, if still
+/// exactly one of them holds.
+fn instead(random: &mut Random, taste: Taste, another: (Operation, Operation), f: Operation, g: Operation) -> (Operation, Operation) {
+    let (f2, g2) = (in_the_other_order(f), in_the_other_order(g));
+    if taste.orders == Orders::Both && random.below(2) == 0 && texts::opposite(f2, g2) {
+        (f2, g2)
+    } else {
+        another
     }
 }
 
@@ -127,7 +206,7 @@ fn graph(random: &mut Random, taste: Taste, places: u32, choices: u64) -> Chart 
         let to = [random.below(places as u64) as u32, random.below(places as u64) as u32];
         match if choices == ALL { ALL } else { random.below(10 + choices) } {
             0 => {}
-            1 => put(&mut rows, from, to[0], operation(random, taste, &model::CODES[6..])),
+            1 => put(&mut rows, from, to[0], operation(random, taste, taste.codes())),
             2..=9 => put(&mut rows, from, to[0], assignment(random, taste)),
             _ => {
                 let (f, g) = choice(random, taste);
@@ -146,7 +225,8 @@ fn put(rows: &mut Vec<u32>, from: u32, to: u32, o: Operation) {
     rows.extend([from, to, o.code, o.a, o.b, o.c]);
 }
 
-/// One to three changes: another assignment, another choice, another place to go, a place's rows turned round, another alarm.
+/// One to three changes: another assignment, another choice, another order, another place to go, a place's rows turned
+/// round, another alarm.
 fn amended_graph(random: &mut Random, taste: Taste, old: &Chart) -> Chart {
     let mut new = old.clone();
     for _ in 0..1 + random.below(3) {
@@ -157,7 +237,9 @@ fn amended_graph(random: &mut Random, taste: Taste, old: &Chart) -> Chart {
         match random.below(6) {
             0 => new.rows[6 * i + 1] = random.below(new.places as u64) as u32,
             1 if both => {
-                let (f, g) = choice(random, taste);
+                let [f, g] = [first, first + 1].map(|j| model::row(&new.rows, j).2);
+                let another = choice(random, taste);
+                let (f, g) = instead(random, taste, another, f, g);
                 for (j, o) in [(first, f), (first + 1, g)] {
                     new.rows[6 * j + 2..6 * j + 6].copy_from_slice(&[o.code, o.a, o.b, o.c]);
                 }
@@ -172,6 +254,7 @@ fn amended_graph(random: &mut Random, taste: Taste, old: &Chart) -> Chart {
                 let o = assignment(random, taste);
                 new.rows[6 * i + 2..6 * i + 6].copy_from_slice(&[o.code, o.a, o.b, o.c]);
             }
+            4 if !both && taste.orders == Orders::Both => new.rows[6 * i + 2] = in_the_other_order(o).code,
             _ => {}
         }
     }
@@ -227,17 +310,17 @@ fn amend(random: &mut Random, taste: Taste, block: &mut Vec<Statement>) {
         block.remove(at);
         return;
     }
-    let (f2, g2) = choice(random, taste);
+    let another = choice(random, taste);
     match &mut block[at] {
         Statement::Assign(o) => *o = assignment(random, taste),
-        Statement::Check(f, g) => (*f, *g) = (f2, g2),
+        Statement::Check(f, g) => (*f, *g) = instead(random, taste, another, *f, *g),
         Statement::If(f, g, yes, no) => match random.below(4) {
-            0 => (*f, *g) = (f2, g2),
+            0 => (*f, *g) = instead(random, taste, another, *f, *g),
             1 => amend(random, taste, yes),
             _ => amend(random, taste, no),
         },
         Statement::While(f, g, body) => match random.below(4) {
-            0 => (*f, *g) = (f2, g2),
+            0 => (*f, *g) = instead(random, taste, another, *f, *g),
             _ => amend(random, taste, body),
         },
     }
@@ -303,8 +386,9 @@ fn chart_of(procedure: &[Statement]) -> Chart {
 }
 
 /// A procedure of nearly so many places, and the same with one to three amendments, each of at most one place more.
-pub fn procedures(random: &mut Random, places: u32) -> (Chart, Chart) {
-    let taste = Taste { variables: random.one_of(&[2, 4, 8, 20]), constants: random.one_of(&[3, 10]) };
+pub fn procedures(random: &mut Random, places: u32, orders: Orders) -> (Chart, Chart) {
+    let all: &'static [u32] = if orders == Orders::Both { &CONSTANTS } else { &UNSIGNED_CONSTANTS };
+    let taste = Taste { variables: random.one_of(&[2, 4, 8, 20]), constants: random.one_of(&[&all[..3], all]), orders };
     let mut procedure = Vec::new();
     while places_of(&procedure) < places - 5 {
         let next = statement(random, taste, 3);

@@ -7,6 +7,7 @@ pub mod drawn;
 pub mod model;
 pub mod stack;
 pub mod texts;
+pub mod vectors;
 
 /// The operation of a row.
 #[derive(Clone, Copy, Debug, PartialEq, Eq)]

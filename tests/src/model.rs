@@ -2,14 +2,24 @@
 
 use crate::{Chart, Operation, Random};
 
-pub const CODES: [u32; 18] = [0, 1, 2, 3, 4, 5, 16, 17, 18, 19, 20, 21, 32, 33, 34, 35, 36, 37];
+/// The known codes: assignments, then comparisons with a constant and with a variable, first unsigned and then signed.
+pub const CODES: [u32; 30] =
+    [0, 1, 2, 3, 4, 5, 16, 17, 18, 19, 20, 21, 32, 33, 34, 35, 36, 37, 24, 25, 26, 27, 28, 29, 40, 41, 42, 43, 44, 45];
+
+/// The least number that two's complement reads as one below 0.
+pub const HALF: u32 = 1 << 31;
 
 pub fn is_assignment(o: Operation) -> bool {
     o.code <= 5
 }
 
 pub fn is_assumption(o: Operation) -> bool {
-    (16..=21).contains(&o.code) || (32..=37).contains(&o.code)
+    matches!(o.code, 16..=21 | 24..=29 | 32..=37 | 40..=45)
+}
+
+/// Whether an assumption reads both sides, its constant too, as two's complement.
+pub fn is_signed(o: Operation) -> bool {
+    matches!(o.code, 24..=29 | 40..=45)
 }
 
 /// What codes 0 to 5 write: sums and code 5 wrap, code 4 stops at 0.
@@ -26,10 +36,19 @@ pub fn value(o: Operation, v: &[u32]) -> u32 {
     }
 }
 
-/// Whether values meet an assumption.
+/// Whether values meet an assumption: numbers are compared as they stand, or as the i32 of the same bits.
 pub fn holds(o: Operation, v: &[u32]) -> bool {
     let x = v[o.a as usize];
-    let (r, y) = if o.code < 32 { (o.code - 16, o.c) } else { (o.code - 32, v[o.b as usize]) };
+    match o.code {
+        16..=21 => related(o.code - 16, x, o.c),
+        24..=29 => related(o.code - 24, x as i32, o.c as i32),
+        32..=37 => related(o.code - 32, x, v[o.b as usize]),
+        40..=45 => related(o.code - 40, x as i32, v[o.b as usize] as i32),
+        _ => unreachable!(),
+    }
+}
+
+fn related<T: Ord>(r: u32, x: T, y: T) -> bool {
     [x == y, x != y, x < y, x <= y, x > y, x >= y][r as usize]
 }
 
@@ -40,7 +59,7 @@ pub fn operands_fit(o: Operation) -> bool {
         1 | 5 => ("variable", "unused"),
         2 => ("variable", "constant"),
         3 | 4 => ("variable", "variable"),
-        16..=21 => ("unused", "constant"),
+        16..=21 | 24..=29 => ("unused", "constant"),
         _ => ("variable", "unused"),
     };
     let fits = |use_of: &str, x: u32| match use_of {
@@ -51,10 +70,10 @@ pub fn operands_fit(o: Operation) -> bool {
     o.a < 64 && fits(b, o.b) && fits(c, o.c)
 }
 
-/// All values of the variables that two assumptions compare which could tell them apart: every constant with its neighbours, the ends,
-/// and numbers in between.
+/// All values of the variables that two assumptions compare which could tell them apart: every constant with its neighbours, the ends
+/// of both orders, and numbers in between.
 fn telling(f: Operation, g: Operation) -> Vec<u32> {
-    let mut all = vec![0, 1, 2, 3, 5, 1 << 31, u32::MAX - 2, u32::MAX - 1, u32::MAX];
+    let mut all = vec![0, 1, 2, 3, 5, HALF - 2, HALF - 1, HALF, HALF + 1, u32::MAX - 2, u32::MAX - 1, u32::MAX];
     for c in [f.c, g.c] {
         for d in -2i64..=2 {
             all.push((c as i64 + d) as u32);
@@ -69,7 +88,7 @@ fn telling(f: Operation, g: Operation) -> Vec<u32> {
 pub fn together(f: Operation, p: bool, g: Operation, q: bool) -> bool {
     let mut variables = vec![f.a, g.a];
     for o in [f, g] {
-        if o.code >= 32 {
+        if matches!(o.code, 32..=37 | 40..=45) {
             variables.push(o.b);
         }
     }
@@ -182,12 +201,26 @@ pub fn faulty() -> Vec<(Chart, (u32, usize))> {
         (chart(1, 0, &[[0, 0, 6, 0, 0, 0]]), (6, 0)),
         (chart(2, 0, &[one, [1, 0, 22, 0, 0, 0]]), (6, 1)),
         (chart(1, 0, &[[0, 0, 38, 0, 0, 0]]), (6, 0)),
+        (chart(2, 0, &[one, [1, 0, 23, 0, 0, 0]]), (6, 1)),
+        (chart(1, 0, &[[0, 0, 30, 0, 0, 0]]), (6, 0)),
+        (chart(1, 0, &[[0, 0, 31, 0, 0, 0]]), (6, 0)),
+        (chart(1, 0, &[[0, 0, 39, 0, 0, 0]]), (6, 0)),
+        (chart(1, 0, &[[0, 0, 46, 0, 0, 0]]), (6, 0)),
+        (chart(2, 0, &[one, [1, 0, 47, 0, 0, 0]]), (6, 1)),
         (chart(1, 0, &[[0, 0, 0, 64, 0, 0]]), (7, 0)),
         (chart(1, 0, &[[0, 0, 16, 0, 1, 0]]), (7, 0)),
+        (chart(1, 0, &[[0, 0, 24, 0, 1, 0]]), (7, 0)),
+        (chart(2, 0, &[one, [1, 1, 29, 64, 0, 0]]), (7, 1)),
+        (chart(1, 0, &[[0, 0, 40, 0, 0, 1]]), (7, 0)),
+        (chart(1, 0, &[[0, 0, 40, 0, 64, 0]]), (7, 0)),
+        (chart(2, 0, &[one, [1, 1, 45, 64, 0, 0]]), (7, 1)),
         (chart(2, 0, &[one, [1, 1, 3, 0, 0, 64]]), (7, 1)),
         (chart(1, 0, &[one, one]), (8, 1)),
         (chart(1, 0, &[choice[0], choice[1], choice[0]]), (8, 2)),
         (chart(1, 0, &[choice[0], choice[0]]), (8, 1)),
+        // Opposite relations of the same operands in two orders: where v0 is 2^31 and v1 is 0, both rows hold.
+        (chart(1, 0, &[[0, 0, 26, 0, 0, 5], [0, 0, 21, 0, 0, 5]]), (8, 1)),
+        (chart(1, 0, &[[0, 0, 42, 0, 1, 0], [0, 0, 37, 0, 1, 0]]), (8, 1)),
     ];
     for (chart, expected) in &all {
         assert_eq!(fault(chart), *expected, "{chart:?}");
@@ -212,16 +245,32 @@ pub fn lookup(old: &Chart, new: &Chart, which: u32, place: u32) -> Vec<u32> {
 
 pub fn operation(random: &mut Random, codes: &[u32]) -> Operation {
     let code = random.one_of(codes);
-    let constant = random.one_of(&[0, 1, 2, 3, 99, 100, 101, u32::MAX - 1, u32::MAX, 1 << 31]);
+    let constant = random.one_of(&[0, 1, 2, 3, 99, 100, 101, HALF - 2, HALF - 1, HALF, HALF + 1, u32::MAX - 1, u32::MAX]);
     let variable = |random: &mut Random| random.one_of(&[0, 1, 2, 63]);
     let (a, b) = (variable(random), variable(random));
     let c = variable(random);
     match code {
-        0 | 16..=21 => Operation { code, a, b: 0, c: constant },
-        1 | 5 | 32..=37 => Operation { code, a, b, c: 0 },
+        0 | 16..=21 | 24..=29 => Operation { code, a, b: 0, c: constant },
+        1 | 5 | 32..=37 | 40..=45 => Operation { code, a, b, c: 0 },
         2 => Operation { code, a, b, c: constant },
         _ => Operation { code, a, b, c },
     }
+}
+
+/// Every assumption over v0 and v1 whose constant, if it has one, is an end of either order, beside one, or in between.
+pub fn assumptions() -> Vec<Operation> {
+    let mut all = Vec::new();
+    for code in &CODES[6..] {
+        for a in 0..2 {
+            if matches!(code, 16..=21 | 24..=29) {
+                let constants = [0, 1, 2, 100, HALF - 2, HALF - 1, HALF, HALF + 1, u32::MAX - 1, u32::MAX];
+                all.extend(constants.map(|c| Operation { code: *code, a, b: 0, c }));
+            } else {
+                all.extend([0, 1].map(|b| Operation { code: *code, a, b, c: 0 }));
+            }
+        }
+    }
+    all
 }
 
 /// A chart most of whose places have an assignment or two opposite assumptions; then, now and then, some entries are spoilt.
@@ -238,7 +287,7 @@ pub fn chart(random: &mut Random) -> Chart {
             }
             _ => {
                 let o = operation(random, &CODES[6..]);
-                let opposite = o.code / 16 * 16 + [1, 0, 5, 4, 3, 2][(o.code % 16) as usize];
+                let opposite = o.code / 8 * 8 + [1, 0, 5, 4, 3, 2][(o.code % 8) as usize];
                 rows.extend([from, to(random), o.code, o.a, o.b, o.c]);
                 rows.extend([from, to(random), opposite, o.a, o.b, o.c]);
             }
@@ -248,7 +297,7 @@ pub fn chart(random: &mut Random) -> Chart {
     for _ in 0..random.below(3) {
         if random.below(3) == 0 && !chart.rows.is_empty() {
             let at = random.below(chart.rows.len() as u64) as usize;
-            chart.rows[at] = random.one_of(&[0, 1, 2, 5, 6, 22, 38, 63, 64, 100, u32::MAX]);
+            chart.rows[at] = random.one_of(&[0, 1, 2, 5, 6, 22, 24, 27, 30, 38, 40, 43, 46, 63, 64, 100, HALF, u32::MAX]);
         }
     }
     chart

@@ -109,6 +109,15 @@ impl Text<'_> {
 
 /// The chart of a text, or the number and position of its refusal.
 pub fn plain_read(bytes: &[u8], wrong: Wrong) -> Result<Chart, (u32, usize)> {
+    let chart = plain_chart(bytes, wrong)?;
+    match fault(&chart) {
+        (0, _) => Ok(chart),
+        refused => Err(refused),
+    }
+}
+
+/// The chart of a text, faulty or not, or the number and position of the text's refusal.
+pub fn plain_chart(bytes: &[u8], wrong: Wrong) -> Result<Chart, (u32, usize)> {
     if bytes.is_empty() {
         return Err((11, 0));
     }
@@ -127,10 +136,7 @@ pub fn plain_read(bytes: &[u8], wrong: Wrong) -> Result<Chart, (u32, usize)> {
     if text.at < bytes.len() && wrong != Wrong::ByteAfter {
         return Err((14, text.at));
     }
-    match fault(&chart) {
-        (0, _) => Ok(chart),
-        refused => Err(refused),
-    }
+    Ok(chart)
 }
 
 pub fn plain_write(chart: &Chart) -> Vec<u8> {
@@ -147,33 +153,45 @@ fn relation(r: u32) -> [bool; 3] {
     [[false, true, false], [true, false, true], [true, false, false], [true, true, false], [false, false, true], [false, true, true]][r as usize]
 }
 
+/// Whether an assumption compares two variables.
+fn of_variables(o: Operation) -> bool {
+    o.code >= 32
+}
+
+/// Whether an assumption reads numbers as two's complement: the second eight of each sixteen codes do.
+fn is_signed(o: Operation) -> bool {
+    o.code % 16 >= 8
+}
+
 /// Some(true) where all values meet an assumption, Some(false) where none do.
 fn settled(o: Operation) -> Option<bool> {
-    let [below, at, above] = relation(o.code % 16);
-    let possible = if o.code >= 32 {
-        if o.a != o.b {
-            return None;
-        }
-        [false, true, false]
-    } else {
-        [o.c > 0, true, o.c < u32::MAX]
-    };
-    let met: Vec<bool> = [below, at, above].iter().zip(possible).filter(|(_, p)| *p).map(|(m, _)| *m).collect();
-    if met.iter().all(|m| *m) {
-        Some(true)
-    } else if met.iter().all(|m| !*m) {
-        Some(false)
-    } else {
-        None
+    if of_variables(o) {
+        return (o.a == o.b).then(|| relation(o.code % 8)[1]);
+    }
+    match runs(o)[..] {
+        [] => Some(false),
+        [(0, END)] => Some(true),
+        _ => None,
     }
 }
 
-/// The numbers that a comparison with a constant lets through, as at most two runs.
+/// Where the numbers end, and where those begin that two's complement reads as below 0.
+const END: u64 = 1 << 32;
+const BELOW_ZERO: u64 = 1 << 31;
+
+/// The numbers that a comparison with a constant lets through, as runs of them: two at most.
 fn runs(o: Operation) -> Vec<(u64, u64)> {
-    let [below, at, above] = relation(o.code % 16);
+    let [below, at, above] = relation(o.code % 8);
     let c = o.c as u64;
+    let stretches: &[(bool, u64, u64)] = if !is_signed(o) {
+        &[(below, 0, c), (at, c, c + 1), (above, c + 1, END)]
+    } else if c < BELOW_ZERO {
+        &[(below, 0, c), (at, c, c + 1), (above, c + 1, BELOW_ZERO), (below, BELOW_ZERO, END)]
+    } else {
+        &[(above, 0, BELOW_ZERO), (below, BELOW_ZERO, c), (at, c, c + 1), (above, c + 1, END)]
+    };
     let mut all = Vec::new();
-    for (lets, from, to) in [(below, 0, c), (at, c, c + 1), (above, c + 1, 1 << 32)] {
+    for &(lets, from, to) in stretches {
         if lets && from < to {
             match all.last_mut() {
                 Some((_, end)) if *end == from => *end = to,
@@ -194,8 +212,8 @@ fn others(all: &[(u64, u64)]) -> Vec<(u64, u64)> {
         }
         from = end;
     }
-    if from < 1 << 32 {
-        left.push((from, 1 << 32));
+    if from < END {
+        left.push((from, END));
     }
     left
 }
@@ -208,14 +226,19 @@ pub fn opposite(f: Operation, g: Operation) -> bool {
     if settled(f).is_some() || settled(g).is_some() {
         return false;
     }
-    if f.code < 32 && g.code < 32 {
+    if !of_variables(f) && !of_variables(g) {
         return f.a == g.a && runs(g) == others(&runs(f));
     }
-    if f.code < 32 || g.code < 32 {
+    if !of_variables(f) || !of_variables(g) {
         return false;
     }
-    let not_f = relation(f.code % 16).map(|met| !met);
-    let [below, at, above] = relation(g.code % 16);
+    let not_f = relation(f.code % 8).map(|met| !met);
+    let [below, at, above] = relation(g.code % 8);
+    // Two different numbers can stand in either way in one order, however they stand in the other: only what treats
+    // both ways alike, = and ≠, is the same in both orders.
+    if is_signed(f) != is_signed(g) && below != above {
+        return false;
+    }
     ((f.a, f.b) == (g.a, g.b) && not_f == [below, at, above]) || ((f.a, f.b) == (g.b, g.a) && not_f == [above, at, below])
 }
 
@@ -317,7 +340,10 @@ pub fn damage(random: &mut Random, text: &mut Vec<u8>) {
         _ => {
             let Some(begin) = (at..text.len()).find(|i| text[*i].is_ascii_digit()) else { return };
             let end = (begin..text.len()).find(|i| !text[*i].is_ascii_digit()).unwrap_or(text.len());
-            let number = random.one_of(&["0", "00", "01", "6", "22", "63", "64", "65", "128", "129", "4294967295", "4294967296", "99999999999", "18446744073709551616"]);
+            let number = random.one_of(&[
+                "0", "00", "01", "-1", "6", "22", "24", "29", "30", "40", "45", "46", "63", "64", "65", "128", "129", "2147483648",
+                "4294967295", "4294967296", "99999999999", "18446744073709551616",
+            ]);
             text.splice(begin..end, number.bytes());
         }
     }
