@@ -4,8 +4,9 @@
 use picker_tests::algorithms::{self, printed};
 use picker_tests::checker::{self, Record};
 use picker_tests::drawn::{self, Sort, SORTS};
-use picker_tests::texts::{plain_read, Refusal, Wrong};
-use picker_tests::{cases, model, Chart, Operation, Random};
+use picker_tests::model::HALF;
+use picker_tests::texts::{self, plain_read, Refusal, Wrong};
+use picker_tests::{cases, model, vectors, Chart, Operation, Random};
 
 /// A chart's text as the vectors give it.
 fn text_of(line: &str) -> Vec<u8> {
@@ -25,12 +26,14 @@ fn blocks<'a>(file: &'a str, words: &'a [&str]) -> impl Iterator<Item = Vec<&'a 
     })
 }
 
-/// Old chart, new chart and what the program prints.
-fn pairs() -> Vec<(Chart, Chart, Vec<&'static str>)> {
-    let all: Vec<_> = blocks(include_str!("../vectors/pairs.txt"), &["old", "new", "out"])
-        .map(|lines| (chart_of(lines[0]), chart_of(lines[1]), lines[2].split(' ').collect()))
-        .collect();
-    assert!(all.len() >= 300, "only {} pairs", all.len());
+/// The text of the old chart, that of the new one and what the program prints: of document 01, and of signed comparisons.
+fn pairs() -> Vec<Vec<&'static str>> {
+    let mut all = Vec::new();
+    for (file, least) in [(include_str!("../vectors/pairs.txt"), 300), (include_str!("../vectors/102/pairs.txt"), 150)] {
+        let before = all.len();
+        all.extend(blocks(file, &["old", "new", "out"]));
+        assert!(all.len() >= before + least, "only {} pairs of {least}", all.len() - before);
+    }
     all
 }
 
@@ -66,12 +69,18 @@ fn edit(record: &mut Record, edits: &str) {
 
 #[test]
 fn vectors_of_pairs_as_rendered() {
-    for (old, new, expected) in pairs() {
-        let built = algorithms::build(&old, &new);
-        let counts = [built.open, built.kept, built.covered];
-        assert_eq!(printed(&new, built.start, counts, &built.marks, &built.targets), expected, "{old:?} {new:?}");
-        assert_eq!(checker::check(&old, &new, &built.into()), Ok(()), "{old:?} {new:?}");
+    for lines in pairs() {
+        rendered(lines[0], lines[1], lines[2]);
     }
+}
+
+/// What the algorithms make of two charts is what is printed, and the plain checker passes it.
+fn rendered(old: &str, new: &str, out: &str) {
+    let (old, new) = (chart_of(old), chart_of(new));
+    let built = algorithms::build(&old, &new);
+    let counts = [built.open, built.kept, built.covered];
+    assert_eq!(printed(&new, built.start, counts, &built.marks, &built.targets).join(" "), out, "{old:?} {new:?}");
+    assert_eq!(checker::check(&old, &new, &built.into()), Ok(()), "{old:?} {new:?}");
 }
 
 #[test]
@@ -101,12 +110,8 @@ fn worked_sessions_as_rendered() {
 /// The quick test of two assumptions agrees with the vectors and with the slow one.
 #[test]
 fn implication_by_differences() {
-    for line in include_str!("../vectors/implies.txt").lines() {
-        let words: Vec<&str> = line.split_whitespace().collect();
-        let n: Vec<u32> = words[..8].iter().map(|w| w.parse().unwrap()).collect();
-        let f = Operation { code: n[0], a: n[1], b: n[2], c: n[3] };
-        let g = Operation { code: n[4], a: n[5], b: n[6], c: n[7] };
-        assert_eq!(["never", "implied", "not"][algorithms::implies(f, g) as usize], words[8], "{line}");
+    for (f, g, answer) in vectors::implications() {
+        assert_eq!([algorithms::implies(f, g), model::implies(f, g)], [answer; 2], "{f:?} {g:?}");
     }
     let mut random = Random::new(20267);
     for _ in 0..cases(3000) {
@@ -116,25 +121,85 @@ fn implication_by_differences() {
     }
 }
 
-/// What is drawn has what the comparisons are for: every mark and answer, and builds of all sizes.
+/// Every pair of assumptions at the ends of both orders: the tests by differences and by what is let through agree with
+/// the trial of values. Of every two orders some pairs never hold, are implied, are not, and are opposite.
+#[test]
+fn every_pair_of_assumptions_as_modelled() {
+    let all = model::assumptions();
+    let mut seen = [[[0; 4]; 2]; 2];
+    for &f in &all {
+        for &g in &all {
+            let (answer, opposite) = (model::implies(f, g), model::exactly_one(f, g));
+            assert_eq!(algorithms::implies(f, g), answer, "{f:?} {g:?}");
+            assert_eq!(texts::opposite(f, g), opposite, "{f:?} {g:?}");
+            let of = &mut seen[model::is_signed(f) as usize][model::is_signed(g) as usize];
+            of[answer as usize] += 1;
+            of[3] += opposite as usize;
+        }
+    }
+    println!("by the order of both: never, implied, not; opposite: {seen:?}");
+    assert!(seen.iter().flatten().flatten().all(|n| *n > 100));
+}
+
+/// Old chart, new chart and what is printed.
+const SIGNED: [(&str, &str, &str); 9] = [
+    // The same rows in the other order are not equal; they match where the new one implies the old one. = and ≠ do.
+    ("3,2,2,0,0,0 0,1,16,0,0,5 0,2,17,0,0,5", "3,2,2,0,0,0 0,1,24,0,0,5 0,2,25,0,0,5", "0,1,0,2 0,0,65,3 0,1,130,3"),
+    ("3,2,2,0,0,0 0,1,24,0,0,5 0,2,25,0,0,5", "3,2,2,0,0,0 0,1,16,0,0,5 0,2,17,0,0,5", "0,1,0,2 0,0,65,3 0,1,130,3"),
+    ("3,2,2,0,0,0 0,1,32,0,1,0 0,2,33,0,1,0", "3,2,2,0,0,0 0,1,40,0,1,0 0,2,41,0,1,0", "0,1,0,2 0,0,65,3 0,1,130,3"),
+    // v0 <s 0 does not imply v0 < 0 but its opposite, which does not lead to the old alarm.
+    ("3,1,2,0,0,0 0,1,18,0,0,0 0,2,21,0,0,0", "3,1,2,0,0,0 0,1,26,0,0,0 0,2,29,0,0,0", "0,1,1,1 0,0,4097,2 0,1,130,3"),
+    // v0 <s v1 implies neither v0 < v1 nor its opposite, nor does v0 < v1 a signed one: the old place stays.
+    ("4,3,2,0,0,0 0,1,34,0,1,0 0,2,37,0,1,0", "4,3,2,0,0,0 0,1,42,0,1,0 0,2,45,0,1,0", "0,1,0,2 0,0,1,3 0,1,2,3"),
+    ("4,3,2,0,0,0 0,1,42,0,1,0 0,2,45,0,1,0", "4,3,2,0,0,0 0,1,34,0,1,0 0,2,37,0,1,0", "0,1,0,2 0,0,1,3 0,1,2,3"),
+    // Codes 24 to 29 read va, and not v0 for their b; codes 40 to 45 read vb too.
+    ("3,1,2,0,0,0 0,1,26,5,0,7 0,2,29,5,0,7", "4,2,3,0,0,0 0,1,0,0,0,1 1,2,26,5,0,7 1,3,29,5,0,7", "0,1,0,1 0,0,1,3"),
+    ("3,1,2,0,0,0 0,1,26,5,0,7 0,2,29,5,0,7", "4,2,3,0,0,0 0,1,0,5,0,1 1,2,26,5,0,7 1,3,29,5,0,7", "0,2,2,0 0,0,1,1 1,1,4098,2 1,2,4099,2"),
+    ("3,1,2,0,0,0 0,1,42,5,6,0 0,2,45,5,6,0", "4,2,3,0,0,0 0,1,0,6,0,1 1,2,42,5,6,0 1,3,45,5,6,0", "0,2,2,0 0,0,1,1 1,1,4098,2 1,2,4099,2"),
+];
+
+#[test]
+fn signed_rows_as_rendered() {
+    for (old, new, out) in SIGNED {
+        rendered(old, new, out);
+    }
+}
+
+/// The assumptions of a chart, each with the place that it leaves.
+fn asked(chart: &Chart) -> Vec<(u32, Operation)> {
+    let rows = (0..chart.rows.len() / 6).map(|i| model::row(&chart.rows, i));
+    rows.filter(|(_, _, o)| model::is_assumption(*o)).map(|(from, _, o)| (from, o)).collect()
+}
+
+/// What is drawn has what the comparisons are for: every mark and answer, builds of all sizes, places that ask in both
+/// orders, and amended ones that ask in the other.
 #[test]
 fn drawn_charts_are_varied() {
     let mut random = Random::new(20268);
+    let (mut signed, mut both_orders, mut other_order) = (0, 0, 0);
     for sort in SORTS {
         let (mut marks, mut lone, mut most) = ([0usize; 5], 0, 0);
-        for _ in 0..cases(if sort == Sort::Wide { 10 } else { 40 }) {
+        for _ in 0..cases(if sort == Sort::Wide { 20 } else { 40 }) {
             let (old, new) = drawn::pair(&mut random, sort);
             let built = algorithms::build(&old, &new);
             for &mark in &built.marks {
                 marks[mark as usize] += 1;
             }
             lone += (built.start == 4096) as usize;
+            let (before, after) = (asked(&old), asked(&new));
+            for &(from, o) in &after {
+                signed += model::is_signed(o) as usize;
+                both_orders += after.iter().any(|&(at, e)| at == from && model::is_signed(e) != model::is_signed(o)) as usize;
+                other_order += before.contains(&(from, Operation { code: o.code ^ 8, ..o })) as usize;
+            }
             most = most.max(built.marks.iter().filter(|m| **m != 0).count());
             assert_eq!(checker::check(&old, &new, &built.into()), Ok(()), "{old:?} {new:?}");
         }
         println!("{sort:?}: marks {marks:?}, lone starts {lone}, nodes of the largest {most}");
         assert!(marks[1] > 0 && marks[2] > 0 && marks[3] > 0 && (sort != Sort::Wide || most > 3000));
     }
+    println!("signed rows {signed}; rows beside one of the other order {both_orders}, amended to the other order {other_order}");
+    assert!(signed > 3000 && both_orders > 500 && other_order > 50);
 }
 
 // ---- the proved code
@@ -142,7 +207,7 @@ fn drawn_charts_are_varied() {
 mod proved {
     use super::*;
     use picker_tests::conditions::{build, check, Buffers};
-    use picker_tests::{texts, written};
+    use picker_tests::written;
 
     /// Buffers of the stated lengths, holding anything.
     fn rubbish(random: &mut Random) -> Buffers {
@@ -184,7 +249,7 @@ mod proved {
     #[test]
     fn vectors_of_pairs() {
         let mut random = Random::new(20270);
-        for line in blocks(include_str!("../vectors/pairs.txt"), &["old", "new", "out"]) {
+        for line in pairs() {
             let mut read = |text: &str| {
                 let mut table = vec![random.word(); 768];
                 let [places, alarm, rows, _] = texts::read(&text_of(text), &mut table).unwrap();
@@ -332,7 +397,7 @@ mod proved {
     #[test]
     fn covered_runs_reach_the_old_alarm() {
         let mut random = Random::new(20275);
-        let (mut covered, mut stopped, mut tried) = (0, 0, 0);
+        let (mut covered, mut stopped, mut signed, mut tried) = (0, 0, 0, 0);
         for sort in [Sort::Graphs, Sort::AmendedGraphs, Sort::Procedures, Sort::Renumbered, Sort::Sparse, Sort::Dense] {
             for _ in 0..share(sort, 500) {
                 let (old, new) = drawn::pair(&mut random, sort);
@@ -351,18 +416,19 @@ mod proved {
                     let mut values = [0; 64];
                     for v in &mut values {
                         let any = random.word();
-                        *v = random.one_of(&[0, 0, 1, 1, 2, 3, 4, 99, 100, 101, u32::MAX, u32::MAX - 1, any]);
+                        *v = random.one_of(&[0, 0, 1, 1, 2, 3, 4, 99, 100, 101, HALF - 1, HALF, HALF + 1, u32::MAX, u32::MAX - 1, any]);
                     }
                     let run = checker::run(&new, &values, 200);
                     tried += run.reached as usize;
                     let by = all.iter().filter(|record| keeps_promise(&old, &new, record, &values, &run)).count();
                     covered += by;
                     stopped += if run.stopped { by } else { 0 };
+                    signed += if run.signed { by } else { 0 };
                 }
             }
         }
-        println!("runs to the new alarm {tried}; covered ones {covered}, of which {stopped} stop at 0");
-        assert!(covered > 1000 && stopped > 100);
+        println!("runs to the new alarm {tried}; covered ones {covered}, of which {stopped} stop at 0, {signed} need a signed reading");
+        assert!(covered > 1000 && stopped > 100 && signed > 100);
     }
 
     /// Code 4 stops at 0, and the runs of both charts with it: where the burn is larger both come to the alarm of fuel
@@ -382,6 +448,35 @@ mod proved {
             let last = if left < 50 { 1 } else { 2 };
             assert_eq!(runs.each_ref().map(|run| run.rows.clone()), [vec![0, last], vec![0, 1, last + 1]]);
             assert_eq!(runs.each_ref().map(|run| run.reached), [left < 50; 2]);
+        }
+    }
+
+    #[test]
+    fn signed_rows() {
+        let mut random = Random::new(20283);
+        for (old, new, _) in SIGNED {
+            compare(&chart_of(old), &chart_of(new), rubbish(&mut random));
+        }
+    }
+
+    /// v0 <s 0 and v0 ≥ 2147483648 imply each other: where one chart asks the one and the other chart the other, both
+    /// come to the alarm from the same values. All runs with a row are covered.
+    #[test]
+    fn temperatures_below_zero() {
+        let signed = ["26,0,0,0", "29,0,0,0"];
+        let unsigned = ["21,0,0,2147483648", "18,0,0,2147483648"];
+        for ([was_cold, was_warm], [is_cold, is_warm]) in [(signed, unsigned), (unsigned, signed)] {
+            let old = chart_of(&format!("3,1,2,0,0,0 0,1,{was_cold} 0,2,{was_warm}"));
+            let new = chart_of(&format!("4,2,3,0,0,0 0,1,0,5,0,7 1,2,{is_cold} 1,3,{is_warm}"));
+            let record = compare(&old, &new, rubbish(&mut Random::new(20284)));
+            assert!(checker::covers(&new, &record, &[0]));
+            for (degrees, below) in [(0, false), (1, false), (i32::MAX, false), (i32::MIN, true), (i32::MIN + 1, true), (-1, true)] {
+                let mut values = [0; 64];
+                values[0] = degrees as u32;
+                let runs = [&old, &new].map(|chart| checker::run(chart, &values, 100));
+                assert_eq!(runs.each_ref().map(|run| run.rows.len()), [1, 2]);
+                assert_eq!(runs.each_ref().map(|run| run.reached), [below; 2], "{degrees}");
+            }
         }
     }
 

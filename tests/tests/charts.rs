@@ -1,26 +1,14 @@
 //! The crates `operations` and `chart` against the vectors and against a plain Rust reading of the specification.
 
-use picker_tests::{cases, conditions, exactly_one, fault, implies, meets, model, written, Chart, Operation, Random};
+use picker_tests::model::HALF;
+use picker_tests::{algorithms, cases, conditions, exactly_one, fault, implies, meets, model, texts, vectors, written};
+use picker_tests::{Chart, Operation, Random};
 
-/// Each line of the vectors: two assumptions, then `never`, `implied` or `not`.
 #[test]
 fn vectors_of_implication() {
-    let mut count = 0;
-    for line in include_str!("../vectors/implies.txt").lines() {
-        let words: Vec<&str> = line.split_whitespace().collect();
-        let n: Vec<u32> = words[..8].iter().map(|w| w.parse().unwrap()).collect();
-        let f = Operation { code: n[0], a: n[1], b: n[2], c: n[3] };
-        let g = Operation { code: n[4], a: n[5], b: n[6], c: n[7] };
-        let expected = match words[8] {
-            "never" => 0,
-            "implied" => 1,
-            "not" => 2,
-            other => panic!("unknown answer {other}"),
-        };
-        assert_eq!(implies(f, g), expected, "{line}");
-        count += 1;
+    for (f, g, answer) in vectors::implications() {
+        assert_eq!(implies(f, g), answer, "{f:?} {g:?}");
     }
-    assert!(count > 1000, "only {count} vectors");
 }
 
 /// Each line of the vectors: op, a, b, c, the value of vb, that of v(c) or, where c is no variable, one that is not
@@ -45,6 +33,59 @@ fn vectors_of_values() {
     assert!(count[2..].iter().all(|n| *n > 30) && stopped > 50, "only {count:?} vectors, {stopped} of which stop at 0");
 }
 
+/// Two assumptions (op a b c each), and whether the first never holds (0), implies the second (1) or does not (2).
+const SIGNED: [([u32; 4], [u32; 4], u32); 24] = [
+    // v0 <s 0 and v0 ≥ 2147483648 imply each other, and so do their opposites.
+    ([26, 0, 0, 0], [21, 0, 0, 2147483648], 1),
+    ([21, 0, 0, 2147483648], [26, 0, 0, 0], 1),
+    ([29, 0, 0, 0], [18, 0, 0, 2147483648], 1),
+    ([18, 0, 0, 2147483648], [29, 0, 0, 0], 1),
+    // = and ≠ are the same in both orders.
+    ([24, 0, 0, 7], [16, 0, 0, 7], 1),
+    ([16, 0, 0, 7], [24, 0, 0, 7], 1),
+    ([25, 0, 0, 4294967295], [17, 0, 0, 4294967295], 1),
+    ([40, 0, 1, 0], [32, 0, 1, 0], 1),
+    ([33, 0, 1, 0], [41, 1, 0, 0], 1),
+    // The others are not: a number from 2147483648 on is below 100 in one order, above it in the other.
+    ([18, 0, 0, 100], [26, 0, 0, 100], 1),
+    ([26, 0, 0, 100], [18, 0, 0, 100], 2),
+    ([29, 0, 0, 100], [21, 0, 0, 100], 1),
+    ([21, 0, 0, 100], [29, 0, 0, 100], 2),
+    ([42, 0, 1, 0], [34, 0, 1, 0], 2),
+    ([34, 0, 1, 0], [42, 0, 1, 0], 2),
+    ([42, 0, 1, 0], [33, 0, 1, 0], 1),
+    ([32, 0, 1, 0], [43, 0, 1, 0], 1),
+    // The ends of the signed order, of which the constant 4294967295, read as −1, is none.
+    ([26, 0, 0, 2147483648], [16, 1, 0, 7], 0),
+    ([28, 0, 0, 2147483647], [16, 1, 0, 7], 0),
+    ([28, 0, 0, 4294967295], [16, 1, 0, 7], 2),
+    ([42, 0, 1, 0], [25, 1, 0, 2147483648], 1),
+    ([42, 0, 1, 0], [27, 0, 0, 2147483646], 1),
+    ([42, 0, 1, 0], [17, 1, 0, 0], 2),
+    ([24, 0, 0, 2147483648], [43, 0, 1, 0], 1),
+];
+
+/// The two assumptions of such a line.
+fn both(f: [u32; 4], g: [u32; 4]) -> [Operation; 2] {
+    [f, g].map(|[code, a, b, c]| Operation { code, a, b, c })
+}
+
+#[test]
+fn signed_comparisons_as_rendered() {
+    for (f, g, answer) in SIGNED {
+        let [f, g] = both(f, g);
+        assert_eq!([model::implies(f, g), algorithms::implies(f, g)], [answer; 2], "{f:?} {g:?}");
+    }
+}
+
+#[test]
+fn signed_comparisons() {
+    for (f, g, answer) in SIGNED {
+        let [f, g] = both(f, g);
+        assert_eq!(implies(f, g), answer, "{f:?} {g:?}");
+    }
+}
+
 #[test]
 fn assumptions_as_modelled() {
     let mut random = Random::new(20261);
@@ -56,18 +97,31 @@ fn assumptions_as_modelled() {
     }
 }
 
+/// Against the quick renderings, which agree with the slow one on these.
+#[test]
+fn every_pair_of_assumptions() {
+    let all = model::assumptions();
+    for &f in &all {
+        for &g in &all {
+            assert_eq!(implies(f, g), algorithms::implies(f, g), "{f:?} {g:?}");
+            assert_eq!(exactly_one(f, g), texts::opposite(f, g), "{f:?} {g:?}");
+        }
+    }
+}
+
 #[test]
 fn operations_as_modelled() {
     let mut random = Random::new(20262);
     let mut values = [0u32; 64];
+    let mut signed = [0; 2];
     for _ in 0..cases(20000) {
         for v in values.iter_mut() {
             let any = random.word();
-            *v = random.one_of(&[0, 1, 2, 99, 100, u32::MAX, u32::MAX - 1, any]);
+            *v = random.one_of(&[0, 1, 2, 99, 100, HALF - 1, HALF, HALF + 1, u32::MAX, u32::MAX - 1, any]);
         }
         let mut o = model::operation(&mut random, &model::CODES);
         if random.below(10) == 0 {
-            o.code = random.one_of(&[6, 15, 22, 31, 38, u32::MAX]);
+            o.code = random.one_of(&[6, 15, 22, 23, 30, 31, 38, 39, 46, 47, u32::MAX]);
         }
         if random.below(10) == 0 {
             o.b = random.one_of(&[1, 64, u32::MAX]);
@@ -85,7 +139,12 @@ fn operations_as_modelled() {
         assert_eq!(written(o, &values), expected, "{o:?}");
         let expected = refused(model::is_assumption(o)).map_or_else(|| model::holds(o, &values) as u64, |n| (1 << 32) + n);
         assert_eq!(meets(o, &values), expected, "{o:?}");
+        if model::is_signed(o) && model::operands_fit(o) {
+            let differs = model::holds(o, &values) != model::holds(Operation { code: o.code - 8, ..o }, &values);
+            signed[differs as usize] += 1;
+        }
     }
+    assert!(signed[0] > 1000 && signed[1] > 1000, "signed comparisons that are as the unsigned ones, and that are not: {signed:?}");
     let o = Operation { code: 0, a: 0, b: 0, c: 7 };
     assert_eq!(written(o, &values[..63]), (1 << 32) + 21);
     assert_eq!(meets(o, &[0; 65]), (1 << 32) + 21);
@@ -174,11 +233,16 @@ fn edges() {
     assert_eq!(fault(&chart(64, 0, &more)), (2, 0));
     assert_eq!(fault(&chart(1, 0, &[0, 0, 0, 63, 0, 0])), (0, 0));
     assert_eq!(fault(&chart(1, 0, &[0, 0, 0, 64, 0, 0])), (7, 0));
-    for code in [6, 22, 38] {
-        assert_eq!(fault(&chart(1, 0, &[0, 0, code, 0, 0, 0])), (6, 0));
+    for code in 0..100 {
+        let number = if matches!(code, 0..=5 | 16..=21 | 24..=29 | 32..=37 | 40..=45) { 0 } else { 6 };
+        assert_eq!(fault(&chart(1, 0, &[0, 0, code, 0, 0, 0])), (number, 0), "{code}");
     }
     // v0 < 0 beside v1 ≥ 0 passes, beside v1 < 0 it does not; a third row of a place is always in conflict.
     assert_eq!(fault(&chart(1, 0, &[0, 0, 18, 0, 0, 0, 0, 0, 21, 1, 0, 0])), (0, 0));
     assert_eq!(fault(&chart(1, 0, &[0, 0, 18, 0, 0, 0, 0, 0, 18, 1, 0, 0])), (8, 1));
     assert_eq!(fault(&chart(1, 0, &[0, 0, 16, 0, 0, 1, 0, 0, 17, 0, 0, 1, 0, 0, 16, 0, 0, 1])), (8, 2));
+    // v0 <s 0 beside v0 < 2147483648 passes, beside v0 ≥ 0 it does not; v0 <s −2147483648 beside v1 ≥ 0 passes.
+    assert_eq!(fault(&chart(1, 0, &[0, 0, 26, 0, 0, 0, 0, 0, 18, 0, 0, HALF])), (0, 0));
+    assert_eq!(fault(&chart(1, 0, &[0, 0, 26, 0, 0, 0, 0, 0, 21, 0, 0, 0])), (8, 1));
+    assert_eq!(fault(&chart(1, 0, &[0, 0, 26, 0, 0, HALF, 0, 0, 21, 1, 0, 0])), (0, 0));
 }

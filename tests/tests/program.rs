@@ -114,9 +114,14 @@ fn places_and_rows() {
 fn variables_and_codes() {
     passes(&text(2, 1, &[[0, 1, 0, 63, 0, 5]]));
     refused(&text(2, 1, &[[0, 1, 0, 64, 0, 5]]), 7, 0);
-    for code in [6, 22, 38] {
+    for code in [6, 22, 23, 30, 31, 38, 39, 46, 47] {
         refused(&text(2, 1, &[[0, 0, 16, 0, 0, 0], [0, 1, code, 0, 0, 0]]), 6, 1);
     }
+    for code in [24, 27, 29, 40, 43, 45] {
+        passes(&text(2, 1, &[[0, 1, code, 63, 0, 0]]));
+    }
+    refused(&text(2, 1, &[[0, 1, 24, 0, 1, 0]]), 7, 0);
+    refused(&text(2, 1, &[[0, 1, 40, 0, 0, 1]]), 7, 0);
 }
 
 #[test]

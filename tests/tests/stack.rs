@@ -91,7 +91,7 @@ fn the_paint_tells() {
 
 /// The calls that are measured, and what each may take.
 const CALLS: [(&str, usize); 6] =
-    [("build", 4096), ("check", 1024), ("lookup", 1024), ("write", 1024), ("read", 4096), ("judge", 1024)];
+    [("build", 4096), ("check", 1280), ("lookup", 1024), ("write", 1024), ("read", 4096), ("judge", 1024)];
 
 /// What each call took at most.
 struct Most([usize; 6]);

@@ -1,7 +1,7 @@
 //! The crate `text`, through the C interface, against the vectors and against a plain Rust reader and writer.
 
-use picker_tests::texts::{damage, fault, opposite, plain_read, plain_write, read, varied, write, Wrong};
-use picker_tests::{cases, model, Chart, Random};
+use picker_tests::texts::{damage, fault, opposite, plain_chart, plain_read, plain_write, read, varied, write, Wrong};
+use picker_tests::{cases, model, vectors, Chart, Random};
 
 /// What a table holds before: numbers that no chart has.
 fn rubbish() -> Vec<u32> {
@@ -33,29 +33,36 @@ fn shown(text: &[u8]) -> String {
     text.escape_ascii().to_string()
 }
 
-/// Each line of the vectors: a text in hex, then its chart's numbers or its refusal.
+/// Every vector against the plain reader, whose charts are judged in both ways: by the quick test and by the slow one.
+#[test]
+fn vectors_of_texts_as_rendered() {
+    for (text, answer) in vectors::texts() {
+        let slow = plain_chart(&text, Wrong::Not).and_then(|chart| match model::fault(&chart) {
+            (0, _) => Ok(chart),
+            refused => Err(refused),
+        });
+        for read in [plain_read(&text, Wrong::Not), slow] {
+            let read = read.map(|chart| [chart.places as u64, chart.alarm as u64, chart.rows.len() as u64 / 6]);
+            assert_eq!(read.map_err(|(number, position)| (number, 0, position)), answer, "{}", shown(&text));
+        }
+    }
+}
+
 #[test]
 fn vectors_of_texts() {
     let mut counts = [0; 2];
-    for line in include_str!("../vectors/texts.txt").lines() {
-        let words: Vec<&str> = line.split_whitespace().collect();
-        let hex = if words[0] == "-" { "" } else { words[0] };
-        let text: Vec<u8> = (0..hex.len() / 2).map(|i| u8::from_str_radix(&hex[2 * i..2 * i + 2], 16).unwrap()).collect();
-        let n: Vec<u64> = words[2..].iter().map(|w| w.parse().unwrap()).collect();
+    for (text, answer) in vectors::texts() {
         let mut table = rubbish();
-        let answer = read(&text, &mut table);
-        match words[1] {
-            "chart" => {
-                assert_eq!(answer, Ok([n[0], n[1], n[2], 0]), "{line}");
-                back(&Chart { places: n[0] as u32, alarm: n[1] as u32, rows: table[..6 * n[2] as usize].to_vec() });
+        assert_eq!(read(&text, &mut table), answer.map(|[places, alarm, rows]| [places, alarm, rows, 0]), "{}", shown(&text));
+        match answer {
+            Ok([places, alarm, rows]) => {
+                back(&Chart { places: places as u32, alarm: alarm as u32, rows: table[..6 * rows as usize].to_vec() });
                 counts[0] += 1;
             }
-            "refused" => {
-                assert_eq!(answer, Err((n[0] as u32, n[1] as u32, n[2] as usize)), "{line}");
-                assert_eq!(table, rubbish(), "{line}");
+            Err(_) => {
+                assert_eq!(table, rubbish(), "{}", shown(&text));
                 counts[1] += 1;
             }
-            other => panic!("unknown answer {other}"),
         }
     }
     assert!(counts[0] > 100 && counts[1] > 100, "only {counts:?} vectors");
@@ -171,7 +178,7 @@ fn edges_of_texts() {
     assert_eq!(read(&long, &mut table), read(&long[..16384], &mut table));
     assert_eq!(read(&long, &mut table), Err((14, 0, text.len())));
     assert_eq!(table, before);
-    // Fields of the first record.
+    // Fields of the first record, and of a row.
     for (text, answer) in [
         ("1,0,129,0,0,0", (2, 4)),
         ("1,0,0129,0,0,0", (13, 4)),
@@ -188,8 +195,12 @@ fn edges_of_texts() {
         ("1\"2\"", (12, 1)),
         ("\"\"", (12, 1)),
         ("", (11, 0)),
+        // A number below 0 is written as the u32 of the same bits: there is no sign.
+        ("1,0,1,0,0,0\r\n0,0,24,0,0,-1\r\n", (12, 24)),
+        ("1,0,1,0,0,0\r\n0,0,24,0,0,\"-1\"\r\n", (12, 25)),
     ] {
         assert_eq!(read(text.as_bytes(), &mut table), Err((answer.0, 0, answer.1)), "{text}");
+        assert_eq!(plain_read(text.as_bytes(), Wrong::Not).map(|_| ()), Err(answer), "{text}");
     }
     // Lent lengths, before everything else.
     for len in [0, 6, 767, 769] {
