@@ -39,7 +39,13 @@ END { print "}" }
 # An operation in words; an unknown one as its numbers.
 function operation(op, a, b, c) {
     if (!(("op", op) in words)) return op "," a "," b "," c
-    return put(put(put(words["op", op], "a", a), "b", b), "c", c)
+    return put(put(put(put(words["op", op], "a", a), "b", b), "c", c), "signed c", signed(c))
+}
+
+# A constant read as two's complement of 32 bits, with its sign. By %.0f, as there are awks that cut %d at 31 bits and
+# join larger numbers to a text as 2.14748e+09.
+function signed(c) {
+    return c < 2147483648 ? c : sprintf("%.0f", c - 4294967296)
 }
 
 function place(chart, number) {
