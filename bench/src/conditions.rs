@@ -1,10 +1,12 @@
 //! The lines of building and checking: the proved code, plain Rust over the same buffers (in three ways), and Rust as
 //! written for everyday use.
 
+use crate::signed::{half_signed, signed};
 use crate::turns::{line, turns, Contender, Time, DRAWS};
 use crate::{everyday, plain_build};
 use picker_tests::checker::Record;
 use picker_tests::conditions::{build, check, Buffers};
+use picker_tests::drawn::Orders;
 use picker_tests::{algorithms, drawn, Chart, Random};
 use std::hint::black_box;
 
@@ -14,12 +16,33 @@ struct Work {
     pairs: Vec<(Chart, Chart)>,
 }
 
+/// One draw of every kind, and what is made of some of them with signed comparisons.
+fn work(random: &mut Random) -> Vec<Work> {
+    let drawn = drawn_work(random);
+    let make = |what: &str, of: &str, old: fn(&Chart) -> Chart, new: fn(&Chart) -> Chart| {
+        let of = drawn.iter().find(|work| work.what == of).expect("a kind that is drawn");
+        Work { what: what.to_string(), pairs: of.pairs.iter().map(|pair| (old(&pair.0), new(&pair.1))).collect() }
+    };
+    let (few, many, grow) =
+        ("small amendments, 64 places", "all pairs visited, 64 places", "all pairs visited, sets grow, 64 places");
+    let made = [
+        make("small amendments, signed, 8 places", "small amendments, 8 places", signed, signed),
+        make("small amendments, signed, 64 places", few, signed, signed),
+        make("all pairs visited, sets grow, signed, 64 places", grow, signed, signed),
+        make("small amendments, half signed, 64 places", few, half_signed, half_signed),
+        // No comparison has an equal one, so that each is tested against those of the old chart.
+        make("small amendments, only the new chart signed, 64 places", few, Chart::clone, signed),
+        make("many pairs visited, only the new chart signed, 64 places", many, Chart::clone, signed),
+    ];
+    drawn.into_iter().chain(made).collect()
+}
+
 /// One draw of every kind.
 fn drawn_work(random: &mut Random) -> Vec<Work> {
     let mut all = Vec::new();
     let mut renumbered = Vec::new();
     for places in [8, 16, 32, 64] {
-        let pairs: Vec<_> = (0..20).map(|_| drawn::procedures(random, places)).collect();
+        let pairs: Vec<_> = (0..20).map(|_| drawn::procedures(random, places, Orders::Unsigned)).collect();
         renumbered = pairs.iter().map(|(old, _)| (old.clone(), drawn::renumbered(random, old))).collect();
         all.push(Work { what: format!("small amendments, {places} places"), pairs });
     }
@@ -106,7 +129,7 @@ fn nodes(all: &[&Work]) -> usize {
 }
 
 pub fn lines() {
-    let draws: Vec<Vec<Work>> = DRAWS.iter().map(|seed| drawn_work(&mut Random::new(*seed))).collect();
+    let draws: Vec<Vec<Work>> = DRAWS.iter().map(|seed| work(&mut Random::new(*seed))).collect();
     for kind in 0..draws[0].len() {
         let all: Vec<&Work> = draws.iter().map(|draw| &draw[kind]).collect();
         let (what, nodes) = (&all[0].what, Some(nodes(&all)));
@@ -114,5 +137,26 @@ pub fn lines() {
         line(&format!("build, {what}"), nodes, &times, [Some(1), Some(2), Some(3), Some(4)]);
         let times: Vec<_> = all.iter().map(|work| checking(&work.pairs)).collect();
         line(&format!("check, {what}"), nodes, &times, [Some(1), None, None, Some(2)]);
+    }
+}
+
+#[cfg(test)]
+mod tests {
+    use super::*;
+
+    /// Every pair of every line is faultless, and has signed comparisons exactly where its line says so.
+    #[test]
+    fn drawn_charts() {
+        for seed in DRAWS {
+            for Work { what, pairs } in work(&mut Random::new(seed)) {
+                for (old, new) in &pairs {
+                    assert_eq!(plain_build::judged(old, new), Ok(()), "{what}: {old:?} {new:?}");
+                }
+                let signed = |chart: &Chart| chart.rows.chunks_exact(6).any(|row| row[2] & 8 != 0);
+                let found = [pairs.iter().any(|pair| signed(&pair.0)), pairs.iter().any(|pair| signed(&pair.1))];
+                let due = what.contains("signed");
+                assert_eq!(found, [due && !what.contains("only the new chart"), due], "{what}");
+            }
+        }
     }
 }

@@ -248,7 +248,9 @@ fn leads(old: &Graph, new_alarm: usize, from: Pair, set: u64, row: &[u32], to: P
 #[cfg(test)]
 mod tests {
     use super::*;
+    use crate::{plain_build, signed};
     use picker_tests::checker::{self, Record};
+    use picker_tests::conditions::Buffers;
     use picker_tests::drawn::{self, Sort, SORTS};
     use picker_tests::{algorithms, cases, model, Random};
 
@@ -332,6 +334,35 @@ mod tests {
                     if !matches!(expected, Err((31, ..))) {
                         assert_eq!(check(&old, &new, &condition(&r)), Ok(expected.is_ok()), "{old:?} {new:?} {r:?}");
                         answers[expected.is_ok() as usize] += 1;
+                    }
+                }
+            }
+        }
+        assert!(answers.iter().all(|n| *n > 100), "{answers:?}");
+    }
+
+    /// With signed comparisons, in one of the two charts and beside unsigned ones too: as the plain Rust beside it.
+    #[test]
+    fn signed_charts() {
+        let mut random = Random::new(20295);
+        let mut answers = [0; 2];
+        for sort in SORTS {
+            for _ in 0..cases(if sort == Sort::Wide { 2 } else { 40 }) {
+                let (old, new) = drawn::pair(&mut random, sort);
+                for (old, new) in signed::pairs(&old, &new) {
+                    let mut b = Buffers { marks: vec![9; 4160], targets: vec![9; 8192], sets: vec![9; 4096], waiting: vec![9; 4096] };
+                    let start = plain_build::build::<true>(&old, &new, &mut b).unwrap()[0];
+                    let built = Record { start, marks: b.marks, targets: b.targets, sets: b.sets };
+                    assert!(record(&build(&old, &new).unwrap()) == built, "{old:?} {new:?}");
+                    for changes in 0..4 {
+                        let mut r = built.clone();
+                        (0..changes).for_each(|_| drawn::spoil(&mut random, &mut r));
+                        let expected = plain_build::check(&old, &new, r.start, &r.marks, &r.targets, &r.sets);
+                        // What is no record at all has no condition.
+                        if !matches!(expected, Err((31, ..))) {
+                            assert_eq!(check(&old, &new, &condition(&r)), Ok(expected.is_ok()), "{old:?} {new:?} {r:?}");
+                            answers[expected.is_ok() as usize] += 1;
+                        }
                     }
                 }
             }

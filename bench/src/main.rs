@@ -1,11 +1,12 @@
 //! One table, in Markdown: the proved code and Rust without proof on the same work, in one run, side by side. It takes
-//! about three minutes, and means something only where nothing else runs.
+//! about four minutes, and means something only where nothing else runs.
 
 mod conditions;
 mod everyday;
 mod plain;
 mod plain_build;
 mod program;
+mod signed;
 mod texts;
 mod turns;
 

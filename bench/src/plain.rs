@@ -1,6 +1,6 @@
 //! The same work in plain Rust, over the same buffers, written for speed and not for proof.
 
-use crate::plain_build::exactly_one;
+use crate::plain_build::{exactly_one, opposite};
 use picker_tests::Chart;
 
 type Refusal = (u32, usize);
@@ -156,8 +156,8 @@ pub fn judge(n: u32, alarm: u32, rows: &[u32]) -> (u32, usize) {
         }
         previous = r[0];
         let (b, c) = match r[2] {
-            0 | 16..=21 => (r[4] == 0, true),
-            1 | 5 | 32..=37 => (r[4] < 64, r[5] == 0),
+            0 | 16..=21 | 24..=29 => (r[4] == 0, true),
+            1 | 5 | 32..=37 | 40..=45 => (r[4] < 64, r[5] == 0),
             2 => (r[4] < 64, true),
             3 | 4 => (r[4] < 64, r[5] < 64),
             _ => return (6, i),
@@ -180,16 +180,13 @@ fn apart(e: &[u32], r: &[u32]) -> bool {
     if e[2] < 16 || r[2] < 16 {
         return false;
     }
-    const OPPOSITE: [u32; 6] = [1, 0, 5, 4, 3, 2];
-    if e[3..6] == r[3..6] && e[2] / 16 == r[2] / 16 && OPPOSITE[(e[2] % 16) as usize] == r[2] % 16 {
-        return true;
-    }
-    exactly_one(e, r)
+    (opposite(e[2]) == r[2] && e[3..6] == r[3..6]) || exactly_one(e, r)
 }
 
 #[cfg(test)]
 mod tests {
     use super::*;
+    use crate::signed::{half_signed, signed};
     use picker_tests::texts::{damage, fault, plain_read, plain_write, varied, Wrong};
     use picker_tests::{cases, model, Random};
 
@@ -223,5 +220,61 @@ mod tests {
             }
         }
         assert!(refused > 1000, "only {refused} refused");
+    }
+
+    /// Every code, with operands that it takes and with one too large or not 0: which codes there are, and what each uses.
+    #[test]
+    fn codes_and_operands() {
+        let judged = |code, a, b, c| judge(1, 0, &[0, 0, code, a, b, c]).0;
+        for code in (0..=300).chain([u32::MAX - 7, u32::MAX]) {
+            // The largest b and c; an operand that is not used is 0.
+            let (b, c) = match code {
+                0 | 16..=21 | 24..=29 => (0, u32::MAX),
+                1 | 5 | 32..=37 | 40..=45 => (63, 0),
+                2 => (63, u32::MAX),
+                3 | 4 => (63, 63),
+                _ => {
+                    assert_eq!(judged(code, 64, 64, 64), 6, "{code}");
+                    continue;
+                }
+            };
+            assert_eq!([judged(code, 63, b, c), judged(code, 0, 0, 0)], [0, 0], "{code}");
+            assert_eq!([judged(code, 64, b, c), judged(code, 63, b + 1, c)], [7, 7], "{code}");
+            assert_eq!(judged(code, 63, b, c.wrapping_add(1)), if c == u32::MAX { 0 } else { 7 }, "{code}");
+        }
+    }
+
+    /// In the other order a chart has the faults that it had.
+    #[test]
+    fn faults_in_the_other_order() {
+        let mut random = Random::new(20288);
+        for _ in 0..cases(20_000) {
+            let chart = model::chart(&mut random);
+            let made = signed(&chart);
+            assert_eq!(judge(made.places, made.alarm, &made.rows), judge(chart.places, chart.alarm, &chart.rows), "{made:?}");
+        }
+    }
+
+    /// The faults that the proved code finds, with signed comparisons beside unsigned ones, at one place too.
+    #[test]
+    fn faults_as_proved() {
+        let mut random = Random::new(20289);
+        let mut numbers = [0; 9];
+        for _ in 0..cases(20_000) {
+            let chart = model::chart(&mut random);
+            let mut made = if random.below(2) == 0 { signed(&chart) } else { half_signed(&chart) };
+            if random.below(4) == 0 && !made.rows.is_empty() {
+                let row = 6 * random.below(made.rows.len() as u64 / 6) as usize;
+                match random.below(3) {
+                    0 => made.rows[row + 2] ^= 8,
+                    1 => made.rows[row + 2] = random.one_of(&[22, 23, 24, 29, 30, 31, 38, 39, 40, 45, 46, 47]),
+                    _ => made.rows[row + 5] = random.one_of(&[0, 1, (1 << 31) - 1, 1 << 31, u32::MAX]),
+                }
+            }
+            let expected = picker_tests::fault(&made);
+            assert_eq!(judge(made.places, made.alarm, &made.rows), expected, "{made:?}");
+            numbers[expected.0 as usize] += 1;
+        }
+        assert!([0, 6, 7, 8].iter().all(|n| numbers[*n] > 100), "{numbers:?}");
     }
 }

@@ -53,10 +53,23 @@ pub fn judged(old: &Chart, new: &Chart) -> Result<(), Refusal> {
 
 // ---- two assumptions
 
-/// Which of below (1), at (2) and above (4) a relation lets through.
-const LETS: [u8; 6] = [2, 5, 1, 3, 4, 6];
+/// Which of below (1), at (2) and above (4) a relation lets through: the code's remainder by 8, of which 6 and 7 are none.
+const LETS: [u8; 8] = [2, 5, 1, 3, 4, 6, 0, 0];
 
-/// Which of them there are: for the comparison of a variable with itself or with a constant at an end, not all.
+/// The code of the assumption that holds exactly where one with this code does not, of the same operands and in the same order.
+#[inline]
+pub fn opposite(code: u32) -> u32 {
+    const OTHERWISE: [u32; 8] = [1, 0, 5, 4, 3, 2, 6, 7];
+    code & !7 | OTHERWISE[(code & 7) as usize]
+}
+
+/// The bit that a code's order turns round: with it turned on both sides, signed values compare as unsigned ones.
+#[inline]
+fn turn(o: &[u32]) -> u32 {
+    (o[2] & 8) << 28
+}
+
+/// Which of them there are: for the comparison of a variable with itself or with a constant at an end of the order, not all.
 #[inline]
 fn there(o: &[u32]) -> u8 {
     if o[2] >= 32 {
@@ -66,26 +79,39 @@ fn there(o: &[u32]) -> u8 {
             7
         }
     } else {
-        (o[5] > 0) as u8 | 2 | ((o[5] < u32::MAX) as u8) << 2
+        let c = o[5] ^ turn(o);
+        (c > 0) as u8 | 2 | ((c < u32::MAX) as u8) << 2
     }
 }
 
-/// The only value that a comparison with a constant lets through, if that is 0 or the largest.
-fn end(lets: u8, c: u32) -> Option<u32> {
+/// The only value that a comparison with a constant lets through, if there is one.
+fn sole(lets: u8, o: &[u32]) -> Option<u32> {
+    let c = o[5] ^ turn(o);
     match (lets, c) {
-        (2 | 3, 0) | (1, 1) => Some(0),
-        (2 | 6, u32::MAX) | (4, 4294967294) => Some(u32::MAX),
+        (2, _) => Some(c),
+        (3, 0) | (1, 1) => Some(0),
+        (6, u32::MAX) | (4, 4294967294) => Some(u32::MAX),
         _ => None,
     }
+    .map(|x| x ^ turn(o))
 }
 
 fn turned(lets: u8) -> u8 {
     lets & 2 | lets >> 2 | (lets & 1) << 2
 }
 
+/// What a comparison of two variables lets through, as the other order has it: equal values are equal there, others below or above.
+fn in_the_other_order(lets: u8) -> u8 {
+    if lets & 5 == 0 {
+        lets
+    } else {
+        lets | 5
+    }
+}
+
 /// Some values meet the first assumption, and all that do meet the second.
 pub fn implied(f: &[u32], g: &[u32]) -> bool {
-    let (f_lets, g_lets) = (LETS[(f[2] % 16) as usize], LETS[(g[2] % 16) as usize]);
+    let (f_lets, g_lets) = (LETS[(f[2] % 8) as usize], LETS[(g[2] % 8) as usize]);
     let (f_there, g_there) = (there(f), there(g));
     if f_lets & f_there == 0 {
         return false;
@@ -98,10 +124,15 @@ pub fn implied(f: &[u32], g: &[u32]) -> bool {
     }
     match (f[2] < 32, g[2] < 32) {
         (true, true) => {
-            let lets = |lets: u8, c: u32, x: u32| lets >> (1 + (x > c) as u8 - (x < c) as u8) & 1 == 1;
-            let points = [0, u32::MAX, f[5].wrapping_sub(1), f[5], f[5].wrapping_add(1), g[5].wrapping_sub(1), g[5], g[5].wrapping_add(1)];
-            f[3] == g[3] && points.iter().all(|&x| !lets(f_lets, f[5], x) || lets(g_lets, g[5], x))
+            let lets = |lets: u8, o: &[u32], x: u32| {
+                let (x, c) = (x ^ turn(o), o[5] ^ turn(o));
+                lets >> (1 + (x > c) as u8 - (x < c) as u8) & 1 == 1
+            };
+            // Where an answer can change, going up from 0: at the least value of an order, at a constant and after it.
+            let points = [0, 1 << 31, f[5], f[5].wrapping_add(1), g[5], g[5].wrapping_add(1)];
+            f[3] == g[3] && points.iter().all(|&x| !lets(f_lets, f, x) || lets(g_lets, g, x))
         }
+        // The variable that is compared with nothing else has any value: so the other has the least or the greatest one.
         (true, false) => {
             let lets = if f[3] == g[3] {
                 g_lets
@@ -110,7 +141,7 @@ pub fn implied(f: &[u32], g: &[u32]) -> bool {
             } else {
                 return false;
             };
-            matches!((lets, end(f_lets, f[5])), (3, Some(0)) | (6, Some(u32::MAX)))
+            matches!((lets, sole(f_lets, f).map(|x| x ^ turn(g))), (3, Some(0)) | (6, Some(u32::MAX)))
         }
         (false, true) => {
             let lets = if g[3] == f[3] {
@@ -120,36 +151,40 @@ pub fn implied(f: &[u32], g: &[u32]) -> bool {
             } else {
                 return false;
             };
-            matches!((lets, end(7 - g_lets, g[5])), (1, Some(u32::MAX)) | (4, Some(0)))
+            matches!((lets, sole(7 - g_lets, g).map(|x| x ^ turn(f))), (1, Some(u32::MAX)) | (4, Some(0)))
         }
         (false, false) => {
-            if f[3..5] == g[3..5] {
-                f_lets & !g_lets == 0
+            let lets = if f[3..5] == g[3..5] {
+                f_lets
+            } else if f[3] == g[4] && f[4] == g[3] {
+                turned(f_lets)
             } else {
-                f[3] == g[4] && f[4] == g[3] && turned(f_lets) & !g_lets == 0
-            }
+                return false;
+            };
+            let lets = if turn(f) == turn(g) { lets } else { in_the_other_order(lets) };
+            lets & !g_lets == 0
         }
     }
 }
 
 /// Exactly one of two assumptions holds, for all values.
 pub fn exactly_one(f: &[u32], g: &[u32]) -> bool {
-    const OPPOSITE: [u32; 6] = [1, 0, 5, 4, 3, 2];
-    let not = |o: &[u32]| [o[0], o[1], o[2] / 16 * 16 + OPPOSITE[(o[2] % 16) as usize], o[3], o[4], o[5]];
-    let never = |o: &[u32]| LETS[(o[2] % 16) as usize] & there(o) == 0;
+    let not = |o: &[u32]| [o[0], o[1], opposite(o[2]), o[3], o[4], o[5]];
+    let never = |o: &[u32]| LETS[(o[2] % 8) as usize] & there(o) == 0;
     let (not_f, not_g) = (not(f), not(g));
     (never(f) || implied(f, &not_g)) && (never(&not_f) || implied(&not_f, g))
 }
 
 // ---- the step
 
+/// The variables that an operation of a faultless chart reads.
 #[inline]
 pub fn read_by(o: &[u32]) -> u64 {
     match o[2] {
         0 => 0,
         1 | 2 | 5 => 1 << o[4],
         3 | 4 => 1 << o[4] | 1 << o[5],
-        16..=21 => 1 << o[3],
+        16..=31 => 1 << o[3],
         _ => 1 << o[3] | 1 << o[4],
     }
 }
@@ -546,9 +581,11 @@ pub fn check(old: &Chart, new: &Chart, start: u32, marks: &[u8], targets: &[u16]
 #[cfg(test)]
 mod tests {
     use super::*;
+    use crate::signed;
     use picker_tests::checker::{self, Record};
     use picker_tests::drawn::{self, Sort, SORTS};
-    use picker_tests::{algorithms, cases, model, texts, Operation, Random};
+    use picker_tests::model::HALF;
+    use picker_tests::{algorithms, cases, conditions, model, texts, Operation, Random};
 
     fn row(o: Operation) -> [u32; 6] {
         [0, 0, o.code, o.a, o.b, o.c]
@@ -565,6 +602,97 @@ mod tests {
         }
     }
 
+    // ---- both orders
+
+    /// A comparison of any kind, in either order, of three variables or with a constant that mostly is at an end of an order.
+    fn comparison(random: &mut Random) -> Operation {
+        let any = random.word();
+        let constant = random.one_of(&[0, 1, 2, 100, 101, HALF - 2, HALF - 1, HALF, HALF + 1, u32::MAX - 1, u32::MAX, any]);
+        let (a, b) = (random.below(3) as u32, random.below(3) as u32);
+        let code = random.one_of(&[16, 24, 32, 40]) + random.below(6) as u32;
+        if code < 32 {
+            Operation { code, a, b: 0, c: constant }
+        } else {
+            Operation { code, a, b, c: 0 }
+        }
+    }
+
+    /// Whether values meet a comparison, by Rust's own reading of two's complement.
+    fn holds(o: Operation, v: [u32; 3]) -> bool {
+        let (x, y) = (v[o.a as usize], if o.code < 32 { o.c } else { v[o.b as usize] });
+        let order = if o.code / 8 % 2 == 0 { x.cmp(&y) } else { (x as i32).cmp(&(y as i32)) };
+        [order.is_eq(), order.is_ne(), order.is_lt(), order.is_le(), order.is_gt(), order.is_ge()][o.code as usize % 8]
+    }
+
+    /// Which answers two comparisons can have together, at 2 × the first's + the second's: tried at the ends of both orders and at the
+    /// constants, each with numbers around it.
+    fn together(f: Operation, g: Operation) -> [bool; 4] {
+        let mut points: Vec<u32> = [0, HALF, f.c, g.c].iter().flat_map(|c| [-2, -1, 0, 1, 2].map(|d| c.wrapping_add_signed(d))).collect();
+        points.sort_unstable();
+        points.dedup();
+        let mut seen = [false; 4];
+        for &x in &points {
+            for &y in &points {
+                for &z in &points {
+                    seen[2 * holds(f, [x, y, z]) as usize + holds(g, [x, y, z]) as usize] = true;
+                }
+            }
+        }
+        seen
+    }
+
+    /// Whether the first implies the second, as `implied` has it, and whether always exactly one holds: by trial.
+    #[test]
+    fn assumptions_of_both_orders() {
+        let mut random = Random::new(20290);
+        let mut mixed = [0; 2];
+        for _ in 0..cases(20_000) {
+            let (f, g) = (comparison(&mut random), comparison(&mut random));
+            let [neither, second, first, both] = together(f, g);
+            let expected = [both && !first, (first || second) && !neither && !both];
+            assert_eq!([implied(&row(f), &row(g)), exactly_one(&row(f), &row(g))], expected, "{f:?} {g:?}");
+            if turn(&row(f)) != turn(&row(g)) {
+                (0..2).for_each(|k| mixed[k] += expected[k] as usize);
+            }
+        }
+        assert!(mixed[0] > 500 && mixed[1] > 50, "{mixed:?} of different orders");
+        let below = [0, 0, 26, 0, 0, 0];
+        assert!(implied(&below, &[0, 0, 21, 0, 0, HALF]) && exactly_one(&below, &[0, 0, 18, 0, 0, HALF]), "v0 <s 0");
+    }
+
+    /// The same as the proved code says it.
+    #[test]
+    fn assumptions_of_both_orders_as_proved() {
+        let mut random = Random::new(20292);
+        for _ in 0..cases(300_000) {
+            let (f, g) = (comparison(&mut random), comparison(&mut random));
+            assert_eq!(implied(&row(f), &row(g)), picker_tests::implies(f, g) == 1, "{f:?} {g:?}");
+            assert_eq!(exactly_one(&row(f), &row(g)), picker_tests::exactly_one(f, g), "{f:?} {g:?}");
+        }
+    }
+
+    // ---- charts
+
+    const BUILDERS: [fn(&Chart, &Chart, &mut Buffers) -> Result<[u32; 4], Refusal>; 3] = [build::<true>, build::<false>, build_with_lists];
+
+    fn lent() -> Buffers {
+        Buffers { marks: vec![9; 4160], targets: vec![9; 8192], sets: vec![9; 4096], waiting: vec![9; 4096] }
+    }
+
+    /// A built record, and three that are spoilt more and more.
+    fn spoilt(random: &mut Random, built: &Record) -> Vec<Record> {
+        let one = |changes| {
+            let mut r = built.clone();
+            (0..changes).for_each(|_| drawn::spoil(random, &mut r));
+            r
+        };
+        (0..4).map(one).collect()
+    }
+
+    fn checked(old: &Chart, new: &Chart, r: &Record) -> Result<(), Refusal> {
+        check(old, new, r.start, &r.marks, &r.targets, &r.sets)
+    }
+
     #[test]
     fn builds_and_checks() {
         let mut random = Random::new(20284);
@@ -572,8 +700,8 @@ mod tests {
             for _ in 0..cases(if sort == Sort::Wide { 4 } else { 200 }) {
                 let (old, new) = drawn::pair(&mut random, sort);
                 let expected = algorithms::build(&old, &new);
-                for build in [build::<true>, build::<false>, build_with_lists] {
-                    let mut b = Buffers { marks: vec![9; 4160], targets: vec![9; 8192], sets: vec![9; 4096], waiting: vec![9; 4096] };
+                for build in BUILDERS {
+                    let mut b = lent();
                     let answer = build(&old, &new, &mut b);
                     assert_eq!(answer, Ok([expected.start, expected.open, expected.kept, expected.covered]), "{old:?} {new:?}");
                     assert!(
@@ -581,13 +709,56 @@ mod tests {
                         "{old:?} {new:?}"
                     );
                 }
-                let built = Record::from(expected);
-                for changes in 0..4 {
-                    let mut r = built.clone();
-                    for _ in 0..changes {
-                        drawn::spoil(&mut random, &mut r);
+                for r in spoilt(&mut random, &Record::from(expected)) {
+                    assert_eq!(checked(&old, &new, &r), checker::check(&old, &new, &r), "{old:?} {new:?} {r:?}");
+                }
+            }
+        }
+    }
+
+    /// What is built of two charts in the other order, and how a check answers, is what it was.
+    #[test]
+    fn charts_in_the_other_order() {
+        let mut random = Random::new(20293);
+        for sort in SORTS {
+            for _ in 0..cases(if sort == Sort::Wide { 4 } else { 200 }) {
+                let (old, new) = drawn::pair(&mut random, sort);
+                let (signed_old, signed_new) = (signed::signed(&old), signed::signed(&new));
+                let mut expected = lent();
+                let answer = build::<true>(&old, &new, &mut expected);
+                for build in BUILDERS {
+                    let mut b = lent();
+                    assert_eq!(build(&signed_old, &signed_new, &mut b), answer, "{signed_old:?} {signed_new:?}");
+                    assert!(b == expected, "{signed_old:?} {signed_new:?}");
+                }
+                let Buffers { marks, targets, sets, .. } = expected;
+                for r in spoilt(&mut random, &Record { start: answer.unwrap()[0], marks, targets, sets }) {
+                    assert_eq!(checked(&signed_old, &signed_new, &r), checked(&old, &new, &r), "{old:?} {new:?} {r:?}");
+                }
+            }
+        }
+    }
+
+    /// What the proved code builds of charts with signed comparisons, in one of the two and beside unsigned ones too, and how it checks.
+    #[test]
+    fn signed_charts_as_proved() {
+        let mut random = Random::new(20294);
+        for sort in SORTS {
+            for _ in 0..cases(if sort == Sort::Wide { 2 } else { 40 }) {
+                let (old, new) = drawn::pair(&mut random, sort);
+                for (old, new) in signed::pairs(&old, &new) {
+                    let mut expected = lent();
+                    let answer = conditions::build(&old, &new, &mut expected).map(|answer| answer.map(|n| n as u32));
+                    for build in BUILDERS {
+                        let mut b = lent();
+                        assert_eq!(build(&old, &new, &mut b), answer, "{old:?} {new:?}");
+                        assert!(b == expected, "{old:?} {new:?}");
                     }
-                    assert_eq!(check(&old, &new, r.start, &r.marks, &r.targets, &r.sets), checker::check(&old, &new, &r), "{old:?} {new:?} {r:?}");
+                    let Buffers { marks, targets, sets, .. } = expected;
+                    for r in spoilt(&mut random, &Record { start: answer.unwrap()[0], marks, targets, sets }) {
+                        let expected = conditions::check(&old, &new, &r).map(|_| ());
+                        assert_eq!(checked(&old, &new, &r), expected, "{old:?} {new:?} {r:?}");
+                    }
                 }
             }
         }

@@ -3,6 +3,7 @@
 use crate::turns::{line, turns, Contender, Time, DRAWS};
 use crate::{plain, plain_build};
 use picker_tests::conditions::Buffers;
+use picker_tests::drawn::Orders;
 use picker_tests::{drawn, texts, Chart, Random};
 use std::fs;
 use std::io::{self, BufWriter, Write};
@@ -129,7 +130,7 @@ pub fn lines() {
         return eprintln!("the whole program is left out: `rt check pick` makes it");
     };
     let wide = |random: &mut Random| (drawn::wide(random, 64, 10, 0), drawn::wide(random, 64, 10, 0));
-    let amended = |random: &mut Random| drawn::procedures(random, 64);
+    let amended = |random: &mut Random| drawn::procedures(random, 64, Orders::Unsigned);
     let kinds: [(&str, &dyn Fn(&mut Random) -> (Chart, Chart)); 2] =
         [("small amendment, 64 places", &amended), ("all pairs visited, 64 places", &wide)];
     for (what, draw) in kinds {

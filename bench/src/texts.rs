@@ -1,6 +1,7 @@
 //! The lines of reading, writing and judging the largest charts, against plain Rust.
 
 use crate::plain;
+use crate::signed::{half_signed, signed};
 use crate::turns::{line, turns, Contender, Time, DRAWS};
 use picker_tests::{fault_number, texts, Chart, Random};
 use std::hint::black_box;
@@ -16,6 +17,22 @@ fn largest(random: &mut Random, mixed: bool) -> Chart {
         rows.extend([p, to[0], kind + r, a, b, c, p, to[1], kind + opposite, a, b, c]);
     }
     Chart { places: 64, alarm: 63, rows }
+}
+
+/// A largest chart with an unsigned comparison beside a signed one at every place, so that no two rows are opposite as
+/// they are written: = beside ≠s, else the same relation twice, as v0 < 2147483648 beside v0 <s 0.
+fn of_both_orders(chart: &Chart) -> Chart {
+    let mut made = chart.clone();
+    for rows in made.rows.chunks_exact_mut(12) {
+        match rows[2] % 8 {
+            0 | 1 => rows[8] += 8,
+            r => {
+                rows[8] = rows[2] + 8;
+                (rows[5], rows[11]) = if r == 2 || r == 5 { (1 << 31, 0) } else { ((1 << 31) - 1, u32::MAX) };
+            }
+        }
+    }
+    made
 }
 
 /// The text with every field in quotes.
@@ -84,4 +101,27 @@ pub fn lines() {
     of("write a largest chart", &constants, &writing);
     of("judge a largest chart, all rows with one kind of code", &constants, &judging);
     of("judge a largest chart, two kinds of code", &mixed, &judging);
+    let made = |of: fn(&Chart) -> Chart, charts: &[Chart]| -> Vec<Chart> { charts.iter().map(of).collect() };
+    of("judge a largest chart, signed, all rows with one kind of code", &made(signed, &constants), &judging);
+    of("judge a largest chart, half signed, four kinds of code", &made(half_signed, &mixed), &judging);
+    of("judge a largest chart, signed beside unsigned at every place", &made(of_both_orders, &constants), &judging);
+}
+
+#[cfg(test)]
+mod tests {
+    use super::*;
+
+    /// Signed comparisons are where a line says so, and the charts are faultless with them.
+    #[test]
+    fn largest_charts() {
+        for seed in DRAWS {
+            let charts = [false, true].map(|mixed| largest(&mut Random::new(seed), mixed));
+            assert!(charts.iter().all(|chart| chart.rows.chunks_exact(6).all(|row| row[2] & 8 == 0)));
+            let made = [signed(&charts[0]), half_signed(&charts[1]), of_both_orders(&charts[0])];
+            for (chart, least) in made.iter().zip([128, 40, 64]) {
+                assert_eq!(plain::judge(chart.places, chart.alarm, &chart.rows), (0, 0), "{chart:?}");
+                assert!(chart.rows.chunks_exact(6).filter(|row| row[2] & 8 != 0).count() >= least, "{chart:?}");
+            }
+        }
+    }
 }
