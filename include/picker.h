@@ -11,14 +11,15 @@
  *   the old chart's table may be the new one's.
  * - No other thread writes what a call was lent, or reads what it writes, before it returns. There is no state
  *   between calls: calls on different memory may run at once, and several may read the same tables.
- * - Stack: measured, 2,304 bytes for picker_build, 3,584 for picker_read, below 1,024 for each of the others
- *   (docs/API.md, "Memory"). Nothing is taken from a heap.
+ * - Stack: measured, 2,448 bytes for picker_build, 3,728 for picker_read, 1,056 for picker_check, below 1,024 for
+ *   each of the others (docs/API.md, "Memory"). Nothing is taken from a heap.
  * Everything else the functions test themselves, and refuse. A refusal writes to nothing that was lent.
  *
  * A chart is a count of places, the number of its alarm, and a table of rows with six entries each: from, to, op, a,
  * b, c. THE LENGTH OF A TABLE COUNTS ENTRIES, SIX FOR EACH ROW; picker_read_rows_len has it of the answer of
  * picker_read. The count of rows in its place is refused (21) only where six does not divide it; else it makes a chart
- * of a sixth of the rows, which nothing can notice. */
+ * of a sixth of the rows, which nothing can notice. An op is a code of docs/REFERENCE.md, section 1. Entries have no
+ * sign: -5 as the constant of a signed comparison, codes 24 to 29, stands as (uint32_t)-5, which is 4294967291. */
 #ifndef PICKER_H
 #define PICKER_H
 
