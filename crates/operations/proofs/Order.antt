@@ -146,8 +146,8 @@ module _ (m a b : ℕ) (hm : m < 2 ^ 32) (ha : a < 2 ^ 32) (hb : b < 2 ^ 32) whe
   to-m l h = (omega arith, omega arith)
 
 -- where x stands from t on, by where x and t stand from s on
-turned : (s t x : ℕ) → s < 2 ^ 32 → t < 2 ^ 32 → x < 2 ^ 32 → key t x ≡ minus (key s x) (key s t)
-turned s t x hs ht hx = by (key s x) (key s t) (key t x) (omega arith) (omega arith) round
+key-from : (s t x : ℕ) → s < 2 ^ 32 → t < 2 ^ 32 → x < 2 ^ 32 → key t x ≡ minus (key s x) (key s t)
+key-from s t x hs ht hx = by (key s x) (key s t) (key t x) (omega arith) (omega arith) round
   where
     by : (a m b : ℕ) → m < 2 ^ 32 → b < 2 ^ 32 → (b + m ≡ a) ⊎ (b + m ≡ a + 2 ^ 32) → b ≡ minus a m
     by a m b hm hb (inl e) = omega arith
@@ -271,7 +271,7 @@ module _ (l : List ℕ) (s t : ℕ) (E : Ends l s) (F : Ends l t) (u w : ℕ) (h
   -- a point e, where it stands from s on, stands for w
   by : (e : ℕ) → Point l e → {k : ℕ} → key s e ≡ k → Same a k a b × Same (minus a m) (minus k m) (minus a m) (minus b m) → Stand l s t u w
   by e p i (A, C) =
-      let D : Alike t u e u w = rw (turned s t u hs ht hu, turned s t w hs ht hw, turned s t e hs ht (p .small), i) C in
+      let D : Alike t u e u w = rw (key-from s t u hs ht hu, key-from s t w hs ht hw, key-from s t e hs ht (p .small), i) C in
       record {
         x = B .x;
         y = e;
