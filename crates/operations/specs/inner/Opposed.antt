@@ -5,8 +5,8 @@ use Prim.Native.Nat.{ℕ, _/_, _%_}
 use Rattle.operations.specs.declared.Operation.{Operation}
 use Rattle.operations.specs.Operations.{kind, byKind, related, holds}
 
--- codes of two assumptions that compare with the same sort of operand in the same order, by opposite relations: no trial
--- is needed
+-- codes of two assumptions that compare with the same sort of operand and in the same order, by opposite relations: no
+-- trial is needed
 pub record OppositeCodes (f g : ℕ) : Type 0 where
   pub first : byKind (kind f) false true true false ≡ true
   pub second : byKind (kind g) false true true false ≡ true
