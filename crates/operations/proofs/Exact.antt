@@ -13,7 +13,7 @@ use Rattle.operations.specs.declared.Operation.{Operation}
 use Rattle.operations.specs.declared.assumptions.Implication.{Implication}
 use Rattle.operations.specs.declared.assumptions.Implication.the-variants.{Never, Implied, NotImplied}
 use Rattle.operations.specs.declared.inner.trials.Seats.{Seats}
-use Rattle.operations.specs.Operations.{withConstant, plus, order, relation, compared, holds}
+use Rattle.operations.specs.Operations.{withConstant, plus, order, relation, relatedIn, holds}
 use Rattle.operations.specs.Values.{Values, var}
 use Rattle.operations.specs.Assumptions.{Operands, NeverHolds, Implies, ExactlyOne, Means}
 use Rattle.operations.specs.Trials.{alike, inside, own, seats, trial, pointsOf, shown, shownBy, together, never, implies, exclusive, implication}
@@ -56,7 +56,7 @@ tab-small v (suc n) h (suc k) = tab-small (λ k. v (suc k)) n (λ k. h (suc k)) 
 holds-tab : (f : Operation) → Operands f → (v : ℕ → ℕ) → holds f (var (tab v 64)) ≡ holds f v
 unfolding holds
 holds-tab f F v =
-    ap₂ (λ (m n : ℕ). compared (order f) (relation f) m (cond (withConstant f) (f .c) n))
+    ap₂ (λ (m n : ℕ). relatedIn (order f) (relation f) m (cond (withConstant f) (f .c) n))
     (tab-at v 64 (f .a) (F .a)) (tab-at v 64 (f .b) (F .b))
 
 trial-small : (s : Seats) → s .rest < 2 ^ 32 → (x y : ℕ) → x < 2 ^ 32 → y < 2 ^ 32 → (k : ℕ) → trial s x y k < 2 ^ 32

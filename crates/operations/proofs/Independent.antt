@@ -11,7 +11,7 @@ use lib.Pow.{pow-pos}
 use borrow.Author.Tests.{eq-eqb, ne-eqb, eqb-true, not-true, not-false}
 use Rattle.base.proofs.Tests.{T-and, T-both, T-or, T-or-l, T-or-r, T-true, is-true}
 use Rattle.operations.specs.declared.Operation.{Operation}
-use Rattle.operations.specs.Operations.{withConstant, plus, minus, order, key, relation, related, compared, right, holds}
+use Rattle.operations.specs.Operations.{withConstant, plus, minus, order, key, relation, related, relatedIn, right, holds}
 use Rattle.operations.specs.Trials.{alike, partner, compares, together, never, implies, exclusive}
 use Rattle.operations.specs.inner.ShortWays.{fixed, disjoint, independent, canBeBelow, canBeAbove}
 use Rattle.operations.proofs.Order.{Same, Alike, related-same, same-self, key-least, key-second, key-greatest}
@@ -150,7 +150,7 @@ unfolding holds
 agreeing f e v p q = go (withConstant f) q
   where
     by : ℕ → ℕ → Bool
-    by = compared (order f) (relation f)
+    by = relatedIn (order f) (relation f)
 
     go : (b : Bool) → e (cond b (f .a) (f .b)) ≡ v (cond b (f .a) (f .b)) → by (e (f .a)) (cond b (f .c) (e (f .b))) ≡ by (v (f .a)) (cond b (f .c) (v (f .b)))
     go true q = ap (λ (x : ℕ). by x (f .c)) p

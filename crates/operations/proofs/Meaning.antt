@@ -14,7 +14,7 @@ use Rattle.operations.specs.declared.Operation.{Operation}
 use Rattle.operations.specs.declared.Kind.{Kind}
 use Rattle.operations.specs.declared.Kind.the-variants.{Assignment, ConstantComparison, VariableComparison, Unknown}
 use Rattle.operations.specs.declared.Operand.the-variants.{Variable, Unused}
-use Rattle.operations.specs.Operations.{kind, byKind, isAssignment, isAssumption, operandB, assignedC, operandC, ifVariable, reads, plus, minus, monus, value, order, relation, compared, holds}
+use Rattle.operations.specs.Operations.{kind, byKind, isAssignment, isAssumption, operandB, assignedC, operandC, ifVariable, reads, plus, minus, monus, value, order, relation, relatedIn, holds}
 use Rattle.operations.proofs.Codes.{assigning}
 
 -- f and g agree on the variables listed
@@ -72,9 +72,9 @@ holds-reads o t f g h = go (kind (o .code)) t h
   where
     go : (k : Kind) → byKind k false true true false ≡ true
         → Agree f g (byKind k [] (o .a ∷ []) (o .a ∷ []) [] ++ (ifVariable (byKind k (cond (eqb (o .code) 0) Unused Variable) Unused Variable Unused) (o .b) ++ ifVariable (operandC o) (o .c)))
-        → compared (order o) (relation o) (f (o .a)) (cond (byKind k false true false false) (o .c) (f (o .b)))
-        ≡ compared (order o) (relation o) (g (o .a)) (cond (byKind k false true false false) (o .c) (g (o .b)))
+        → relatedIn (order o) (relation o) (f (o .a)) (cond (byKind k false true false false) (o .c) (f (o .b)))
+        ≡ relatedIn (order o) (relation o) (g (o .a)) (cond (byKind k false true false false) (o .c) (g (o .b)))
     go Assignment t h = absurd (T-true t)
-    go ConstantComparison t h = ap (λ (x : ℕ). compared (order o) (relation o) x (o .c)) (h .0)
-    go VariableComparison t h = ap₂ (compared (order o) (relation o)) (h .0) (h .1 .0)
+    go ConstantComparison t h = ap (λ (x : ℕ). relatedIn (order o) (relation o) x (o .c)) (h .0)
+    go VariableComparison t h = ap₂ (relatedIn (order o) (relation o)) (h .0) (h .1 .0)
     go Unknown t h = absurd (T-true t)

@@ -10,7 +10,7 @@ use lib.ListN.{getD}
 use Rattle.base.proofs.Lists.{any-false}
 use Rattle.base.proofs.Tests.{and-true}
 use Rattle.operations.specs.declared.Operation.{Operation}
-use Rattle.operations.specs.Operations.{kind, byKind, isAssumption, order, key, relation, related, compared, withConstant, right, holds}
+use Rattle.operations.specs.Operations.{kind, byKind, isAssumption, order, key, relation, related, relatedIn, withConstant, right, holds}
 use Rattle.operations.specs.inner.Opposed.{OppositeCodes, Opposed}
 use Rattle.operations.specs.Trials.{alike, seats, trial, pointsOf, shown, shownBy, together, exclusive}
 use Rattle.operations.proofs.Order.{below-table, equal-table, above-table, related-lt, related-eq, related-gt}
@@ -40,7 +40,7 @@ module _ (f g : Operation) where
   opposed-by ea eb ec w o h v =
       let s : order f ≡ order g = rw o in
       h (key (order f) (v (f .a))) (key (order f) (right f v))
-      ∙ ap not (λ i. compared (s i) (relation g) (v (ea i)) (cond (w i) (ec i) (v (eb i))))
+      ∙ ap not (λ i. relatedIn (s i) (relation g) (v (ea i)) (cond (w i) (ec i) (v (eb i))))
 
   pub opposed-codes : (s : ℕ) → ((s ≡ 6 → ⊥) → OppositeCodes (f .code) s)
       → (((eqb (f .a) (g .a) && eqb (f .b) (g .b)) && eqb (f .c) (g .c)) && eqb s (g .code)) && ltb 15 (g .code) ≡ true

@@ -9,7 +9,7 @@ use native.Mathlib.Omega.{arith}
 use lib.Dec.{eqb}
 use borrow.Author.Tests.{eq-eqb, ne-eqb}
 use Rattle.operations.specs.declared.Operation.{Operation}
-use Rattle.operations.specs.Operations.{plus, minus, unsigned, signed, order, key, relation, related, compared, withConstant, right, holds}
+use Rattle.operations.specs.Operations.{plus, minus, unsigned, signed, order, key, relation, related, relatedIn, withConstant, right, holds}
 use Rattle.operations.specs.Values.{var}
 use Rattle.operations.specs.Assumptions.{Implies}
 use Rattle.operations.proofs.Order.{key-one}
@@ -79,7 +79,7 @@ key-eqb s x y hs hx hy = elim (ℕ-discrete x y) [
 -- = and ≠ are the same in any order: code 24 and code 16 with the same operands imply each other
 module _ (f g : Operation) (A : f .a ≡ g .a) (B : f .b ≡ g .b) (C : f .c ≡ g .c) (w : withConstant f ≡ withConstant g)
     (r : relation f ≡ relation g) (l : relation f < 2) (hc : f .c < 2 ^ 32) where
-  equal-by : (s x y : ℕ) → s < 2 ^ 32 → x < 2 ^ 32 → y < 2 ^ 32 → compared s (relation f) x y ≡ related (relation f) x y
+  equal-by : (s x y : ℕ) → s < 2 ^ 32 → x < 2 ^ 32 → y < 2 ^ 32 → relatedIn s (relation f) x y ≡ related (relation f) x y
   unfolding related
   equal-by s x y hs hx hy = elim (ℕ-discrete (relation f) 0) [
     | yes e ↦ rw (e, key-eqb s x y hs hx hy)
@@ -94,7 +94,7 @@ module _ (f g : Operation) (A : f .a ≡ g .a) (B : f .b ≡ g .b) (C : f .c ≡
       let hy : y < 2 ^ 32 = small (withConstant f) in
       let e = equal-by (order f) x y (order-small f) (W .small (f .a)) hy in
       let e′ = equal-by (order g) x y (order-small g) (W .small (f .a)) hy in
-      (λ i. compared (order g) (sym r i) (var v (sym A i)) (cond (sym w i) (sym C i) (var v (sym B i)))) ∙ e′ ∙ sym e ∙ h
+      (λ i. relatedIn (order g) (sym r i) (var v (sym A i)) (cond (sym w i) (sym C i) (var v (sym B i)))) ∙ e′ ∙ sym e ∙ h
     where
       small : (b : Bool) → cond b (f .c) (var v (f .b)) < 2 ^ 32
       small true = hc

@@ -135,8 +135,8 @@ related r x y = getD (eqb x y ∷ not (eqb x y) ∷ ltb x y ∷ leb x y ∷ ltb 
 
 -- whether r holds of two values in the order with this least value: "values read as two's complement of 32 bits,
 -- constants too" (document 02, #102)
-abbrev pub compared : ℕ → ℕ → ℕ → ℕ → Bool
-compared least r x y = related r (key least x) (key least y)
+abbrev pub relatedIn : ℕ → ℕ → ℕ → ℕ → Bool
+relatedIn least r x y = related r (key least x) (key least y)
 
 -- the r of "16 + r" and "32 + r", and of 24 + r and 40 + r, all multiples of 8
 abbrev pub relation : Operation → ℕ
@@ -152,4 +152,4 @@ right o v = cond (withConstant o) (o .c) (v (o .b))
 
 -- "an assumption must hold of the values": whether it does
 unfoldable pub holds : Operation → (ℕ → ℕ) → Bool
-holds o v = compared (order o) (relation o) (v (o .a)) (right o v)
+holds o v = relatedIn (order o) (relation o) (v (o .a)) (right o v)

@@ -3,7 +3,7 @@ use mathlib.Core.Bool.{Bool, cond, _&&_, _||_, not}
 use Prim.Native.Nat.{ℕ, _-_, _^_}
 use lib.Dec.{eqb, ltb}
 use Rattle.operations.specs.declared.Operation.{Operation}
-use Rattle.operations.specs.Operations.{withConstant, order, key, relation, compared}
+use Rattle.operations.specs.Operations.{withConstant, order, key, relation, relatedIn}
 use Rattle.operations.specs.Trials.{alike, partner, compares, inside}
 
 -- both compare two variables, and f only those that g compares: only the order of the two matters
@@ -37,7 +37,7 @@ repeated s t c d = cond (eqb s t) (cond (eqb c t) (cond (eqb d t) 7 5) (cond (eq
 
 -- x meets f as p says, where f compares with its constant: one value is tried at a time
 abbrev pub meets : Operation → Bool → ℕ → Bool
-meets f p x = alike p (compared (order f) (relation f) x (f .c))
+meets f p x = alike p (relatedIn (order f) (relation f) x (f .c))
 
 -- it meets both
 abbrev pub meetsBoth : Operation → Bool → Operation → Bool → ℕ → Bool

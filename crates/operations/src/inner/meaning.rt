@@ -4,7 +4,7 @@ ghost use mathlib.Core.Bool.{true};
 ghost use Prim.Native.Nat.{_<_};
 ghost use lib.ListN.{length};
 ghost use Rattle.operations.specs.Operations.{isAssignment, operandsFit, plus, minus, monus, value};
-ghost use Rattle.operations.specs.Operations.{key, related, compared, right, holds};
+ghost use Rattle.operations.specs.Operations.{key, related, relatedIn, right, holds};
 ghost use Rattle.operations.specs.Values.{var};
 use crate::Operation;
 use crate::order_of;
@@ -119,8 +119,8 @@ pub fn key(least: u32, x: u32) -> u32
 }
 
 // The relation r between two values in the order from `least` on.
-pub fn compared(least: u32, r: u32, x: u32, y: u32) -> bool
-    ensures { λ b. ⌜ b ≡ compared least r x y ⌝ }
+pub fn related_in(least: u32, r: u32, x: u32, y: u32) -> bool
+    ensures { λ b. ⌜ b ≡ relatedIn least r x y ⌝ }
 {
     related(r, key(least, x), key(least, y))
 }
@@ -140,5 +140,5 @@ pub fn holds(o: Operation, values: &[u32]) -> bool
     requires { ⌜ (operandsFit o ≡ true) × (length (now values) ≡ 64) ⌝ }
     ensures { λ r. ⌜ r ≡ holds o (var (now (values .entry))) ⌝ }
 {
-    compared(order_of(o), o.code % 8, held(values, o.a), right(o, values))
+    related_in(order_of(o), o.code % 8, held(values, o.a), right(o, values))
 }

@@ -7,7 +7,7 @@ ghost use Rattle.operations.specs.Operations.{withConstant, right, holds
 ghost use Rattle.operations.specs.Trials.{alike, partner, compares, inside, own, seats, trial, bound, points, shown, shownBy, together, never, implies};
 ghost use Rattle.operations.specs.inner.ShortWays.{paired, fixed, disjoint, independent, canBeBelow, canBeAbove, repeated, meetsBoth};
 use crate::Operation;
-use crate::inner::meaning::compared;
+use crate::inner::meaning::related_in;
 use crate::inner::meaning::key;
 use crate::inner::meaning::minus;
 use crate::inner::meaning::plus;
@@ -54,7 +54,7 @@ fn right(f: Operation, s: Seats, x: u32, y: u32) -> u32
 fn holds(f: Operation, s: Seats, x: u32, y: u32) -> bool
     ensures { λ r. ⌜ r ≡ holds f (trial s x y) ⌝ }
 {
-    compared(
+    related_in(
         order_of(f),
         f.code % 8,
         trial(s, x, y, f.a),
@@ -210,8 +210,8 @@ fn by_trials(f: Operation, p: bool, g: Operation, q: bool) -> bool
 fn meets_both(f: Operation, p: bool, g: Operation, q: bool, x: u32) -> bool
     ensures { λ r. ⌜ r ≡ meetsBoth f p g q x ⌝ }
 {
-    alike(p, compared(order_of(f), f.code % 8, x, f.c))
-        && alike(q, compared(order_of(g), g.code % 8, x, g.c))
+    alike(p, related_in(order_of(f), f.code % 8, x, f.c))
+        && alike(q, related_in(order_of(g), g.code % 8, x, g.c))
 }
 
 fn met_by_some(f: Operation, p: bool, g: Operation, q: bool, l: &[u32]) -> bool

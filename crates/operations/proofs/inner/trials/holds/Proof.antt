@@ -13,12 +13,12 @@ trial-requires c κs = search needs
 right-requires : tie.Need-right-requires
 right-requires c κs = search needs
 
-compared-requires : tie.Need-compared-requires
-compared-requires c κs = search needs
+related-in-requires : tie.Need-related-in-requires
+related-in-requires c κs = search needs
 
 returns : tie.Need-returns
 unfolding holds
-returns c = rw (← c .before .before .before .before .order-of .ensures, ← c .before .before .trial .ensures, ← c .before .right .ensures) (c .compared .ensures)
+returns c = rw (← c .before .before .before .before .order-of .ensures, ← c .before .before .trial .ensures, ← c .before .right .ensures) (c .related-in .ensures)
 
 pub holds-spec : {M : Type 1} → statement M
-holds-spec = tie.close (tie.spec order-of-requires trial-requires right-requires compared-requires returns)
+holds-spec = tie.close (tie.spec order-of-requires trial-requires right-requires related-in-requires returns)

@@ -1,7 +1,7 @@
--- `operations::inner::meaning::compared` meets its contract: from its parts. Assumes nothing.
+-- `operations::inner::meaning::related_in` meets its contract: from its parts. Assumes nothing.
 use borrow.Author.Needs.{needs}
-use Rattle.operations.proofs.inner.meaning.compared.Statement.{statement}
-use Rattle.operations.proofs.inner.meaning.compared.Tie as tie
+use Rattle.operations.proofs.inner.meaning.related_in.Statement.{statement}
+use Rattle.operations.proofs.inner.meaning.related_in.Tie as tie
 
 key-requires : tie.Need-key-requires
 key-requires c κs = search needs
@@ -15,5 +15,5 @@ related-requires c κs = search needs
 returns : tie.Need-returns
 returns c = rw (← c .before .before .key .ensures, ← c .before .key2 .ensures) (c .related .ensures)
 
-pub compared-spec : {M : Type 1} → statement M
-compared-spec = tie.close (tie.spec key-requires key-requires-2 related-requires returns)
+pub related-in-spec : {M : Type 1} → statement M
+related-in-spec = tie.close (tie.spec key-requires key-requires-2 related-requires returns)
