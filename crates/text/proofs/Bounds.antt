@@ -1,15 +1,15 @@
 -- What is read is a faultless chart, what is written has at most 8,643 bytes, and the refusals of both fit.
 -- Assumes nothing.
-use mathlib.Core.Path.{_≡_, refl, subst}
+use mathlib.Core.Path.{_≡_, refl}
 use mathlib.Core.List.{List, [], _∷_, _++_}
-use mathlib.Core.Bool.{Bool, true, false, _&&_}
+use mathlib.Core.Bool.{Bool, true, false}
 use mathlib.Core.Option.{none}
 use mathlib.Core.Logic.{dite}
-use Prim.Native.Nat.{ℕ, zero, suc, _+_, _*_, _%_, _≤_}
+use Prim.Native.Nat.{ℕ, zero, suc, _*_, _≤_}
 use native.Mathlib.Decide.{decLt}
 use native.Mathlib.Omega.{arith}
 use lib.Dec.{T, eqb, leb}
-use lib.ListN.{length, getD, drop}
+use lib.ListN.{length, getD}
 use Rattle.base.specs.Answers.{Answer, given, refused}
 use Rattle.base.specs.Chains.{andThen}
 use Rattle.base.specs.Refusals.{sole, unless}
@@ -21,63 +21,28 @@ use Rattle.chart.specs.Faults.{fault, refusal}
 use Rattle.chart.specs.Faultless.{FaultlessChart}
 use Rattle.chart.proofs.Bounds.{fault-fits, refusal-fits}
 use Rattle.chart.proofs.Faultless.{faultless}
-use Rattle.text.specs.declared.fields.Kind.{Kind}
-use Rattle.text.specs.declared.fields.Kind.the-variants.{Plain, Count, Spare}
-use Rattle.text.specs.declared.fields.Field.{Field}
-use Rattle.text.specs.declared.fields.Field.the-variants.{Number, Unfit}
-use Rattle.text.specs.Fields.{byteAt, digits, value, more, kind, judged, bounded, ended, numberOf, numberAt, followed, fieldAt, lineEnd, closed, missing, itemAt}
+use Rattle.text.specs.declared.causes.Cause.{Cause}
+use Rattle.text.specs.declared.causes.Cause.the-variants.{NoBytes, Byte, Number, Records, RowCount}
+use Rattle.text.specs.Causes.{causeNumber}
+use Rattle.text.specs.Fields.{itemAt}
 use Rattle.text.specs.Files.{U32s}
 use Rattle.text.specs.Spans.{fieldsAt}
 use Rattle.text.specs.Texts.{whole, rowsAt, parsed, readText, readInto}
 use Rattle.text.specs.Written.{numbers, written, writing}
-use Rattle.text.proofs.Cases.{by-test, by-field}
+use Rattle.text.proofs.Cases.{by-field}
 use Rattle.text.proofs.Lengths.{written-short}
 use Rattle.text.proofs.Told.{whole-after, whole-end}
 use Rattle.text.proofs.Theorems.{read-exactly, text-positions}
 
 -- ---- the numbers of a text's refusals
 
-abbrev Said : Field → Type 0
-Said (Number x p) = Unit
-Said (Unfit n p) = T (within 1 255 n)
-
-judged-said : (sort : Kind) (first next x : ℕ) → Said (judged sort first next x)
-unfolding judged
-judged-said Plain first next x = tt
-judged-said Count first next x = by-test Said (leb x 128) (λ _. tt) (λ _. tt)
-judged-said Spare first next x = by-test Said (eqb x 0) (λ _. tt) (λ _. tt)
-
-number-said : (sort : Kind) (first : ℕ) (ds : List ℕ) → Said (numberOf sort first ds)
-unfolding numberOf ended bounded
-number-said sort first [] = tt
-number-said sort first (d ∷ ds) =
-    by-test Said (eqb d 0 && more ds) (λ _. tt)
-    (λ _. by-test Said (leb (value d ds) 4294967295) (λ _. judged-said sort first (first + 1 + length ds) (value d ds)) (λ _. tt))
-
-followed-said : (b : ℕ) (text : List ℕ) (f : Field) → Said f → Said (followed b text f)
-unfolding followed
-followed-said b text (Unfit n p) h = h
-followed-said b text (Number x p) h = by-test Said (eqb (byteAt text p) b) (λ _. tt) (λ _. tt)
-
-field-said : (sort : Kind) (text : List ℕ) (at : ℕ) → Said (fieldAt sort text at)
-unfolding fieldAt numberAt
-field-said sort text at =
-    by-test Said (eqb (byteAt text at) 34)
-    (λ _. followed-said 34 text (numberAt sort text (at + 1)) (number-said sort (at + 1) (digits (drop (at + 1) text))))
-    (λ _. number-said sort at (digits (drop at text)))
-
-line-said : (text : List ℕ) (f : Field) → Said f → Said (lineEnd text f)
-unfolding lineEnd
-line-said text (Unfit n p) h = h
-line-said text (Number x p) h =
-    by-test Said (leb (length text) p) (λ _. tt) (λ _. followed-said 10 text (followed 13 text (Number x p)) (followed-said 13 text (Number x p) tt))
-
-item-said : (k : ℕ) (text : List ℕ) (at : ℕ) → Said (itemAt k text at)
-unfolding itemAt closed
-item-said k text at =
-    by-test Said (missing k text at) (λ _. tt)
-    (λ _. by-test Said (eqb (k % 6) 5) (λ _. line-said text (fieldAt (kind k) text at) (field-said (kind k) text at))
-    (λ _. followed-said 44 text (fieldAt (kind k) text at) (field-said (kind k) text at)))
+-- each is one
+cause-named : (c : Cause) → T (within 1 255 (causeNumber c))
+cause-named NoBytes = tt
+cause-named Byte = tt
+cause-named Number = tt
+cause-named Records = tt
+cause-named RowCount = tt
 
 -- a refusal has a number, of the sole chart
 abbrev Sole : {A : Type 0} → Answer A → Type 0
@@ -88,7 +53,7 @@ fields-sole : (n k : ℕ) (text : List ℕ) (at : ℕ) (before : List ℕ) → S
 unfolding fieldsAt
 fields-sole zero k text at before = tt
 fields-sole (suc n) k text at before =
-    by-field Sole (itemAt k text at) _ (λ x p e. fields-sole n (suc k) text p (before ++ (x ∷ []))) (λ m p e. (subst Said e (item-said k text at), refl))
+    by-field Sole (itemAt k text at) _ (λ x p e. fields-sole n (suc k) text p (before ++ (x ∷ []))) (λ c p e. (cause-named c, refl))
 
 sole-then : {A B : Type 0} (a : Answer A) (f : A → Answer B) → Sole a → ((x : A) → Sole (f x)) → Sole (andThen a f)
 sole-then (given x) f h g = g x

@@ -58,7 +58,7 @@ module _ (text : List ℕ) (m : ℕ) (long : m ≤ length text) where
 
   cut-followed : (b : ℕ) (f : Field) → end f < m → followed b (take m text) f ≡ followed b text f
   unfolding followed
-  cut-followed b (Unfit n p) g = refl
+  cut-followed b (Unfit c p) g = refl
   cut-followed b (Number x p) g = rw (cut-byte p g, followed)
 
   cut-field : (sort : Kind) (at : ℕ) → at + 13 ≤ m → fieldAt sort (take m text) at ≡ fieldAt sort text at
@@ -71,7 +71,7 @@ module _ (text : List ℕ) (m : ℕ) (long : m ≤ length text) where
 
   cut-line : (f : Field) → end f + 1 < m → lineEnd (take m text) f ≡ lineEnd text f
   unfolding lineEnd
-  cut-line (Unfit n p) g = refl
+  cut-line (Unfit c p) g = refl
   cut-line (Number x p) g =
       rw (cut-length, lt-leb m p (omega arith), lt-leb (length text) p (omega arith), lineEnd)
       (ap (followed 10 (take m text)) (cut-followed 13 (Number x p) (omega arith)) ∙ cut-followed 10 (followed 13 text (Number x p)) (omega (arith, followed-ends 13 text (Number x p))))
@@ -89,7 +89,7 @@ module _ (text : List ℕ) (m : ℕ) (long : m ≤ length text) where
 
   on-same : {A : Type 0} (f : Field) (g h : ℕ → ℕ → Answer A) → ((x p : ℕ) → f ≡ Number x p → g x p ≡ h x p) → onField f g ≡ onField f h
   on-same (Number x p) g h e = e x p refl
-  on-same (Unfit n p) g h e = refl
+  on-same (Unfit c p) g h e = refl
 
   pub cut-fields : (n k at : ℕ) (before : List ℕ) → at + reach k n < m → fieldsAt n k (take m text) at before ≡ fieldsAt n k text at before
   unfolding fieldsAt

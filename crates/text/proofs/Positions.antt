@@ -11,6 +11,7 @@ use borrow.Author.Tests.{eq-eqb, ne-eqb, lt-leb}
 use lib.Dec.{eqb, leb}
 use lib.ListN.{length, drop}
 use Rattle.base.specs.Answers.{Answer, given, refused}
+use Rattle.text.specs.declared.causes.Cause.the-variants as cause
 use Rattle.text.specs.declared.fields.Kind.{Kind}
 use Rattle.text.specs.declared.fields.Kind.the-variants.{Plain, Count, Spare}
 use Rattle.text.specs.declared.fields.Field.{Field}
@@ -25,7 +26,7 @@ use Rattle.text.proofs.Numbers.{missing-inside}
 -- the offset that a field or its refusal names
 abbrev pub end : Field → ℕ
 end (Number x p) = p
-end (Unfit n p) = p
+end (Unfit c p) = p
 
 unfoldable ten : ℕ → ℕ
 ten zero = 1
@@ -44,7 +45,7 @@ value-least j x (d ∷ ds) h =
     rw z (value-least (suc j) (x * 10 + d) ds (omega arith))
 
 -- eleven digits or more are too many
-pub number-long : (sort : Kind) (first : ℕ) (ds : List ℕ) → 11 ≤ length ds → numberOf sort first ds ≡ Unfit 13 first
+pub number-long : (sort : Kind) (first : ℕ) (ds : List ℕ) → 11 ≤ length ds → numberOf sort first ds ≡ Unfit cause.Number first
 unfolding numberOf ended bounded ten
 number-long sort first [] h = absurd (omega arith)
 number-long sort first (d ∷ []) h = absurd (omega arith)
@@ -89,7 +90,7 @@ number-ends sort text first =
 
 pub followed-ends : (b : ℕ) (text : List ℕ) (f : Field) → end (followed b text f) ≤ end f + 1
 unfolding followed
-followed-ends b text (Unfit n p) = omega arith
+followed-ends b text (Unfit c p) = omega arith
 followed-ends b text (Number x p) = by-test (Ends (p + 1)) (eqb (byteAt text p) b) (λ _. omega arith) (λ _. omega arith)
 
 pub field-ends : (sort : Kind) (text : List ℕ) (at : ℕ) → end (fieldAt sort text at) ≤ at + 12
@@ -101,7 +102,7 @@ field-ends sort text at =
 
 pub line-ends : (text : List ℕ) (f : Field) → end (lineEnd text f) ≤ end f + 2
 unfolding lineEnd
-line-ends text (Unfit n p) = omega arith
+line-ends text (Unfit c p) = omega arith
 line-ends text (Number x p) =
     by-test (Ends (p + 2)) (leb (length text) p) (λ _. omega arith)
     (λ _. omega (arith, followed-ends 10 text (followed 13 text (Number x p)), followed-ends 13 text (Number x p)))
@@ -145,4 +146,4 @@ fields-stop zero k text at before = omega arith
 fields-stop (suc n) k text at before =
     by-field (λ (r : Answer Span). stops r ≤ at + reach k (suc n)) (itemAt k text at) _
     (λ x p e. omega (arith, fields-stop n (suc k) text p (before ++ (x ∷ [])), reach-one k n, item-ends k text at, ap end e))
-    (λ m p e. omega (arith, reach-one k n, item-ends k text at, ap end e))
+    (λ c p e. omega (arith, reach-one k n, item-ends k text at, ap end e))

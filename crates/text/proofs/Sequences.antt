@@ -53,7 +53,7 @@ fields-show (suc n) k text at before =
       items = record { middle = drop p text; item = subst (OnNumber (λ x p. Item k (drop at text) x (drop p text))) e (item-shows text k at); rest = h .items };
     })
     (fields-show n (suc k) text p (before ++ (x ∷ []))))
-    (λ m p e. tt)
+    (λ c p e. tt)
 
 -- ---- from the bytes to the reading
 

@@ -29,7 +29,7 @@ use Rattle.text.proofs.Decimals.{Nines, Leads, Spells, spells, decimal-
 -- the number and the offset after it, if there is one
 abbrev pub shown : Field → Option (ℕ × ℕ)
 shown (Number x p) = some (x, p)
-shown (Unfit n p) = none
+shown (Unfit c p) = none
 
 -- P of these
 abbrev pub OnNumber : (ℕ → ℕ → Type 0) → Field → Type 0
@@ -148,7 +148,7 @@ module _ (text : List ℕ) where
 
   followed-shows : (P Q : ℕ → ℕ → Type 0) (b : ℕ) (f : Field) → b < 256 → ((x p : ℕ) → P x p → drop p text ≡ b ∷ drop (p + 1) text → Q x (p + 1)) → OnNumber P f → OnNumber Q (followed b text f)
   unfolding followed
-  followed-shows P Q b (Unfit n p) h g w = tt
+  followed-shows P Q b (Unfit c p) h g w = tt
   followed-shows P Q b (Number x p) h g w =
       by-test (OnNumber Q) (eqb (byteAt text p) b) (λ e. g x p w (byte-front p b h (eqb-true (byteAt text p) b e))) (λ _. tt)
 
@@ -172,7 +172,7 @@ module _ (text : List ℕ) where
   line-shows : (P Q : ℕ → ℕ → Type 0) (f : Field) → ((x p : ℕ) → P x p → drop p text ≡ [] → Q x p) → ((x p : ℕ) → P x p → drop p text ≡ 13 ∷ 10 ∷ drop (p + 1 + 1) text → Q x (p + 1 + 1))
       → OnNumber P f → OnNumber Q (lineEnd text f)
   unfolding lineEnd
-  line-shows P Q (Unfit n p) g h w = tt
+  line-shows P Q (Unfit c p) g h w = tt
   line-shows P Q (Number x p) g h w =
       by-test (OnNumber Q) (leb (length text) p) (λ e. g x p w (drop-of-length-le text {i = p} (leb-true _ _ e)))
       (λ _. followed-shows (λ y q. (y ≡ x) × ((q ≡ p + 1) × (drop p text ≡ 13 ∷ drop (p + 1) text))) Q 10 (followed 13 text (Number x p)) (omega arith)

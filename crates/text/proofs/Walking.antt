@@ -15,13 +15,15 @@ use Rattle.base.specs.Answers.{Answer, given, refused}
 use Rattle.base.specs.Chains.{andThen, mapped}
 use Rattle.base.specs.Refusals.{sole, unless}
 use Rattle.base.proofs.Answers.{different}
-use Rattle.base.proofs.OnSome.{OnGiven, on-given, on-then}
+use Rattle.base.proofs.OnSome.{OnGiven}
 use Rattle.chart.specs.declared.charts.Head.{Head}
 use Rattle.chart.specs.declared.charts.Judged.{Judged}
 use Rattle.chart.specs.declared.charts.Judged.the-variants as judged
 use Rattle.chart.specs.Charts.{Chart, size, charted}
 use Rattle.chart.specs.Faults.{told, refusal}
 use Rattle.text.specs.declared.answers.Read.the-variants as read
+use Rattle.text.specs.declared.causes.Cause.{Cause}
+use Rattle.text.specs.declared.causes.Cause.the-variants.{NoBytes, Records}
 use Rattle.text.specs.declared.fields.Field.{Field}
 use Rattle.text.specs.declared.fields.Field.the-variants.{Number, Unfit}
 use Rattle.text.specs.declared.inner.first.First.{First}
@@ -30,77 +32,67 @@ use Rattle.text.specs.declared.inner.reader.Parsed.{Parsed}
 use Rattle.text.specs.declared.inner.reader.Parsed.the-variants as parse
 use Rattle.text.specs.declared.inner.table.Reach.{Reach}
 use Rattle.text.specs.declared.inner.table.Reach.the-variants as reach
+use Rattle.text.specs.Causes.{causeNumber, unfit}
 use Rattle.text.specs.Fields.{itemAt}
 use Rattle.text.specs.Spans.{Span, onField, fieldsAt}
 use Rattle.text.specs.Texts.{whole, rowsAt, parsed, readText, readInto, filled, heading, toldRead}
-use Rattle.text.specs.inner.Walk.{onNumber, numbersAt, laid, reachOf, reachAt, reached, recordOf, firstAt, pastFirst, entriesOf, rowNumbers, answered, toldParsed}
-use Rattle.text.proofs.Cases.{by-field}
+use Rattle.text.specs.inner.Walk.{onNumber, numbersAt, laid, onFit, reachAt, reached, recordOf, firstAt, pastFirst, entriesOf, rowNumbers, answered, toldParsed}
 use Rattle.text.proofs.Headings as numbered
 use Rattle.text.proofs.Told.{ReadAs, read-refused, read-sized, whole-rows, whole-after, whole-end, few-counted}
 use Rattle.text.proofs.Charts.{Spells, parsed-shows}
 
 -- ---- fields that follow one another
 
--- a refusal is one of the sole chart
-abbrev Sole : {A : Type 0} → Answer A → Type 0
-Sole (given x) = Unit
-Sole (refused r) = r ≡ sole (r .number) (r .position)
+-- what fields give by what is reached, with these numbers
+abbrev spanOf : Reach → List ℕ → Answer Span
+spanOf (reach.Past p) l = given (record { numbers = l; next = p })
+spanOf (reach.Unfit c p) l = unfit c p
 
-fields-sole : (n k : ℕ) (text : List ℕ) (at : ℕ) (before : List ℕ) → Sole (fieldsAt n k text at before)
-unfolding fieldsAt
-fields-sole zero k text at before = tt
-fields-sole (suc n) k text at before =
-    by-field Sole (itemAt k text at) _ (λ x p e. fields-sole n (suc k) text p (before ++ (x ∷ []))) (λ m p e. refl)
+-- fields give what the walk reaches and the numbers up to there
+fields-are : (n k : ℕ) (text : List ℕ) (at : ℕ) (before : List ℕ) → fieldsAt n k text at before ≡ spanOf (reachAt n k text at) (before ++ numbersAt n k text at)
+unfolding fieldsAt reachAt numbersAt
+fields-are zero k text at before = rw (append-nil before)
+fields-are (suc n) k text at before = go (λ x p. fields-are n (suc k) text p (before ++ (x ∷ []))) (itemAt k text at)
+  where
+    go : ((x p : ℕ) → fieldsAt n (suc k) text p (before ++ (x ∷ [])) ≡ spanOf (reachAt n (suc k) text p) ((before ++ (x ∷ [])) ++ numbersAt n (suc k) text p))
+        → (f : Field) → onField f (λ x p. fieldsAt n (suc k) text p (before ++ (x ∷ []))) ≡ spanOf (onFit f (λ p. reachAt n (suc k) text p)) (before ++ onNumber f (λ x p. x ∷ numbersAt n (suc k) text p))
+    go h (Number x p) = h x p ∙ ap (spanOf (reachAt n (suc k) text p)) (append-assoc before (x ∷ []) (numbersAt n (suc k) text p))
+    go h (Unfit c p) = refl
 
--- what is given are the numbers up to the first refusal, which are all
-abbrev All : ℕ → List ℕ → List ℕ → Span → Type 0
-All n before l s = (s .numbers ≡ before ++ l) × (length l ≡ n)
-
-all-more : (n k : ℕ) (text before : List ℕ) → ((x p : ℕ) → OnGiven (All n (before ++ (x ∷ [])) (numbersAt n k text p)) (fieldsAt n k text p (before ++ (x ∷ []))))
-    → (f : Field) → OnGiven (All (suc n) before (onNumber f (λ x p. x ∷ numbersAt n k text p))) (onField f (λ x p. fieldsAt n k text p (before ++ (x ∷ []))))
-all-more n k text before h (Number x p) =
-    on-given (All n (before ++ (x ∷ [])) (numbersAt n k text p)) (All (suc n) before (x ∷ numbersAt n k text p)) (fieldsAt n k text p (before ++ (x ∷ [])))
-    (λ s g. (g .0 ∙ append-assoc before (x ∷ []) (numbersAt n k text p), ap suc (g .1))) (h x p)
-all-more n k text before h (Unfit m p) = tt
-
-fields-all : (n k : ℕ) (text : List ℕ) (at : ℕ) (before : List ℕ) → OnGiven (All n before (numbersAt n k text at)) (fieldsAt n k text at before)
-unfolding fieldsAt numbersAt
-fields-all zero k text at before = (sym (append-nil before), refl)
-fields-all (suc n) k text at before = all-more n (suc k) text before (λ x p. fields-all n (suc k) text p (before ++ (x ∷ []))) (itemAt k text at)
-
--- so many fields, and nothing before them
-module _ (n k : ℕ) (text : List ℕ) (at : ℕ) where
-  are-numbers : OnGiven (λ (s : Span). s .numbers ≡ numbersAt n k text at) (fieldsAt n k text at [])
-  are-numbers = on-given (All n [] (numbersAt n k text at)) _ (fieldsAt n k text at []) (λ s h. h .0) (fields-all n k text at [])
-
-  are-many : OnGiven (λ (s : Span). length (numbersAt n k text at) ≡ n) (fieldsAt n k text at [])
-  are-many = on-given (All n [] (numbersAt n k text at)) _ (fieldsAt n k text at []) (λ s h. h .1) (fields-all n k text at [])
-
--- ---- the first record
-
+-- where all fit, there are as many numbers
 abbrev OnPast : Type 0 → Reach → Type 0
 OnPast P (reach.Past p) = P
-OnPast P (reach.Unfit n p) = Unit
+OnPast P (reach.Unfit c p) = Unit
 
-on-past : (P : Type 0) (a : Answer Span) → OnGiven (λ (s : Span). P) a → OnPast P (reachOf a)
-unfolding reachOf
-on-past P (given s) h = h
-on-past P (refused r) h = tt
+on-past : {P Q : Type 0} (r : Reach) → (P → Q) → OnPast P r → OnPast Q r
+on-past (reach.Past p) f h = f h
+on-past (reach.Unfit c p) f h = tt
+
+are-many : (n k : ℕ) (text : List ℕ) (at : ℕ) → OnPast (length (numbersAt n k text at) ≡ n) (reachAt n k text at)
+unfolding reachAt numbersAt
+are-many zero k text at = refl
+are-many (suc n) k text at = go (are-many n (suc k) text) (itemAt k text at)
+  where
+    go : ((p : ℕ) → OnPast (length (numbersAt n (suc k) text p) ≡ n) (reachAt n (suc k) text p)) → (f : Field) → OnPast (length (onNumber f (λ x p. x ∷ numbersAt n (suc k) text p)) ≡ suc n) (onFit f (λ p. reachAt n (suc k) text p))
+    go h (Number x p) = on-past (reachAt n (suc k) text p) (ap suc) (h p)
+    go h (Unfit c p) = tt
+
+-- ---- the first record
 
 -- a table of n entries that fields are read into holds nothing else
 laid-whole : (l table : List ℕ) → length l ≡ length table → laid l table ≡ l
 laid-whole l table e = rw (drop-of-length-le table {i = length l} (omega arith)) (append-nil l)
 
 module _ (text : List ℕ) (at : ℕ) (r : Reach) (is : r ≡ reachAt 6 0 text at) where
-  pub first-unfit : (n p : ℕ) → r ≡ reach.Unfit n p → first.Unfit n p ≡ firstAt text at
+  pub first-unfit : (c : Cause) (p : ℕ) → r ≡ reach.Unfit c p → first.Unfit c p ≡ firstAt text at
   unfolding firstAt recordOf
-  first-unfit n p e = rw (← is, e)
+  first-unfit c p e = rw (← is, e)
 
   pub first-record : (p : ℕ) (numbers table : List ℕ) → r ≡ reach.Past p → length table ≡ 6 → numbers ≡ laid (numbersAt 6 0 text at) table
       → first.Record (record { places = getD numbers 0 0; alarm = getD numbers 1 0 }) (getD numbers 2 0) p ≡ firstAt text at
   unfolding firstAt recordOf
   first-record p numbers table e w g =
-      let n : length (numbersAt 6 0 text at) ≡ 6 = subst (OnPast (length (numbersAt 6 0 text at) ≡ 6)) (sym is ∙ e) (on-past _ (fieldsAt 6 0 text at []) (are-many 6 0 text at)) in
+      let n : length (numbersAt 6 0 text at) ≡ 6 = subst (OnPast (length (numbersAt 6 0 text at) ≡ 6)) (sym is ∙ e) (are-many 6 0 text at) in
       let z : numbers ≡ numbersAt 6 0 text at = g ∙ laid-whole _ table (n ∙ sym w) in
       rw (z, ← is, e)
 
@@ -109,36 +101,36 @@ module _ (f : First) (at : ℕ) where
   unfolding pastFirst
   past-record h count p e = rw e
 
-  pub past-unfit : (n p : ℕ) → f ≡ first.Unfit n p → at ≡ pastFirst f at
+  pub past-unfit : (c : Cause) (p : ℕ) → f ≡ first.Unfit c p → at ≡ pastFirst f at
   unfolding pastFirst
-  past-unfit n p e = rw e
+  past-unfit c p e = rw e
 
 pub entries-record : (f : First) (h : Head) (count p : ℕ) → f ≡ first.Record h count p → 6 * count ≡ entriesOf f
 unfolding entriesOf
 entries-record f h count p e = rw e
 
-pub entries-unfit : (f : First) (n p : ℕ) → f ≡ first.Unfit n p → 0 ≡ entriesOf f
+pub entries-unfit : (f : First) (c : Cause) (p : ℕ) → f ≡ first.Unfit c p → 0 ≡ entriesOf f
 unfolding entriesOf
-entries-unfit f n p e = rw e
+entries-unfit f c p e = rw e
 
 -- its rows fill at most 768 entries
 pub few-entries : (text : List ℕ) → entriesOf (firstAt text 0) ≤ 768
-unfolding firstAt recordOf entriesOf reachOf
-few-entries text = go (fieldsAt 6 0 text 0 []) refl (are-numbers 6 0 text 0)
+unfolding firstAt recordOf entriesOf
+few-entries text = go (reachAt 6 0 text 0) (fields-are 6 0 text 0 [])
   where
-    go : (a : Answer Span) → fieldsAt 6 0 text 0 [] ≡ a → OnGiven (λ (s : Span). s .numbers ≡ numbersAt 6 0 text 0) a → entriesOf (recordOf (reachOf a) (numbersAt 6 0 text 0)) ≤ 768
-    go (given s) e h = rw (← h) (omega (arith, few-counted text s e))
-    go (refused r) e h = omega arith
+    go : (r : Reach) → fieldsAt 6 0 text 0 [] ≡ spanOf r (numbersAt 6 0 text 0) → entriesOf (recordOf r (numbersAt 6 0 text 0)) ≤ 768
+    go (reach.Past p) e = omega (arith, few-counted text _ e)
+    go (reach.Unfit c p) e = omega arith
 
 -- ---- both answers of a walk are what the text spells
 
 -- what is answered after a first record, by the rows
 module _ (b : ℕ) (t : List ℕ) (h : Head) (count p end : ℕ) where
-  answered-unfit : (m o : ℕ) → answered (b ∷ t) (first.Record h count p) (reach.Unfit m o) end ≡ parse.Unfit m o
+  answered-unfit : (m : Cause) (o : ℕ) → answered (b ∷ t) (first.Record h count p) (reach.Unfit m o) end ≡ parse.Unfit m o
   unfolding answered
   answered-unfit m o = refl
 
-  answered-after : (o : ℕ) → end < length (b ∷ t) → answered (b ∷ t) (first.Record h count p) (reach.Past o) end ≡ parse.Unfit 14 end
+  answered-after : (o : ℕ) → end < length (b ∷ t) → answered (b ∷ t) (first.Record h count p) (reach.Past o) end ≡ parse.Unfit Records end
   unfolding answered
   answered-after o w = rw (lt-ltb end (length (b ∷ t)) w, answered)
 
@@ -147,15 +139,15 @@ module _ (b : ℕ) (t : List ℕ) (h : Head) (count p end : ℕ) where
   answered-whole o w = rw (le-ltb end (length (b ∷ t)) w, answered)
 
 module _ (b : ℕ) (t : List ℕ) where
-  rows-told : (h : Head) (count p : ℕ) (a : Answer Span) → Sole a → OnGiven (λ (s : Span). length (s .numbers) ≡ 6 * count) a
-      → toldParsed (answered (b ∷ t) (first.Record h count p) (reachOf a) (reached (reachOf a) p))
-      ≡ mapped heading (andThen a (λ (rows : Span). whole (b ∷ t) (rows .next) (record { places = h .places; alarm = h .alarm; table = rows .numbers })))
-  unfolding reachOf reached toldParsed
-  rows-told h count p (refused r) e g = rw (answered-unfit b t h count p p (r .number) (r .position)) (ap refused (sym e))
-  rows-told h count p (given s) e g =
-      let n : length (s .numbers) / 6 ≡ count = omega arith in
-      dite (decLt (s .next) (length (b ∷ t))) (λ w. rw (answered-after b t h count p (s .next) (s .next) w, whole-after (b ∷ t) (s .next) _ w))
-      (λ w. rw (answered-whole b t h count p (s .next) (s .next) (omega arith), whole-end (b ∷ t) (s .next) _ (omega arith), n))
+  rows-told : (h : Head) (count p : ℕ) (r : Reach) (l : List ℕ) → OnPast (length l ≡ 6 * count) r
+      → toldParsed (answered (b ∷ t) (first.Record h count p) r (reached r p))
+      ≡ mapped heading (andThen (spanOf r l) (λ (rows : Span). whole (b ∷ t) (rows .next) (record { places = h .places; alarm = h .alarm; table = rows .numbers })))
+  unfolding reached toldParsed
+  rows-told h count p (reach.Unfit c o) l g = rw (answered-unfit b t h count p p c o)
+  rows-told h count p (reach.Past o) l g =
+      let n : length l / 6 ≡ count = omega arith in
+      dite (decLt o (length (b ∷ t))) (λ w. rw (answered-after b t h count p o o w, whole-after (b ∷ t) o _ w))
+      (λ w. rw (answered-whole b t h count p o o (omega arith), whole-end (b ∷ t) o _ (omega arith), n))
 
   -- the rows that follow a first record with these numbers
   abbrev Rest : First → Reach
@@ -164,16 +156,15 @@ module _ (b : ℕ) (t : List ℕ) where
   abbrev after : Span → Answer Chart
   after s = rowsAt (b ∷ t) (s .next) (getD (s .numbers) 0 0) (getD (s .numbers) 1 0) (getD (s .numbers) 2 0)
 
-  first-told : (a : Answer Span) (l : List ℕ) → Sole a → OnGiven (λ (s : Span). s .numbers ≡ l) a
-      → toldParsed (answered (b ∷ t) (recordOf (reachOf a) l) (Rest (recordOf (reachOf a) l)) (reached (Rest (recordOf (reachOf a) l)) (pastFirst (recordOf (reachOf a) l) 0)))
-      ≡ mapped heading (andThen a after)
-  unfolding recordOf reachOf entriesOf pastFirst answered toldParsed rowsAt
-  first-told (refused r) l e g = ap refused (sym e)
-  first-told (given s) l e g =
+  first-told : (r : Reach) (l : List ℕ)
+      → toldParsed (answered (b ∷ t) (recordOf r l) (Rest (recordOf r l)) (reached (Rest (recordOf r l)) (pastFirst (recordOf r l) 0)))
+      ≡ mapped heading (andThen (spanOf r l) after)
+  unfolding recordOf entriesOf pastFirst answered toldParsed rowsAt
+  first-told (reach.Unfit c p) l = refl
+  first-told (reach.Past p) l =
       let n = 6 * getD l 2 0 in
-      rw g
-      (rows-told (record { places = getD l 0 0; alarm = getD l 1 0 }) (getD l 2 0) (s .next) (fieldsAt n 6 (b ∷ t) (s .next) []) (fields-sole n 6 (b ∷ t) (s .next) [])
-      (on-given (All n [] (numbersAt n 6 (b ∷ t) (s .next))) _ (fieldsAt n 6 (b ∷ t) (s .next) []) (λ s h. ap length (h .0) ∙ h .1) (fields-all n 6 (b ∷ t) (s .next) [])))
+      rw (fields-are n 6 (b ∷ t) p [])
+      (rows-told (record { places = getD l 0 0; alarm = getD l 1 0 }) (getD l 2 0) p (reachAt n 6 (b ∷ t) p) (numbersAt n 6 (b ∷ t) p) (are-many n 6 (b ∷ t) p))
 
   -- what stands in the chart's table, and how much
   abbrev Laid : First → Chart → Type 0
@@ -183,26 +174,30 @@ module _ (b : ℕ) (t : List ℕ) where
   whole-keeps P at C h =
       dite (decLt at (length (b ∷ t))) (λ w. rw (whole-after (b ∷ t) at C w) tt) (λ w. rw (whole-end (b ∷ t) at C (omega arith)) h)
 
-  first-laid : (a : Answer Span) (l : List ℕ) → OnGiven (λ (s : Span). s .numbers ≡ l) a → OnGiven (Laid (recordOf (reachOf a) l)) (andThen a after)
-  unfolding recordOf reachOf entriesOf pastFirst rowsAt
-  first-laid (refused r) l g = tt
-  first-laid (given s) l g =
+  first-laid : (r : Reach) (l : List ℕ) → OnGiven (Laid (recordOf r l)) (andThen (spanOf r l) after)
+  unfolding recordOf entriesOf pastFirst rowsAt
+  first-laid (reach.Unfit c p) l = tt
+  first-laid (reach.Past p) l =
       let n = 6 * getD l 2 0 in
-      rw g
-      (on-then (All n [] (numbersAt n 6 (b ∷ t) (s .next))) _ (fieldsAt n 6 (b ∷ t) (s .next) []) _ (fields-all n 6 (b ∷ t) (s .next) [])
-      (λ r h. whole-keeps _ (r .next) (record { places = getD l 0 0; alarm = getD l 1 0; table = r .numbers }) (h .0, ap length (h .0) ∙ h .1)))
+      rw (fields-are n 6 (b ∷ t) p []) (go (reachAt n 6 (b ∷ t) p) (are-many n 6 (b ∷ t) p))
+    where
+      go : (r : Reach) → OnPast (length (numbersAt (6 * getD l 2 0) 6 (b ∷ t) p) ≡ 6 * getD l 2 0) r
+          → OnGiven (Laid (first.Record (record { places = getD l 0 0; alarm = getD l 1 0 }) (getD l 2 0) p))
+          (andThen (spanOf r (numbersAt (6 * getD l 2 0) 6 (b ∷ t) p)) (λ (rows : Span). whole (b ∷ t) (rows .next) (record { places = getD l 0 0; alarm = getD l 1 0; table = rows .numbers })))
+      go (reach.Unfit c o) h = tt
+      go (reach.Past o) h = whole-keeps _ o _ (refl, h)
 
 pub walk-told : (text : List ℕ)
     → toldParsed (answered text (firstAt text 0) (reachAt (entriesOf (firstAt text 0)) 6 text (pastFirst (firstAt text 0) 0)) (reached (reachAt (entriesOf (firstAt text 0)) 6 text (pastFirst (firstAt text 0) 0)) (pastFirst (firstAt text 0) 0)))
     ≡ mapped heading (parsed text)
 unfolding firstAt parsed answered toldParsed
 walk-told [] = refl
-walk-told (b ∷ t) = first-told b t (fieldsAt 6 0 (b ∷ t) 0 []) (numbersAt 6 0 (b ∷ t) 0) (fields-sole 6 0 (b ∷ t) 0 []) (are-numbers 6 0 (b ∷ t) 0)
+walk-told (b ∷ t) = rw (fields-are 6 0 (b ∷ t) 0 []) (first-told b t (reachAt 6 0 (b ∷ t) 0) (numbersAt 6 0 (b ∷ t) 0))
 
 walk-laid : (text : List ℕ) → OnGiven (λ (C : Chart). (C .table ≡ rowNumbers text) × (length (C .table) ≡ entriesOf (firstAt text 0))) (parsed text)
 unfolding firstAt parsed rowNumbers
 walk-laid [] = tt
-walk-laid (b ∷ t) = first-laid b t (fieldsAt 6 0 (b ∷ t) 0 []) (numbersAt 6 0 (b ∷ t) 0) (are-numbers 6 0 (b ∷ t) 0)
+walk-laid (b ∷ t) = rw (fields-are 6 0 (b ∷ t) 0 []) (first-laid b t (reachAt 6 0 (b ∷ t) 0) (numbersAt 6 0 (b ∷ t) 0))
 
 -- the same of answers that are known by equations
 pub walk-is : (text : List ℕ) (f : First) (n at : ℕ) (g : Reach) (end : ℕ) (a : Parsed) (after table : List ℕ)
@@ -214,25 +209,25 @@ walk-is text f n at g end a after table e₁ e₂ e₃ e₄ e₅ e₆ e₇ = (rw
 -- ---- the judge of both answers
 
 module _ (text : List ℕ) (f : First) (g : Reach) (end : ℕ) where
-  pub judge-none : length text ≡ 0 → parse.Unfit 11 0 ≡ answered text f g end
+  pub judge-none : length text ≡ 0 → parse.Unfit NoBytes 0 ≡ answered text f g end
   unfolding answered
   judge-none h = go text h
     where
-      go : (l : List ℕ) → length l ≡ 0 → parse.Unfit 11 0 ≡ answered l f g end
+      go : (l : List ℕ) → length l ≡ 0 → parse.Unfit NoBytes 0 ≡ answered l f g end
       go [] h = refl
       go (b ∷ s) h = absurd (omega arith)
 
   module _ (some-byte : length text ≡ 0 → ⊥) where
-    pub judge-first : (n p : ℕ) → f ≡ first.Unfit n p → parse.Unfit n p ≡ answered text f g end
+    pub judge-first : (c : Cause) (p : ℕ) → f ≡ first.Unfit c p → parse.Unfit c p ≡ answered text f g end
     unfolding answered
-    judge-first n p e = go text some-byte
+    judge-first c p e = go text some-byte
       where
-        go : (l : List ℕ) → (length l ≡ 0 → ⊥) → parse.Unfit n p ≡ answered l f g end
+        go : (l : List ℕ) → (length l ≡ 0 → ⊥) → parse.Unfit c p ≡ answered l f g end
         go [] h = absurd (h refl)
         go (b ∷ s) h = rw e
 
     module _ (h : Head) (count p : ℕ) (e : f ≡ first.Record h count p) where
-      pub judge-rows : (m o : ℕ) → g ≡ reach.Unfit m o → parse.Unfit m o ≡ answered text f g end
+      pub judge-rows : (m : Cause) (o : ℕ) → g ≡ reach.Unfit m o → parse.Unfit m o ≡ answered text f g end
       unfolding answered
       judge-rows m o d = go text some-byte
         where
@@ -240,10 +235,10 @@ module _ (text : List ℕ) (f : First) (g : Reach) (end : ℕ) where
           go [] h = absurd (h refl)
           go (b ∷ s) h = rw (e, d)
 
-      pub judge-after : (o : ℕ) → g ≡ reach.Past o → end < length text → parse.Unfit 14 end ≡ answered text f g end
+      pub judge-after : (o : ℕ) → g ≡ reach.Past o → end < length text → parse.Unfit Records end ≡ answered text f g end
       judge-after o d w = go text some-byte w
         where
-          go : (l : List ℕ) → (length l ≡ 0 → ⊥) → end < length l → parse.Unfit 14 end ≡ answered l f g end
+          go : (l : List ℕ) → (length l ≡ 0 → ⊥) → end < length l → parse.Unfit Records end ≡ answered l f g end
           go [] k w = absurd (k refl)
           go (b ∷ s) k w = rw (e, d, answered-after b s h count p end o w)
 
@@ -263,11 +258,11 @@ pub record Spelt (text : List ℕ) (h : Head) (n : ℕ) : Type 0 where
   pub few : length (rowNumbers text) ≤ 768
 
 module _ (text : List ℕ) (a : Parsed) (is : toldParsed a ≡ mapped heading (parsed text)) where
-  spelt-not : (m o : ℕ) → a ≡ parse.Unfit m o → parsed text ≡ refused (sole m o)
+  spelt-not : (c : Cause) (o : ℕ) → a ≡ parse.Unfit c o → parsed text ≡ unfit c o
   unfolding toldParsed
-  spelt-not m o e = go (parsed text) (sym is ∙ rw e)
+  spelt-not c o e = go (parsed text) (sym is ∙ rw e)
     where
-      go : (x : Answer Chart) → mapped heading x ≡ refused (sole m o) → x ≡ refused (sole m o)
+      go : (x : Answer Chart) → mapped heading x ≡ unfit c o → x ≡ unfit c o
       go (given C) e = absurd (different e)
       go (refused s) e = cc
 
@@ -301,9 +296,9 @@ module _ (text rows spare : List ℕ) (h : Head) (n : ℕ) (s : Spelt text h n) 
   front-fits table sized = rw front (omega (arith, s .few))
 
 module _ (text table : List ℕ) (sized : length table ≡ 768) (a : Parsed) (is : toldParsed a ≡ mapped heading (parsed text)) where
-  pub read-unfit : (m o : ℕ) (s : Refusal) → a ≡ parse.Unfit m o → s ≡ sole m o → ReadAs (readInto text table) (read.Refused s) table table
+  pub read-unfit : (c : Cause) (n o : ℕ) (s : Refusal) → a ≡ parse.Unfit c o → n ≡ causeNumber c → s ≡ sole n o → ReadAs (readInto text table) (read.Refused s) table table
   unfolding readText
-  read-unfit m o s e i = read-refused _ table s (read-sized text table sized ∙ rw (spelt-not text a is m o e, i))
+  read-unfit c n o s e m i = read-refused _ table s (read-sized text table sized ∙ rw (spelt-not text a is c o e, i, m))
 
   module _ (h : Head) (n : ℕ) (spare rows : List ℕ) (e : a ≡ parse.Chart h n) (l : rows ≡ laid (rowNumbers text) spare) (j : Judged) (k : told j ≡ refusal (charted h (take (6 * n) rows))) where
     read-judged : readInto text table ≡ unless (told j) (charted h (take (6 * n) rows))

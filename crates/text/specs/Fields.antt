@@ -6,6 +6,7 @@ use mathlib.Core.Bool.{Bool, true, false, _&&_}
 use Prim.Native.Nat.{ℕ, _+_, _*_, _-_, _%_}
 use lib.ListN.{length, getD, drop}
 use lib.Dec.{eqb, leb}
+use Rattle.text.specs.declared.causes.Cause.the-variants as cause
 use Rattle.text.specs.declared.fields.Kind.{Kind}
 use Rattle.text.specs.declared.fields.Kind.the-variants.{Plain, Count, Spare}
 use Rattle.text.specs.declared.fields.Field.{Field}
@@ -39,12 +40,13 @@ kind k = getD (Plain ∷ Plain ∷ Count ∷ Spare ∷ Spare ∷ Spare ∷ []) k
 -- 2, at its first digit"
 unfoldable pub judged : Kind → ℕ → ℕ → ℕ → Field
 judged Plain first next x = Number x next
-judged Count first next x = elim (leb x 128) [ true ↦ Number x next | false ↦ Unfit 2 first ]
-judged Spare first next x = elim (eqb x 0) [ true ↦ Number x next | false ↦ Unfit 13 first ]
+judged Count first next x = elim (leb x 128) [ true ↦ Number x next | false ↦ Unfit cause.RowCount first ]
+judged Spare first next x = elim (eqb x 0) [ true ↦ Number x next | false ↦ Unfit cause.Number first ]
 
 -- "13 [..] above 4294967295"
 unfoldable pub bounded : Kind → ℕ → ℕ → ℕ → Field
-bounded sort first next x = elim (leb x 4294967295) [ true ↦ judged sort first next x | false ↦ Unfit 13 first ]
+bounded sort first next x =
+    elim (leb x 4294967295) [ true ↦ judged sort first next x | false ↦ Unfit cause.Number first ]
 
 -- "leading": whether digits follow
 abbrev pub more : List ℕ → Bool
@@ -54,11 +56,14 @@ more (d ∷ ds) = true
 -- "13 leading zero": the number that is x up to an offset, and has these digits from there on
 unfoldable pub ended : Kind → ℕ → ℕ → ℕ → List ℕ → Field
 ended sort first at x ds =
-    elim (eqb x 0 && more ds) [ true ↦ Unfit 13 first | false ↦ bounded sort first (at + length ds) (value x ds) ]
+    elim (eqb x 0 && more ds) [
+      | true ↦ Unfit cause.Number first
+      | false ↦ bounded sort first (at + length ds) (value x ds)
+    ]
 
 -- "a field is 1 or more digits": no digit is "12 a byte that doesn't fit, or an end within a record (its offset)"
 unfoldable pub numberOf : Kind → ℕ → List ℕ → Field
-numberOf sort first [] = Unfit 12 first
+numberOf sort first [] = Unfit cause.Byte first
 numberOf sort first (d ∷ ds) = ended sort first (first + 1) d ds
 
 -- "a number is judged when its digits end": the one whose first digit stands at an offset
@@ -68,8 +73,8 @@ numberAt sort text first = numberOf sort first (digits (drop first text))
 -- ---- fields
 -- "12 a byte that doesn't fit, or an end within a record (its offset)": the number, if the byte b follows it
 unfoldable pub followed : ℕ → List ℕ → Field → Field
-followed b text (Unfit n p) = Unfit n p
-followed b text (Number x p) = elim (eqb (byteAt text p) b) [ true ↦ Number x (p + 1) | false ↦ Unfit 12 p ]
+followed b text (Unfit c p) = Unfit c p
+followed b text (Number x p) = elim (eqb (byteAt text p) b) [ true ↦ Number x (p + 1) | false ↦ Unfit cause.Byte p ]
 
 -- "perhaps within double quotes"
 unfoldable pub fieldAt : Kind → List ℕ → ℕ → Field
@@ -81,7 +86,7 @@ fieldAt sort text at =
 
 -- "Records [..] end in CRLF (the last one optionally)": the number, if the text ends after it, or CRLF follows
 unfoldable pub lineEnd : List ℕ → Field → Field
-lineEnd text (Unfit n p) = Unfit n p
+lineEnd text (Unfit c p) = Unfit c p
 lineEnd text (Number x p) =
     elim (leb (length text) p) [ true ↦ Number x p | false ↦ followed 10 text (followed 13 text (Number x p)) ]
 
@@ -97,4 +102,7 @@ missing k text at = eqb (k % 6) 0 && leb (length text) at
 -- Field k at an offset, with what follows it; missing records are 14, at the text's "length"
 unfoldable pub itemAt : ℕ → List ℕ → ℕ → Field
 itemAt k text at =
-    elim (missing k text at) [ true ↦ Unfit 14 (length text) | false ↦ closed k text (fieldAt (kind k) text at) ]
+    elim (missing k text at) [
+      | true ↦ Unfit cause.Records (length text)
+      | false ↦ closed k text (fieldAt (kind k) text at)
+    ]

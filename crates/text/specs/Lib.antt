@@ -1,5 +1,6 @@
--- The definitions that the contracts of `read` and `write` cite: read Fields first, then Spans, Texts, Written. Rfc4180
--- and Files say the same in the terms of RFC 4180.
+-- The definitions that the contracts of `read` and `write` cite: read Causes and Fields first, then Spans, Texts,
+-- Written. Rfc4180 and Files say the same in the terms of RFC 4180.
+pub mod Causes
 pub mod Fields
 pub mod Spans
 pub mod Texts

@@ -1,10 +1,10 @@
 -- Fields that follow one another ("Chart text").
 use mathlib.Core.List.{List, [], _∷_, _++_}
 use Prim.Native.Nat.{ℕ, zero, suc}
-use Rattle.base.specs.Answers.{Answer, given, refused}
-use Rattle.base.specs.Refusals.{sole}
+use Rattle.base.specs.Answers.{Answer, given}
 use Rattle.text.specs.declared.fields.Field.{Field}
 use Rattle.text.specs.declared.fields.Field.the-variants.{Number, Unfit}
+use Rattle.text.specs.Causes.{unfit}
 use Rattle.text.specs.Fields.{itemAt}
 
 -- "keeps the text and the offset reached": the numbers that were read, and the offset after them
@@ -15,7 +15,7 @@ pub record Span : Type 0 where
 -- "Leftmost first": what follows a number and the offset after it; a refusal stays
 abbrev pub onField : {A : Type 0} → Field → (ℕ → ℕ → Answer A) → Answer A
 onField (Number x p) f = f x p
-onField (Unfit n p) f = refused (sole n p)
+onField (Unfit c p) f = unfit c p
 
 -- "Records of six fields", one after the other: so many fields, from field k at an offset on, behind the numbers read
 -- before them. A refusal ends the reading.

@@ -4,6 +4,7 @@ ghost use Prim.Native.Nat.{_+_, _*_, _≤_};
 ghost use lib.Dec.{leb};
 ghost use Rattle.text.specs.Fields.{byteAt, kind, judged, numberAt, followed, fieldAt, lineEnd, closed, missing, itemAt};
 ghost use Rattle.text.specs.inner.Digits.{TellsDigit};
+use crate::causes::Cause;
 
 // What a field may hold: any number, the row count, or a spare of the first record.
 pub enum Kind {
@@ -12,12 +13,11 @@ pub enum Kind {
     Spare,
 }
 
-// Each answer below the entry points is a success or `Unfit`, where the text does not fit: the number of the rule that
-// fails there, and the offset.
+// Each answer below the entry points is a success or `Unfit`, where the text does not fit: the cause, and the offset.
 pub enum Field {
     // A number and the offset after it.
     Number(u32, usize),
-    Unfit(u32, usize),
+    Unfit(Cause, usize),
 }
 
 // What a field may hold, by its number in the text: first those of the rows, which are nearly all.
@@ -69,13 +69,13 @@ fn judge(field: usize, first: usize, next: usize, x: u32) -> Field
             if x <= 128 {
                 return Field::Number(x, next);
             }
-            Field::Unfit(2, first)
+            Field::Unfit(Cause::RowCount, first)
         }
         Kind::Spare => {
             if x == 0 {
                 return Field::Number(x, next);
             }
-            Field::Unfit(13, first)
+            Field::Unfit(Cause::Number, first)
         }
     }
 }
@@ -87,12 +87,12 @@ fn number_at(text: &[u8], first: usize, field: usize) -> Field
 {
     let mut value = digit(text, first);
     if 9 < value {
-        return Field::Unfit(12, first);
+        return Field::Unfit(Cause::Byte, first);
     }
     let mut at = first + 1;
     if value == 0 {
         if digit(text, at) <= 9 {
-            return Field::Unfit(13, first);
+            return Field::Unfit(Cause::Number, first);
         }
         return judge(field, first, at, 0);
     }
@@ -102,7 +102,7 @@ fn number_at(text: &[u8], first: usize, field: usize) -> Field
             return judge(field, first, at, value);
         }
         if !has_room(value, d) {
-            return Field::Unfit(13, first);
+            return Field::Unfit(Cause::Number, first);
         }
         value = value * 10 + d;
         at += 1;
@@ -114,15 +114,15 @@ fn follow(text: &[u8], f: Field, b: u8) -> Field
     ensures { λ r. ⌜ r ≡ followed b (now (text .entry)) f ⌝ }
 {
     match f {
-        Field::Unfit(n, p) => Field::Unfit(n, p),
+        Field::Unfit(cause, p) => Field::Unfit(cause, p),
         Field::Number(x, p) => {
             if text.len() <= p {
-                return Field::Unfit(12, p);
+                return Field::Unfit(Cause::Byte, p);
             }
             if text[p] == b {
                 return Field::Number(x, p + 1);
             }
-            Field::Unfit(12, p)
+            Field::Unfit(Cause::Byte, p)
         }
     }
 }
@@ -132,7 +132,7 @@ fn field_at(text: &[u8], at: usize, field: usize) -> Field
     ensures { λ r. ⌜ r ≡ fieldAt (kind field) (now (text .entry)) at ⌝ }
 {
     if text.len() <= at {
-        return Field::Unfit(12, at);
+        return Field::Unfit(Cause::Byte, at);
     }
     if text[at] == 34 {
         let f = number_at(text, at + 1, field);
@@ -146,7 +146,7 @@ fn line_end(text: &[u8], f: Field) -> Field
     ensures { λ r. ⌜ r ≡ lineEnd (now (text .entry)) f ⌝ }
 {
     match f {
-        Field::Unfit(n, p) => Field::Unfit(n, p),
+        Field::Unfit(cause, p) => Field::Unfit(cause, p),
         Field::Number(x, p) => {
             if text.len() <= p {
                 return Field::Number(x, p);
@@ -162,7 +162,7 @@ fn close(text: &[u8], f: Field, field: usize) -> Field
     ensures { λ r. ⌜ r ≡ closed field (now (text .entry)) f ⌝ }
 {
     match f {
-        Field::Unfit(n, p) => Field::Unfit(n, p),
+        Field::Unfit(cause, p) => Field::Unfit(cause, p),
         Field::Number(x, p) => {
             if field % 6 == 5 {
                 return line_end(text, Field::Number(x, p));
@@ -187,7 +187,7 @@ pub fn item_at(text: &[u8], at: usize, field: usize) -> Field
     ensures { λ r. ⌜ r ≡ itemAt field (now (text .entry)) at ⌝ }
 {
     if is_missing(text, at, field) {
-        return Field::Unfit(14, text.len());
+        return Field::Unfit(Cause::Records, text.len());
     }
     let f = field_at(text, at, field);
     close(text, f, field)

@@ -7,12 +7,14 @@ ghost use lib.ListN.{length, take};
 ghost use Rattle.base.specs.Answers.{given};
 ghost use Rattle.base.specs.Chains.{mapped};
 ghost use Rattle.chart.specs.Charts.{Chart, charted};
+ghost use Rattle.text.specs.Causes.{causeNumber};
 ghost use Rattle.text.specs.Texts.{readInto, filled, heading, toldRead};
 ghost use Rattle.text.specs.Written.{writing, printed, toldWrote};
 ghost use Rattle.text.specs.Files.{FileOf, chartRead};
 use answers::Read;
 use answers::Wrote;
 use base::sole;
+use causes::Cause;
 use chart::charts::Head;
 use chart::charts::Judged;
 use inner::reader::Parsed;
@@ -21,8 +23,22 @@ use inner::walk::parse;
 use inner::writer::put_chart;
 
 pub mod answers; // answers.rt: what reading and writing answer
+pub mod causes; // causes.rt: why a text does not fit
 pub mod fields; // fields.rt: the fields of a text
 pub mod inner; // inner.rt: what reading and writing are made of
+
+// The number of a refusal, by its cause.
+fn cause_number(cause: Cause) -> u32
+    ensures { λ r. ⌜ r ≡ causeNumber cause ⌝ }
+{
+    match cause {
+        Cause::NoBytes => 11,
+        Cause::Byte => 12,
+        Cause::Number => 13,
+        Cause::Records => 14,
+        Cause::RowCount => 2,
+    }
+}
 
 // The chart of a text: its rows go to the front of the table, which has 768 entries. A refusal leaves the table as it
 // was. A chart is answered exactly where the text is its RFC 4180 file.
@@ -37,7 +53,7 @@ pub fn read(text: &[u8], table: &mut [u32]) -> Read
     }
     let mut rows = [0u32; 768];
     match parse(text, &mut rows) {
-        Parsed::Unfit(number, offset) => Read::Refused(sole(number, offset)),
+        Parsed::Unfit(cause, offset) => Read::Refused(sole(cause_number(cause), offset)),
         Parsed::Chart(head, count) => {
             let front = &rows[..6 * count];
             match chart::judge(head, front) {

@@ -21,8 +21,11 @@ slice-aggregate-parse c = search needs
 parse-requires : tie.Need-parse-requires
 parse-requires c κs = search needs
 
-enum-known-number : tie.Need-enum-known-number
-enum-known-number c = search needs
+enum-known-cause : tie.Need-enum-known-cause
+enum-known-cause c = search needs
+
+cause-number-requires : tie.Need-cause-number-requires
+cause-number-requires c κs = search needs
 
 sole-requires-2 : tie.Need-sole-requires-2
 sole-requires-2 c κs = search needs
@@ -52,7 +55,7 @@ copy-requires : tie.Need-copy-requires
 copy-requires c κs = let h = c .before .before .before .before .before .before in let p = h .before .before .before in front-fits _ _ _ _ _ (spelt _ _ (p .parse .ensures .0) _ _ (h .head .given .1)) (p .parse .ensures .1) (p .before .before .before .before .before .args .table .now) (p .before .before .if1 .left)
 
 returns-2 : tie.Need-returns-2
-returns-2 c = let p = c .before .before .before .before .before in read-said _ _ _ _ (read-unfit _ _ (p .before .before .if1 .left) _ (p .parse .ensures .0) _ _ _ (c .before .before .number .given .1) (c .sole2 .ensures))
+returns-2 c = let p = c .before .before .before .before .before .before in read-said _ _ _ _ (read-unfit _ _ (p .before .before .if1 .left) _ (p .parse .ensures .0) _ _ _ _ (c .before .before .before .cause .given .1) (c .before .cause-number .ensures) (c .sole2 .ensures))
 
 returns-3 : tie.Need-returns-3
 returns-3 c = let j = c .before .before .before in let h = j .before .before .before in let p = h .before .before .before in read-said _ _ _ _ (read-faulty _ _ (p .before .before .if1 .left) _ (p .parse .ensures .0) _ _ _ _ (h .head .given .1) (p .parse .ensures .1) _ (j .judge .ensures) _ (c .before .r .given .1))
@@ -71,7 +74,8 @@ read-spec =
     returns
     slice-aggregate-parse
     parse-requires
-    enum-known-number
+    enum-known-cause
+    cause-number-requires
     sole-requires-2
     enum-known-head
     mul-rows

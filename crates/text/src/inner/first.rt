@@ -1,6 +1,7 @@
 // The first record of a text: "n, alarm, row count, 0, 0, 0".
 ghost use mathlib.Core.Path.{_≡_};
 ghost use Rattle.text.specs.inner.Walk.{firstAt, pastFirst, entriesOf};
+use crate::causes::Cause;
 use crate::inner::table::Reach;
 use crate::inner::table::fields_into;
 use chart::charts::Head;
@@ -8,7 +9,7 @@ use chart::charts::Head;
 pub enum First {
     // The chart's head, its row count and the offset after the record.
     Record(Head, u32, usize),
-    Unfit(u32, usize),
+    Unfit(Cause, usize),
 }
 
 // The first record, at an offset.
@@ -17,7 +18,7 @@ pub fn first_at(text: &[u8], at: usize) -> First
 {
     let mut numbers = [0u32; 6];
     match fields_into(text, at, 0, 6, &mut numbers) {
-        Reach::Unfit(number, offset) => First::Unfit(number, offset),
+        Reach::Unfit(cause, offset) => First::Unfit(cause, offset),
         Reach::Past(next) => {
             let head = Head {
                 places: numbers[0],

@@ -4,13 +4,14 @@ ghost use mathlib.Core.List.{_++_};
 ghost use Prim.Native.Nat.{_+_, _<_, _≤_};
 ghost use lib.ListN.{length, drop, set};
 ghost use Rattle.text.specs.inner.Walk.{numbersAt, laid, reachAt, reached};
+use crate::causes::Cause;
 use crate::fields::Field;
 use crate::fields::item_at;
 
 pub enum Reach {
     // The offset after the fields read.
     Past(usize),
-    Unfit(u32, usize),
+    Unfit(Cause, usize),
 }
 
 // One number into a table.
@@ -32,8 +33,8 @@ pub fn fields_into(text: &[u8], at: usize, field: usize, n: usize, table: &mut [
     let mut i = 0;
     while i < n {
         match item_at(text, p, field + i) {
-            Field::Unfit(number, offset) => {
-                return Reach::Unfit(number, offset);
+            Field::Unfit(cause, offset) => {
+                return Reach::Unfit(cause, offset);
             }
             Field::Number(x, next) => {
                 put(table, i, x);

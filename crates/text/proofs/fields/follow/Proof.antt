@@ -17,8 +17,8 @@ returns c = search (follow-past, arith)
 shared-slice-read-if2 : tie.Need-shared-slice-read-if2
 shared-slice-read-if2 c = search needs
 
-add-t13 : tie.Need-add-t13
-add-t13 c = search needs
+add-t14 : tie.Need-add-t14
+add-t14 c = search needs
 
 returns-2 : tie.Need-returns-2
 returns-2 c = search follow-is
@@ -37,7 +37,7 @@ follow-spec =
     enum-known-f-2
     returns
     shared-slice-read-if2
-    add-t13
+    add-t14
     returns-2
     returns-3
     returns-4)

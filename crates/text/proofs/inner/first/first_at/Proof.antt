@@ -11,8 +11,8 @@ slice-aggregate-fields-into c = search needs
 fields-into-requires : tie.Need-fields-into-requires
 fields-into-requires c κs = search needs
 
-enum-known-number : tie.Need-enum-known-number
-enum-known-number c = search needs
+enum-known-cause : tie.Need-enum-known-cause
+enum-known-cause c = search needs
 
 enum-known-next : tie.Need-enum-known-next
 enum-known-next c = search needs
@@ -27,7 +27,7 @@ array-read-t14-2 : tie.Need-array-read-t14-2
 array-read-t14-2 c = search needs
 
 returns : tie.Need-returns
-returns c = first-unfit _ _ _ (c .before .before .before .before .fields-into .ensures .0) _ _ (c .before .number .given .1)
+returns c = first-unfit _ _ _ (c .before .before .before .before .fields-into .ensures .0) _ _ (c .before .cause .given .1)
 
 returns-2 : tie.Need-returns-2
 returns-2 c = first-record _ _ _ (c .before .before .before .before .fields-into .ensures .0) _ (c .before .before .before .before .fields-into .last .1 .1 .1 .1 .0) _ (c .before .next .given .1) refl (c .before .before .before .before .fields-into .ensures .1)
@@ -38,7 +38,7 @@ first-at-spec =
     (tie.spec
     slice-aggregate-fields-into
     fields-into-requires
-    enum-known-number
+    enum-known-cause
     enum-known-next
     array-read-t14
     array-read-t17

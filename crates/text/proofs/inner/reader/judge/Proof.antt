@@ -22,8 +22,8 @@ enum-told c = search needs
 returns-2 : tie.Need-returns-2
 returns-2 c = judge-after _ _ _ _ (c .before .before .before .before .before .before .if1 .left) _ _ _ (c .before .before .before .before .first2 .given .1) _ (c .before .enum-told .given .1) (c .if2 .taken)
 
-cast-t15 : tie.Need-cast-t15
-cast-t15 c = search needs
+cast-t16 : tie.Need-cast-t16
+cast-t16 c = search needs
 
 returns-3 : tie.Need-returns-3
 returns-3 c = judge-first _ _ _ _ (c .before .before .before .if1 .left) _ _ (c .before .first .given .1)
@@ -44,7 +44,7 @@ judge-spec =
     enum-known-rows
     enum-told
     returns-2
-    cast-t15
+    cast-t16
     returns-3
     returns-4
     returns-5)

@@ -1,0 +1,13 @@
+// Why a text does not fit: the causes of a refusal, by name. Their numbers are the entry point's to tell.
+pub enum Cause {
+    // No bytes.
+    NoBytes,
+    // A byte that does not fit, or an end within a record.
+    Byte,
+    // A leading zero, a number above 4294967295, or a non-zero spare in the first record.
+    Number,
+    // Records missing, or a byte after the last counted one.
+    Records,
+    // A row count above 128.
+    RowCount,
+}
