@@ -17,13 +17,12 @@ use Rattle.align.specs.Steps.{find, along, matching, matched, rewritten,
 abbrev pub example : Chart
 example =
     record {
-      places = 6;
-      alarm = 5;
+      head = record { places = 6; alarm = 5 };
       table = 0 ∷ 1 ∷ 0 ∷ 1 ∷ 0 ∷ 5 ∷ 1 ∷ 2 ∷ 18 ∷ 0 ∷ 0 ∷ 100 ∷ 1 ∷ 3 ∷ 21 ∷ 0 ∷ 0 ∷ 100 ∷ 3 ∷ 5 ∷ 20 ∷ 1 ∷ 0 ∷ 50 ∷ 3 ∷ 4 ∷ 19 ∷ 1 ∷ 0 ∷ 50 ∷ [];
     }
 
 abbrev pub from-to : ℕ → ℕ → Operation → ℕ → Option Spot
-from-to p set o q = step example example (record { place = record { 0 = p }; set = set }) o (record { 0 = q })
+from-to p set o q = step (record { old = example; new = example }) (record { place = record { 0 = p }; set = set }) o (record { 0 = q })
 
 abbrev pub at : ℕ → ℕ → Option Spot
 at p set = some (record { place = record { 0 = p }; set = set })

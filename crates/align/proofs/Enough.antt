@@ -8,13 +8,13 @@ use native.Mathlib.Decide.{ℕ-discrete}
 use native.Mathlib.Omega.{arith}
 use lib.Bits.{or-zero-l}
 use Rattle.base.proofs.OnSome.{on-at}
-use Rattle.chart.specs.Charts.{Chart}
 use Rattle.chart.specs.Faultless.{FaultlessChart}
 use Rattle.align.specs.declared.spots.Spot.{Spot}
 use Rattle.sets.specs.Sets.{bit, alone, joined, with, meets}
 use Rattle.align.specs.Steps.{onward, follow, followed}
 use Rattle.sets.proofs.Sets.{In, bit-none, bit-or, bit-pow-other, alone-here, with-here, meet-none}
 use Rattle.align.proofs.Moves.{follow-ends, follow-twice, follow-on, onward-below}
+use Rattle.chart.specs.Compared.{Compared}
 
 -- how many of the first k places have not been come to
 unmet : ℕ → ℕ → ℕ
@@ -44,30 +44,30 @@ unmet-less (suc k) met v l n =
     (λ e. let h : bit (with met v) k ≡ 1 = rw e (with-here 0 met v) in let m : bit met k ≡ 1 → ⊥ = rw e n in omega (arith, unmet-same k met v (omega arith)))
     (λ e. omega (arith, unmet-less k met v (omega arith) n, other-bit met v k e))
 
-module _ (old : Chart) (F : FaultlessChart old) where
+module _ (X : Compared) (F : FaultlessChart (X .old)) where
   -- one row more or less, where the rest of the walk is the same
-  further : (n k met : ℕ) (h : Spot) → ((h′ : Spot) → onward old h ≡ some h′ → meets met (alone (h′ .place .0)) ≡ false
-      → follow old k (with met (h′ .place .0)) h′ ≡ follow old n (with met (h′ .place .0)) h′) → follow old (suc k) met h ≡ follow old (suc n) met h
-  further n k met h rest = go (onward old h) refl
+  further : (n k met : ℕ) (h : Spot) → ((h′ : Spot) → onward X h ≡ some h′ → meets met (alone (h′ .place .0)) ≡ false
+      → follow X k (with met (h′ .place .0)) h′ ≡ follow X n (with met (h′ .place .0)) h′) → follow X (suc k) met h ≡ follow X (suc n) met h
+  further n k met h rest = go (onward X h) refl
     where
-      came : (h′ : Spot) → onward old h ≡ some h′ → (b : Bool) → meets met (alone (h′ .place .0)) ≡ b → follow old (suc k) met h ≡ follow old (suc n) met h
-      came h′ e true t = sym (follow-twice old k met h h′ refl e t) ∙ follow-twice old n met h h′ refl e t
-      came h′ e false t = follow-on old k met h h′ refl e t ∙ rest h′ e t ∙ sym (follow-on old n met h h′ refl e t)
+      came : (h′ : Spot) → onward X h ≡ some h′ → (b : Bool) → meets met (alone (h′ .place .0)) ≡ b → follow X (suc k) met h ≡ follow X (suc n) met h
+      came h′ e true t = sym (follow-twice X k met h h′ refl e t) ∙ follow-twice X n met h h′ refl e t
+      came h′ e false t = follow-on X k met h h′ refl e t ∙ rest h′ e t ∙ sym (follow-on X n met h h′ refl e t)
 
-      go : (o : Option Spot) → onward old h ≡ o → follow old (suc k) met h ≡ follow old (suc n) met h
-      go none e = sym (follow-ends old k met h refl e) ∙ follow-ends old n met h refl e
+      go : (o : Option Spot) → onward X h ≡ o → follow X (suc k) met h ≡ follow X (suc n) met h
+      go none e = sym (follow-ends X k met h refl e) ∙ follow-ends X n met h refl e
       go (some h′) e = came h′ e (meets met (alone (h′ .place .0))) refl
 
-  longer : (n d met : ℕ) (h : Spot) → unmet 64 met < n → follow old (n + d) met h ≡ follow old n met h
+  longer : (n d met : ℕ) (h : Spot) → unmet 64 met < n → follow X (n + d) met h ≡ follow X n met h
   longer zero d met h l = absurd (omega arith)
   longer (suc n) d met h l =
       let e : suc n + d ≡ suc (n + d) = omega arith in
-      ap (λ (k : ℕ). follow old k met h) e
+      ap (λ (k : ℕ). follow X k met h) e
       ∙ further n (n + d) met h (λ h′ o t. longer n d (with met (h′ .place .0)) h′
-      (omega (arith, unmet-less 64 met (h′ .place .0) (on-at _ (onward-below old F h) o) (λ i. meet-none met (alone (h′ .place .0)) (h′ .place .0) t i (alone-here (h′ .place .0))))))
+      (omega (arith, unmet-less 64 met (h′ .place .0) (on-at _ (onward-below X F h) o) (λ i. meet-none met (alone (h′ .place .0)) (h′ .place .0) t i (alone-here (h′ .place .0))))))
 
   -- however many rows may be followed beyond 64, the walk is the same
-  pub enough : (d : ℕ) (h : Spot) → h .place .0 < 64 → follow old (64 + d) (alone (h .place .0)) h ≡ followed old h
+  pub enough : (d : ℕ) (h : Spot) → h .place .0 < 64 → follow X (64 + d) (alone (h .place .0)) h ≡ followed X h
   unfolding followed with joined
   enough d h l =
       let z : with 0 (h .place .0) ≡ alone (h .place .0) = or-zero-l (alone (h .place .0)) in

@@ -22,7 +22,8 @@ use Rattle.sets.specs.Sets.{alone, joined, with, without, meets}
 use Rattle.align.specs.Reads.{readSet}
 use Rattle.align.specs.Steps.{find, isImplied, along, matching, matched, rewritten, rowsAt, atAlarm, assigned, onward, follow, followed, counterpart, assumed, moved, fair, arrived, step}
 use Rattle.align.proofs.Onto.{same→eq, Among, found}
-use Rattle.chart.proofs.Parts.{row-of, row-same}
+use Rattle.chart.proofs.Parts.{row-to}
+use Rattle.chart.specs.Compared.{Compared, headsOf}
 
 -- ---- lines 7 and 8
 module _ (s : ℕ) (o : Operation) {m : Bool} (t : m ≡ meets s (readSet o)) where
@@ -67,190 +68,186 @@ pub matched-assumes : (rows : List ℕ) (o : Operation) (k : ℕ) → isAssumpti
 matched-assumes rows o k t e = on-at _ (matching-assumes rows o t) (sym e) .fits
 
 -- ---- lines 6 to 10
-module _ (old : Chart) (h : Spot) (o : Operation) {rows : List ℕ} {x : Option ℕ} (r : rows ≡ rowsAt old (h .place)) (e : x ≡ find rows (λ o′. same o′ o)) where
-  sought : x ≡ find (rowsAt old (h .place)) (λ o′. same o′ o)
+module _ (X : Compared) (h : Spot) (o : Operation) {rows : List ℕ} {x : Option ℕ} (r : rows ≡ rowsAt X (h .place)) (e : x ≡ find rows (λ o′. same o′ o)) where
+  sought : x ≡ find (rowsAt X (h .place)) (λ o′. same o′ o)
   sought = e ∙ ap (λ (rows : List ℕ). find rows (λ o′. same o′ o)) r
 
   pub assigned-equal : {k : ℕ} {t : OldPlace} {o′ : Operation} {s : ℕ} → x ≡ some k → t .0 ≡ to rows k → o′ ≡ o → s ≡ rewritten (h .set) o′
-      → record { place = t; set = s } ≡ assigned old h o (find (rowsAt old (h .place)) (λ o′. same o′ o))
+      → record { place = t; set = s } ≡ assigned X h o (find (rowsAt X (h .place)) (λ o′. same o′ o))
   unfolding assigned
   assigned-equal {k} {t} q p i z =
       (λ j. record { place = record { 0 = (p ∙ ap (λ (rows : List ℕ). to rows k) r) j }; set = (z ∙ ap (rewritten (h .set)) i) j })
-      ∙ ap (assigned old h o) (sym (sym sought ∙ q))
+      ∙ ap (assigned X h o) (sym (sym sought ∙ q))
 
   pub assigned-alone : {a s : ℕ} → x ≡ none → a ≡ o .a → s ≡ with (h .set) a
-      → record { place = h .place; set = s } ≡ assigned old h o (find (rowsAt old (h .place)) (λ o′. same o′ o))
+      → record { place = h .place; set = s } ≡ assigned X h o (find (rowsAt X (h .place)) (λ o′. same o′ o))
   unfolding assigned
   assigned-alone q i z =
       (λ j. record { place = h .place; set = (z ∙ ap (with (h .set)) i) j })
-      ∙ ap (assigned old h o) (sym (sym sought ∙ q))
+      ∙ ap (assigned X h o) (sym (sym sought ∙ q))
 
 -- a place that a row of a faultless chart leads to is one of 64
-module _ (old : Chart) (F : FaultlessChart old) where
-  pub part-below : (p k : ℕ) → k < size (leaving (old .table) p) → to (leaving (old .table) p) k < 64
-  part-below p k l =
-      let (i, r) = row-of (old .table) p k l in
-      let b = F .rows i (r .inside) .to-below in
-      let f = F .few-places in
-      omega (arith, row-same (old .table) p r .to-same)
+pub part-below : (C : Chart) → FaultlessChart C → (p k : ℕ) → k < size (leaving (C .table) p) → to (leaving (C .table) p) k < 64
+part-below C F p k l = let r = row-to C F p k l in let f = F .few-places in omega arith
 
+module _ (X : Compared) (F : FaultlessChart (X .old)) where
   abbrev pub Below : Spot → Type 0
   Below h = h .place .0 < 64
 
-  along-below : (p s : ℕ) (x : Option ℕ) → OnSome (Among (leaving (old .table) p) (λ o. isAssignment o ≡ true)) x → OnSome Below (along s (leaving (old .table) p) x)
+  along-below : (p s : ℕ) (x : Option ℕ) → OnSome (Among (leaving (X .old .table) p) (λ o. isAssignment o ≡ true)) x → OnSome Below (along s (leaving (X .old .table) p) x)
   unfolding along
   along-below p s none q = tt
-  along-below p s (some k) q = (part-below p k (q .inside))
+  along-below p s (some k) q = (part-below (X .old) F p k (q .inside))
 
-  pub onward-below : (h : Spot) → OnSome Below (onward old h)
+  pub onward-below : (h : Spot) → OnSome Below (onward X h)
   unfolding onward
   onward-below h =
-      picked _ (atAlarm old (h .place)) none _ (λ t. tt)
-      (λ t. along-below (h .place .0) (h .set) (find (rowsAt old (h .place)) isAssignment) (found (rowsAt old (h .place)) isAssignment (λ o t. t)))
+      picked _ (atAlarm X (h .place)) none _ (λ t. tt)
+      (λ t. along-below (h .place .0) (h .set) (find (rowsAt X (h .place)) isAssignment) (found (rowsAt X (h .place)) isAssignment (λ o t. t)))
 
-  follow-below : (n met : ℕ) (h : Spot) → Below h → OnSome Below (follow old n met h)
+  follow-below : (n met : ℕ) (h : Spot) → Below h → OnSome Below (follow X n met h)
   unfolding follow
   follow-below zero met h b = tt
   follow-below (suc n) met h b =
-      further Below _ (onward old h) (some h) _ (onward-below h) b
+      further Below _ (onward X h) (some h) _ (onward-below h) b
       (λ h′ b′. picked _ (meets met (alone (h′ .place .0))) none _ (λ t. tt) (λ t. follow-below n (with met (h′ .place .0)) h′ b′))
 
-  pub followed-below : (h : Spot) → Below h → OnSome Below (followed old h)
+  pub followed-below : (h : Spot) → Below h → OnSome Below (followed X h)
   unfolding followed
   followed-below h b = follow-below 64 (alone (h .place .0)) h b
 
-  assumed-below : (h : Spot) (o : Operation) → Below h → (x : Option ℕ) → OnSome (Among (rowsAt old (h .place)) (λ o. Unit {0})) x → OnSome Below (assumed old h o x)
+  assumed-below : (h : Spot) (o : Operation) → Below h → (x : Option ℕ) → OnSome (Among (rowsAt X (h .place)) (λ o. Unit {0})) x → OnSome Below (assumed X h o x)
   unfolding assumed matched
   assumed-below h o b none q = b
   assumed-below h o b (some k) q =
-      when-so _ (not (meets (h .set) (readSet o) || meets (h .set) (readSet (operation (rowsAt old (h .place)) k)))) _ (λ t. part-below (h .place .0) k (q .inside))
+      when-so _ (not (meets (h .set) (readSet o) || meets (h .set) (readSet (operation (rowsAt X (h .place)) k)))) _ (λ t. part-below (X .old) F (h .place .0) k (q .inside))
 
-  counterpart-there : (p : OldPlace) (o : Operation) → OnSome (Among (rowsAt old p) (λ o. Unit {0})) (counterpart old p o)
+  counterpart-there : (p : OldPlace) (o : Operation) → OnSome (Among (rowsAt X p) (λ o. Unit {0})) (counterpart X p o)
   unfolding counterpart
-  counterpart-there p o = picked _ (atAlarm old p) none _ (λ t. tt) (λ t. matching-there (rowsAt old p) o)
+  counterpart-there p o = picked _ (atAlarm X p) none _ (λ t. tt) (λ t. matching-there (rowsAt X p) o)
 
-  assigned-below : (h : Spot) (o : Operation) → Below h → (x : Option ℕ) → OnSome (Among (rowsAt old (h .place)) (λ o. Unit {0})) x → Below (assigned old h o x)
+  assigned-below : (h : Spot) (o : Operation) → Below h → (x : Option ℕ) → OnSome (Among (rowsAt X (h .place)) (λ o. Unit {0})) x → Below (assigned X h o x)
   unfolding assigned
   assigned-below h o b none q = b
-  assigned-below h o b (some k) q = part-below (h .place .0) k (q .inside)
+  assigned-below h o b (some k) q = part-below (X .old) F (h .place .0) k (q .inside)
 
-  moved-below : (h : Spot) (o : Operation) → Below h → OnSome Below (moved old h o)
+  moved-below : (h : Spot) (o : Operation) → Below h → OnSome Below (moved X h o)
   unfolding moved followed
   moved-below h o b =
       picked _ (isAssignment o) _ _
-      (λ t. (assigned-below h o b (find (rowsAt old (h .place)) (λ o′. same o′ o)) (found (rowsAt old (h .place)) (λ o′. same o′ o) (λ o t. tt))))
-      (λ t. further Below _ (follow old 64 (alone (h .place .0)) h) none _ (follow-below 64 (alone (h .place .0)) h b) tt
-      (λ h′ b′. assumed-below h′ o b′ (counterpart old (h′ .place) o) (counterpart-there (h′ .place) o)))
+      (λ t. (assigned-below h o b (find (rowsAt X (h .place)) (λ o′. same o′ o)) (found (rowsAt X (h .place)) (λ o′. same o′ o) (λ o t. tt))))
+      (λ t. further Below _ (follow X 64 (alone (h .place .0)) h) none _ (follow-below 64 (alone (h .place .0)) h b) tt
+      (λ h′ b′. assumed-below h′ o b′ (counterpart X (h′ .place) o) (counterpart-there (h′ .place) o)))
 
   -- the old place that a step comes to is one of 64
-  pub step-below : (new : Chart) (h : Spot) (o : Operation) (q : NewPlace) → Below h → OnSome Below (step old new h o q)
+  pub step-below : (h : Spot) (o : Operation) (q : NewPlace) → Below h → OnSome Below (step X h o q)
   unfolding step arrived
-  step-below new h o q b = go (moved old h o) (moved-below h o b)
+  step-below h o q b = go (moved X h o) (moved-below h o b)
     where
-      go : (x : Option Spot) → OnSome Below x → OnSome Below (arrived (old .alarm) (new .alarm) q x)
+      go : (x : Option Spot) → OnSome Below x → OnSome Below (arrived (headsOf X) q x)
       go none f = tt
-      go (some h′) f = when-so _ (bool (fair (old .alarm) (new .alarm) (h′ .place) q)) h′ (λ t. f)
+      go (some h′) f = when-so _ (bool (fair (headsOf X) (h′ .place) q)) h′ (λ t. f)
 
-module _ (old : Chart) where
+module _ (X : Compared) where
   -- ---- lines 13 and 14
-  pub onward-ends : (h : Spot) → atAlarm old (h .place) ≡ true → none ≡ onward old h
+  pub onward-ends : (h : Spot) → atAlarm X (h .place) ≡ true → none ≡ onward X h
   unfolding onward
-  onward-ends h t = sym (pick-true (atAlarm old (h .place)) none _ t)
+  onward-ends h t = sym (pick-true (atAlarm X (h .place)) none _ t)
 
-  pub onward-by : (h : Spot) {rows : List ℕ} {x : Option ℕ} {r : Option Spot} → atAlarm old (h .place) ≡ false → rows ≡ rowsAt old (h .place)
-      → x ≡ find rows isAssignment → r ≡ along (h .set) rows x → r ≡ onward old h
+  pub onward-by : (h : Spot) {rows : List ℕ} {x : Option ℕ} {r : Option Spot} → atAlarm X (h .place) ≡ false → rows ≡ rowsAt X (h .place)
+      → x ≡ find rows isAssignment → r ≡ along (h .set) rows x → r ≡ onward X h
   unfolding onward
   onward-by h {x = x} t e q p =
       p ∙ ap (along (h .set) _) q ∙ ap (λ (rows : List ℕ). along (h .set) rows (find rows isAssignment)) e
-      ∙ sym (pick-false (atAlarm old (h .place)) none (along (h .set) (rowsAt old (h .place)) (find (rowsAt old (h .place)) isAssignment)) t)
+      ∙ sym (pick-false (atAlarm X (h .place)) none (along (h .set) (rowsAt X (h .place)) (find (rowsAt X (h .place)) isAssignment)) t)
 
   module _ (n met : ℕ) (h : Spot) where
-    pub follow-ends : {r : Option Spot} → r ≡ onward old h → r ≡ none → some h ≡ follow old (suc n) met h
+    pub follow-ends : {r : Option Spot} → r ≡ onward X h → r ≡ none → some h ≡ follow X (suc n) met h
     unfolding follow
-    follow-ends e q = sym (pick-none (onward old h) (some h) _ (sym e ∙ q))
+    follow-ends e q = sym (pick-none (onward X h) (some h) _ (sym e ∙ q))
 
-    pub follow-twice : {r : Option Spot} (h′ : Spot) → r ≡ onward old h → r ≡ some h′ → meets met (alone (h′ .place .0)) ≡ true → none ≡ follow old (suc n) met h
+    pub follow-twice : {r : Option Spot} (h′ : Spot) → r ≡ onward X h → r ≡ some h′ → meets met (alone (h′ .place .0)) ≡ true → none ≡ follow X (suc n) met h
     unfolding follow
-    follow-twice h′ e q t = sym (pick-some (onward old h) (some h) _ h′ (sym e ∙ q) ∙ pick-true (meets met (alone (h′ .place .0))) none _ t)
+    follow-twice h′ e q t = sym (pick-some (onward X h) (some h) _ h′ (sym e ∙ q) ∙ pick-true (meets met (alone (h′ .place .0))) none _ t)
 
-    pub follow-on : {r : Option Spot} (h′ : Spot) → r ≡ onward old h → r ≡ some h′ → meets met (alone (h′ .place .0)) ≡ false
-        → follow old (suc n) met h ≡ follow old n (with met (h′ .place .0)) h′
+    pub follow-on : {r : Option Spot} (h′ : Spot) → r ≡ onward X h → r ≡ some h′ → meets met (alone (h′ .place .0)) ≡ false
+        → follow X (suc n) met h ≡ follow X n (with met (h′ .place .0)) h′
     unfolding follow
-    follow-on h′ e q t = pick-some (onward old h) (some h) _ h′ (sym e ∙ q) ∙ pick-false (meets met (alone (h′ .place .0))) none _ t
+    follow-on h′ e q t = pick-some (onward X h) (some h) _ h′ (sym e ∙ q) ∙ pick-false (meets met (alone (h′ .place .0))) none _ t
 
   -- ---- line 15
-  pub counterpart-none : (p : OldPlace) (o : Operation) → atAlarm old p ≡ true → none ≡ counterpart old p o
+  pub counterpart-none : (p : OldPlace) (o : Operation) → atAlarm X p ≡ true → none ≡ counterpart X p o
   unfolding counterpart
-  counterpart-none p o t = sym (pick-true (atAlarm old p) none (matching (rowsAt old p) o) t)
+  counterpart-none p o t = sym (pick-true (atAlarm X p) none (matching (rowsAt X p) o) t)
 
-  pub counterpart-by : (p : OldPlace) (o : Operation) {rows : List ℕ} {x : Option ℕ} → atAlarm old p ≡ false → rows ≡ rowsAt old p
-      → x ≡ matching rows o → x ≡ counterpart old p o
+  pub counterpart-by : (p : OldPlace) (o : Operation) {rows : List ℕ} {x : Option ℕ} → atAlarm X p ≡ false → rows ≡ rowsAt X p
+      → x ≡ matching rows o → x ≡ counterpart X p o
   unfolding counterpart
-  counterpart-by p o t e q = q ∙ ap (λ (rows : List ℕ). matching rows o) e ∙ sym (pick-false (atAlarm old p) none (matching (rowsAt old p) o) t)
+  counterpart-by p o t e q = q ∙ ap (λ (rows : List ℕ). matching rows o) e ∙ sym (pick-false (atAlarm X p) none (matching (rowsAt X p) o) t)
 
   -- ---- lines 16 to 18
-  pub assumed-on : (h : Spot) (o : Operation) {x : Option ℕ} → x ≡ counterpart old (h .place) o → x ≡ none → some h ≡ assumed old h o (counterpart old (h .place) o)
+  pub assumed-on : (h : Spot) (o : Operation) {x : Option ℕ} → x ≡ counterpart X (h .place) o → x ≡ none → some h ≡ assumed X h o (counterpart X (h .place) o)
   unfolding assumed
-  assumed-on h o e q = ap (assumed old h o) (sym (sym e ∙ q))
+  assumed-on h o e q = ap (assumed X h o) (sym (sym e ∙ q))
 
-  pub assumed-by : (h : Spot) (o : Operation) (k : ℕ) {rows : List ℕ} {x : Option ℕ} {r : Option Spot} → x ≡ counterpart old (h .place) o → x ≡ some k
-      → rows ≡ rowsAt old (h .place) → r ≡ matched (h .set) rows k o → r ≡ assumed old h o (counterpart old (h .place) o)
+  pub assumed-by : (h : Spot) (o : Operation) (k : ℕ) {rows : List ℕ} {x : Option ℕ} {r : Option Spot} → x ≡ counterpart X (h .place) o → x ≡ some k
+      → rows ≡ rowsAt X (h .place) → r ≡ matched (h .set) rows k o → r ≡ assumed X h o (counterpart X (h .place) o)
   unfolding assumed
-  assumed-by h o k e q s p = p ∙ ap (λ (rows : List ℕ). matched (h .set) rows k o) s ∙ ap (assumed old h o) (sym (sym e ∙ q))
+  assumed-by h o k e q s p = p ∙ ap (λ (rows : List ℕ). matched (h .set) rows k o) s ∙ ap (assumed X h o) (sym (sym e ∙ q))
 
   -- ---- the step
   module _ (h : Spot) (o : Operation) where
-    pub moved-assigned : {s : Spot} → isAssignment o ≡ true → s ≡ assigned old h o (find (rowsAt old (h .place)) (λ o′. same o′ o)) → some s ≡ moved old h o
+    pub moved-assigned : {s : Spot} → isAssignment o ≡ true → s ≡ assigned X h o (find (rowsAt X (h .place)) (λ o′. same o′ o)) → some s ≡ moved X h o
     unfolding moved
-    moved-assigned t e = ap some e ∙ sym (pick-true (isAssignment o) (some (assigned old h o (find (rowsAt old (h .place)) (λ o′. same o′ o)))) _ t)
+    moved-assigned t e = ap some e ∙ sym (pick-true (isAssignment o) (some (assigned X h o (find (rowsAt X (h .place)) (λ o′. same o′ o)))) _ t)
 
-    pub moved-twice : {f : Option Spot} → isAssignment o ≡ false → f ≡ followed old h → f ≡ none → none ≡ moved old h o
+    pub moved-twice : {f : Option Spot} → isAssignment o ≡ false → f ≡ followed X h → f ≡ none → none ≡ moved X h o
     unfolding moved
-    moved-twice t e q = sym (pick-false (isAssignment o) (some (assigned old h o (find (rowsAt old (h .place)) (λ o′. same o′ o)))) _ t ∙ pick-none (followed old h) none _ (sym e ∙ q))
+    moved-twice t e q = sym (pick-false (isAssignment o) (some (assigned X h o (find (rowsAt X (h .place)) (λ o′. same o′ o)))) _ t ∙ pick-none (followed X h) none _ (sym e ∙ q))
 
-    pub moved-assumed : {f r : Option Spot} (h′ : Spot) → isAssignment o ≡ false → f ≡ followed old h → f ≡ some h′
-        → r ≡ assumed old h′ o (counterpart old (h′ .place) o) → r ≡ moved old h o
+    pub moved-assumed : {f r : Option Spot} (h′ : Spot) → isAssignment o ≡ false → f ≡ followed X h → f ≡ some h′
+        → r ≡ assumed X h′ o (counterpart X (h′ .place) o) → r ≡ moved X h o
     unfolding moved
-    moved-assumed h′ t e q p = p ∙ sym (pick-false (isAssignment o) (some (assigned old h o (find (rowsAt old (h .place)) (λ o′. same o′ o)))) _ t ∙ pick-some (followed old h) none _ h′ (sym e ∙ q))
+    moved-assumed h′ t e q p = p ∙ sym (pick-false (isAssignment o) (some (assigned X h o (find (rowsAt X (h .place)) (λ o′. same o′ o)))) _ t ∙ pick-some (followed X h) none _ h′ (sym e ∙ q))
 
 -- ---- the loop that follows: the walk so far and the walk from here on are one
-module _ (old : Chart) (h : Spot) where
+module _ (X : Compared) (h : Spot) where
   pub record Walk (at : Spot) (met left : ℕ) : Type 0 where
     pub below : at .place .0 < 64
-    pub rest : followed old h ≡ follow old left met at
+    pub rest : followed X h ≡ follow X left met at
 
   pub walk-begins : {met : ℕ} → h .place .0 < 64 → met ≡ 2 ^ h .place .0 → Walk h met 64
   unfolding followed alone
-  walk-begins b e = record { below = b; rest = ap (λ (m : ℕ). follow old 64 m h) (sym e) }
+  walk-begins b e = record { below = b; rest = ap (λ (m : ℕ). follow X 64 m h) (sym e) }
 
   module _ {at : Spot} {met left : ℕ} (walk : Walk at met left) where
-    pub walk-over : left ≤ 0 → none ≡ followed old h
+    pub walk-over : left ≤ 0 → none ≡ followed X h
     unfolding follow
-    walk-over l = let z : left ≡ 0 = omega arith in sym (walk .rest ∙ ap (λ (n : ℕ). follow old n met at) z)
+    walk-over l = let z : left ≡ 0 = omega arith in sym (walk .rest ∙ ap (λ (n : ℕ). follow X n met at) z)
 
-    module _ {r : Option Spot} (l : 0 < left) (e : r ≡ onward old at) where
+    module _ {r : Option Spot} (l : 0 < left) (e : r ≡ onward X at) where
       again : left ≡ suc (left - 1)
       again = omega arith
 
-      pub walk-ends : r ≡ none → some at ≡ followed old h
-      walk-ends q = sym (walk .rest ∙ ap (λ (n : ℕ). follow old n met at) again ∙ sym (follow-ends old (left - 1) met at e q))
+      pub walk-ends : r ≡ none → some at ≡ followed X h
+      walk-ends q = sym (walk .rest ∙ ap (λ (n : ℕ). follow X n met at) again ∙ sym (follow-ends X (left - 1) met at e q))
 
-      pub next-below : {next : Spot} → FaultlessChart old → r ≡ some next → next .place .0 < 64
-      next-below {next} F q = on-at _ (onward-below old F at) (sym e ∙ q)
+      pub next-below : {next : Spot} → FaultlessChart (X .old) → r ≡ some next → next .place .0 < 64
+      next-below {next} F q = on-at _ (onward-below X F at) (sym e ∙ q)
 
       module _ {next : Spot} {b : ℕ} {m : Bool} (q : r ≡ some next) (p : b ≡ 2 ^ next .place .0) (t : m ≡ meets met b) where
         come-to : meets met (alone (next .place .0)) ≡ m
         unfolding alone
         come-to = sym (t ∙ ap (meets met) p)
 
-        pub walk-twice : m ≡ true → none ≡ followed old h
-        walk-twice u = sym (walk .rest ∙ ap (λ (n : ℕ). follow old n met at) again ∙ sym (follow-twice old (left - 1) met at next e q (come-to ∙ u)))
+        pub walk-twice : m ≡ true → none ≡ followed X h
+        walk-twice u = sym (walk .rest ∙ ap (λ (n : ℕ). follow X n met at) again ∙ sym (follow-twice X (left - 1) met at next e q (come-to ∙ u)))
 
-        pub walk-on : {b′ met′ : ℕ} → FaultlessChart old → m ≡ false → b′ ≡ 2 ^ next .place .0 → met′ ≡ joined met b′ → Walk next met′ (left - 1)
+        pub walk-on : {b′ met′ : ℕ} → FaultlessChart (X .old) → m ≡ false → b′ ≡ 2 ^ next .place .0 → met′ ≡ joined met b′ → Walk next met′ (left - 1)
         unfolding alone with
         walk-on F u p′ j =
             record {
               below = next-below F q;
-              rest = walk .rest ∙ ap (λ (n : ℕ). follow old n met at) again ∙ follow-on old (left - 1) met at next e q (come-to ∙ u)
-                  ∙ ap (λ (m : ℕ). follow old (left - 1) m next) (sym (j ∙ ap (joined met) p′));
+              rest = walk .rest ∙ ap (λ (n : ℕ). follow X n met at) again ∙ follow-on X (left - 1) met at next e q (come-to ∙ u)
+                  ∙ ap (λ (m : ℕ). follow X (left - 1) m next) (sym (j ∙ ap (joined met) p′));
             }

@@ -34,6 +34,7 @@ use Rattle.chart.proofs.Parts.{row-of, row-same}
 use Rattle.align.proofs.Agree.{Agree, value-agrees, holds-agrees, write-new, write-old, agree-with, agree-both}
 use Rattle.chart.proofs.Taken.{after-assignment, after-other, lets-assignment, lets-assumption, let-other, not-assignment}
 use Rattle.chart.proofs.Reach.{Hits, hits-row}
+use Rattle.chart.specs.Compared.{Compared, headsOf}
 
 -- ---- what is found
 pub same→eq : (o o′ : Operation) → same o o′ ≡ true → o ≡ o′
@@ -66,23 +67,23 @@ implied f g F G t = go (implication f g) (implication-means f g F G) t
     go Implied m t = m .1
     go NotImplied m t = absurd (T-true t)
 
-module _ (old : Chart) where
+module _ (X : Compared) where
   -- whatever values agree with w outside the spot's set, they lead from its place to the old alarm
   pub record Onto (w : List ℕ) (h : Spot) : Type 0 where
-    pub leads : (v : List ℕ) → Agree (h .set) v w → Hits old (h .place .0) v
+    pub leads : (v : List ℕ) → Agree (h .set) v w → Hits (X .old) (h .place .0) v
 
   module _ (w : List ℕ) where
     -- lines 6 to 10
-    assigned-onto : (h : Spot) (o : Operation) → isAssignment o ≡ true → o .a < 64 → (x : Option ℕ) → OnSome (Among (rowsAt old (h .place)) (λ o′. same o′ o ≡ true)) x
-        → Onto (after o w) (assigned old h o x) → Onto w h
+    assigned-onto : (h : Spot) (o : Operation) → isAssignment o ≡ true → o .a < 64 → (x : Option ℕ) → OnSome (Among (rowsAt X (h .place)) (λ o′. same o′ o ≡ true)) x
+        → Onto (after o w) (assigned X h o x) → Onto w h
     unfolding assigned rewritten
     assigned-onto h o t l none q K = record { leads = λ v A. K .leads v (rw (after-assignment o w t) (write-new (agree-with A (o .a)) (o .a) (value o (var w)) (with-here (o .a) (h .set) (o .a)))) }
     assigned-onto h o t l (some k) q K =
         record {
           leads = λ v A.
-              (let e = same→eq (operation (rowsAt old (h .place)) k) o (q .fits) in
-              hits-row old (h .place .0) k v (q .inside) (rw e (lets-assignment o v t))
-              (K .leads (after (operation (rowsAt old (h .place)) k) v) (rw (e, after-assignment o v t, after-assignment o w t) (go v A (meets (h .set) (readSet o)) (λ n. n)))));
+              (let e = same→eq (operation (rowsAt X (h .place)) k) o (q .fits) in
+              hits-row (X .old) (h .place .0) k v (q .inside) (rw e (lets-assignment o v t))
+              (K .leads (after (operation (rowsAt X (h .place)) k) v) (rw (e, after-assignment o v t, after-assignment o w t) (go v A (meets (h .set) (readSet o)) (λ n. n)))));
         }
       where
         go : (v : List ℕ) → Agree (h .set) v w → (b : Bool) → (b ≡ false → meets (h .set) (readSet o) ≡ false)
@@ -91,84 +92,84 @@ module _ (old : Chart) where
         go v A false n = rw (value-agrees A o t (n refl)) (agree-both A (o .a) (value o (var w)) l)
 
     -- line 14: an old assignment alone, its variable joins the set
-    along-onto : (h : Spot) (x : Option ℕ) → OnSome (Among (rowsAt old (h .place)) (λ o. isAssignment o ≡ true)) x → OnSome (λ h′. Onto w h′ → Onto w h) (along (h .set) (rowsAt old (h .place)) x)
+    along-onto : (h : Spot) (x : Option ℕ) → OnSome (Among (rowsAt X (h .place)) (λ o. isAssignment o ≡ true)) x → OnSome (λ h′. Onto w h′ → Onto w h) (along (h .set) (rowsAt X (h .place)) x)
     unfolding along
     along-onto h none q = tt
     along-onto h (some k) q =
-        let o = operation (rowsAt old (h .place)) k in
+        let o = operation (rowsAt X (h .place)) k in
         let t = q .fits in
         (λ K. record {
-          leads = λ v A. hits-row old (h .place .0) k v (q .inside) (lets-assignment o v t)
+          leads = λ v A. hits-row (X .old) (h .place .0) k v (q .inside) (lets-assignment o v t)
               (K .leads (after o v) (rw (after-assignment o v t) (write-old (agree-with A (o .a)) (o .a) (value o (var v)) (with-here (o .a) (h .set) (o .a)))));
         })
 
-    onward-onto : (h : Spot) → OnSome (λ h′. Onto w h′ → Onto w h) (onward old h)
+    onward-onto : (h : Spot) → OnSome (λ h′. Onto w h′ → Onto w h) (onward X h)
     unfolding onward
     onward-onto h =
-        picked _ (atAlarm old (h .place)) none _ (λ t. tt)
-        (λ t. along-onto h (find (rowsAt old (h .place)) isAssignment) (found (rowsAt old (h .place)) isAssignment (λ o t. t)))
+        picked _ (atAlarm X (h .place)) none _ (λ t. tt)
+        (λ t. along-onto h (find (rowsAt X (h .place)) isAssignment) (found (rowsAt X (h .place)) isAssignment (λ o t. t)))
 
     -- lines 13 and 14
-    follow-onto : (n met : ℕ) (h : Spot) → OnSome (λ h′. Onto w h′ → Onto w h) (follow old n met h)
+    follow-onto : (n met : ℕ) (h : Spot) → OnSome (λ h′. Onto w h′ → Onto w h) (follow X n met h)
     unfolding follow
     follow-onto zero met h = tt
     follow-onto (suc n) met h =
-        further _ _ (onward old h) (some h) _ (onward-onto h) (λ K. K)
+        further _ _ (onward X h) (some h) _ (onward-onto h) (λ K. K)
         (λ h′ q. picked _ (meets met (alone (h′ .place .0))) none _ (λ t. tt)
-        (λ t. on-map _ _ (follow old n (with met (h′ .place .0)) h′) (λ h″ f K. q (f K)) (follow-onto n (with met (h′ .place .0)) h′)))
+        (λ t. on-map _ _ (follow X n (with met (h′ .place .0)) h′) (λ h″ f K. q (f K)) (follow-onto n (with met (h′ .place .0)) h′)))
 
     -- lines 16 to 18: the set meets nothing that a matched assumption reads
-    assumed-onto : (h : Spot) (o : Operation) (x : Option ℕ) → OnSome (Among (rowsAt old (h .place)) (λ o′. (isAssumption o′ ≡ true) × (holds o′ (var w) ≡ true))) x
-        → OnSome (λ h′. Onto w h′ → Onto w h) (assumed old h o x)
+    assumed-onto : (h : Spot) (o : Operation) (x : Option ℕ) → OnSome (Among (rowsAt X (h .place)) (λ o′. (isAssumption o′ ≡ true) × (holds o′ (var w) ≡ true))) x
+        → OnSome (λ h′. Onto w h′ → Onto w h) (assumed X h o x)
     unfolding assumed matched
     assumed-onto h o none q = (λ K. K)
     assumed-onto h o (some k) q =
-        let o′ = operation (rowsAt old (h .place)) k in
+        let o′ = operation (rowsAt X (h .place)) k in
         let l = q in
         when-so _ (not (meets (h .set) (readSet o) || meets (h .set) (readSet o′))) _ (λ t K. record {
           leads = λ v A.
               (let n = or-false (meets (h .set) (readSet o)) (meets (h .set) (readSet o′)) (not-true _ (is-true _ t)) in
-              hits-row old (h .place .0) k v (l .inside) (lets-assumption o′ v (l .fits .0) (holds-agrees A o′ (l .fits .0) (n .1) ∙ l .fits .1))
+              hits-row (X .old) (h .place .0) k v (l .inside) (lets-assumption o′ v (l .fits .0) (holds-agrees A o′ (l .fits .0) (n .1) ∙ l .fits .1))
               (K .leads (after o′ v) (rw (after-other o′ v (not-assignment o′ (l .fits .0))) A)));
         })
 
-  module _ (F : FaultlessChart old) (words : (k : ℕ) → getD (old .table) k 0 < 2 ^ 32) (w : List ℕ) (W : Values w) where
+  module _ (F : FaultlessChart (X .old)) (words : (k : ℕ) → getD (X .old .table) k 0 < 2 ^ 32) (w : List ℕ) (W : Values w) where
     -- line 15: the old row that is matched holds of the new values
     counterpart-holds : (p : OldPlace) (o : Operation) → Operands o → isAssumption o ≡ true → holds o (var w) ≡ true
-        → OnSome (Among (rowsAt old p) (λ o′. (isAssumption o′ ≡ true) × (holds o′ (var w) ≡ true))) (counterpart old p o)
+        → OnSome (Among (rowsAt X p) (λ o′. (isAssumption o′ ≡ true) × (holds o′ (var w) ≡ true))) (counterpart X p o)
     unfolding counterpart matching
     counterpart-holds p o O t h =
-        picked _ (atAlarm old p) none _ (λ e. tt) (λ e. or-on _ (find (rowsAt old p) (λ o′. same o′ o)) _
-        (found (rowsAt old p) (λ o′. same o′ o) (λ o′ e. subst (λ (x : Operation). (isAssumption x ≡ true) × (holds x (var w) ≡ true)) (sym (same→eq o′ o e)) (t, h)))
-        (λ _. on-map _ _ (find (rowsAt old p) (λ o′. isAssumption o′ && isImplied (implication o o′)))
-        (λ k q. record { inside = q .inside; fits = matched k (q .inside) (q .fits) }) (found (rowsAt old p) (λ o′. isAssumption o′ && isImplied (implication o o′)) (λ o′ e. e))))
+        picked _ (atAlarm X p) none _ (λ e. tt) (λ e. or-on _ (find (rowsAt X p) (λ o′. same o′ o)) _
+        (found (rowsAt X p) (λ o′. same o′ o) (λ o′ e. subst (λ (x : Operation). (isAssumption x ≡ true) × (holds x (var w) ≡ true)) (sym (same→eq o′ o e)) (t, h)))
+        (λ _. on-map _ _ (find (rowsAt X p) (λ o′. isAssumption o′ && isImplied (implication o o′)))
+        (λ k q. record { inside = q .inside; fits = matched k (q .inside) (q .fits) }) (found (rowsAt X p) (λ o′. isAssumption o′ && isImplied (implication o o′)) (λ o′ e. e))))
       where
-        matched : (k : ℕ) → k < size (rowsAt old p) → isAssumption (operation (rowsAt old p) k) && isImplied (implication o (operation (rowsAt old p) k)) ≡ true
-            → (isAssumption (operation (rowsAt old p) k) ≡ true) × (holds (operation (rowsAt old p) k) (var w) ≡ true)
+        matched : (k : ℕ) → k < size (rowsAt X p) → isAssumption (operation (rowsAt X p) k) && isImplied (implication o (operation (rowsAt X p) k)) ≡ true
+            → (isAssumption (operation (rowsAt X p) k) ≡ true) × (holds (operation (rowsAt X p) k) (var w) ≡ true)
         matched k l e =
-            let (i, r) = row-of (old .table) (p .0) k l in
-            let S = row-same (old .table) (p .0) r in
-            let z = and-true (isAssumption (operation (rowsAt old p) k)) _ e in
-            let G : Operands (operation (rowsAt old p) k) = subst Operands (sym (S .operation-same)) (operands old F words i (r .inside)) in
-            (z .0, implied o (operation (rowsAt old p) k) O G (z .1) w W h)
+            let (i, r) = row-of (X .old .table) (p .0) k l in
+            let S = row-same (X .old .table) (p .0) r in
+            let z = and-true (isAssumption (operation (rowsAt X p) k)) _ e in
+            let G : Operands (operation (rowsAt X p) k) = subst Operands (sym (S .operation-same)) (operands (X .old) F words i (r .inside)) in
+            (z .0, implied o (operation (rowsAt X p) k) O G (z .1) w W h)
 
-    moved-onto : (h : Spot) (o : Operation) → Operands o → lets o w ≡ true → OnSome (λ h′. Onto (after o w) h′ → Onto w h) (moved old h o)
+    moved-onto : (h : Spot) (o : Operation) → Operands o → lets o w ≡ true → OnSome (λ h′. Onto (after o w) h′ → Onto w h) (moved X h o)
     unfolding moved followed
     moved-onto h o O l =
         picked _ (isAssignment o) _ _
-        (λ t. (assigned-onto w h o t (O .a) (find (rowsAt old (h .place)) (λ o′. same o′ o)) (found (rowsAt old (h .place)) (λ o′. same o′ o) (λ o′ e. e))))
+        (λ t. (assigned-onto w h o t (O .a) (find (rowsAt X (h .place)) (λ o′. same o′ o)) (found (rowsAt X (h .place)) (λ o′. same o′ o) (λ o′ e. e))))
         (λ n. let z = let-other o w n l in
-        further _ _ (follow old 64 (alone (h .place .0)) h) none _ (follow-onto w 64 (alone (h .place .0)) h) tt
-        (λ h′ f. on-map _ _ (assumed old h′ o (counterpart old (h′ .place) o)) (λ h″ g K. f (g (subst (λ (u : List ℕ). Onto u h″) (after-other o w n) K)))
-        (assumed-onto w h′ o (counterpart old (h′ .place) o) (counterpart-holds (h′ .place) o O (z .0) (z .1)))))
+        further _ _ (follow X 64 (alone (h .place .0)) h) none _ (follow-onto w 64 (alone (h .place .0)) h) tt
+        (λ h′ f. on-map _ _ (assumed X h′ o (counterpart X (h′ .place) o)) (λ h″ g K. f (g (subst (λ (u : List ℕ). Onto u h″) (after-other o w n) K)))
+        (assumed-onto w h′ o (counterpart X (h′ .place) o) (counterpart-holds (h′ .place) o O (z .0) (z .1)))))
 
     -- the whole step, by a row that lets the values w pass
-    pub step-onto : (new : Chart) (h : Spot) (o : Operation) (q : NewPlace) → Operands o → lets o w ≡ true
-        → OnSome (λ h′. (Onto (after o w) h′ → Onto w h) × Says (fair (old .alarm) (new .alarm) (h′ .place) q)) (step old new h o q)
+    pub step-onto : (h : Spot) (o : Operation) (q : NewPlace) → Operands o → lets o w ≡ true
+        → OnSome (λ h′. (Onto (after o w) h′ → Onto w h) × Says (fair (headsOf X) (h′ .place) q)) (step X h o q)
     unfolding step arrived
-    step-onto new h o q O l = go (moved old h o) (moved-onto h o O l)
+    step-onto h o q O l = go (moved X h o) (moved-onto h o O l)
       where
         go : (x : Option Spot) → OnSome (λ h′. Onto (after o w) h′ → Onto w h) x
-            → OnSome (λ h′. (Onto (after o w) h′ → Onto w h) × Says (fair (old .alarm) (new .alarm) (h′ .place) q)) (arrived (old .alarm) (new .alarm) q x)
+            → OnSome (λ h′. (Onto (after o w) h′ → Onto w h) × Says (fair (headsOf X) (h′ .place) q)) (arrived (headsOf X) q x)
         go none f = tt
-        go (some h′) f = when-so _ (bool (fair (old .alarm) (new .alarm) (h′ .place) q)) h′ (λ t. (f, says (fair (old .alarm) (new .alarm) (h′ .place) q) t))
+        go (some h′) f = when-so _ (bool (fair (headsOf X) (h′ .place) q)) h′ (λ t. (f, says (fair (headsOf X) (h′ .place) q) t))

@@ -19,6 +19,8 @@ use Rattle.align.specs.Reads.{readSet}
 use Rattle.align.specs.Steps.{find, isImplied, along, matching, matched, rewritten, rowsAt, atAlarm, assigned, onward, follow, followed, counterpart, assumed, moved, fair, arrived, step}
 use Rattle.chart.proofs.Parts.{row-to, row-a}
 use Rattle.sets.proofs.Sets.{with-small, without-small}
+use Rattle.chart.specs.declared.charts.Heads.{Heads}
+use Rattle.chart.specs.Compared.{Compared, headsOf}
 
 -- the place is below b, and the set has 64 variables at most
 pub record Fits (b : ℕ) (h : Spot) : Type 0 where
@@ -30,9 +32,9 @@ found : (rows : List ℕ) (f : Operation → Bool) → OnSome (λ k. k < size ro
 unfolding find
 found rows f = first-on _ (size rows) _ (λ k l. when-so _ (f (operation rows k)) k (λ t. l))
 
-module _ (old : Chart) (F : FaultlessChart old) (b : ℕ) (wide : old .places ≤ b) where
-  to-fits : (p : OldPlace) (k : ℕ) → k < size (rowsAt old p) → to (rowsAt old p) k < b
-  to-fits p k l = let r = row-to old F (p .0) k l in omega arith
+module _ (X : Compared) (F : FaultlessChart (X .old)) (b : ℕ) (wide : X .old .head .places ≤ b) where
+  to-fits : (p : OldPlace) (k : ℕ) → k < size (rowsAt X p) → to (rowsAt X p) k < b
+  to-fits p k l = let r = row-to (X .old) F (p .0) k l in omega arith
 
   rewritten-small : (t : ℕ) (o : Operation) → o .a < 64 → t < 2 ^ 64 → rewritten t o < 2 ^ 64
   unfolding rewritten
@@ -42,55 +44,55 @@ module _ (old : Chart) (F : FaultlessChart old) (b : ℕ) (wide : old .places �
       go true = with-small t (o .a) f l
       go false = without-small t (o .a) f
 
-  assigned-fits : (h : Spot) (o : Operation) → o .a < 64 → (x : Option ℕ) → OnSome (λ k. k < size (rowsAt old (h .place))) x → Fits b h → Fits b (assigned old h o x)
+  assigned-fits : (h : Spot) (o : Operation) → o .a < 64 → (x : Option ℕ) → OnSome (λ k. k < size (rowsAt X (h .place))) x → Fits b h → Fits b (assigned X h o x)
   unfolding assigned
   assigned-fits h o l none q f = record { place = f .place; set = with-small (h .set) (o .a) (f .set) l }
   assigned-fits h o l (some k) q f = record { place = to-fits (h .place) k q; set = rewritten-small (h .set) o l (f .set) }
 
-  along-fits : (t : ℕ) (p : OldPlace) (x : Option ℕ) → OnSome (λ k. k < size (rowsAt old p)) x → t < 2 ^ 64 → OnSome (Fits b) (along t (rowsAt old p) x)
+  along-fits : (t : ℕ) (p : OldPlace) (x : Option ℕ) → OnSome (λ k. k < size (rowsAt X p)) x → t < 2 ^ 64 → OnSome (Fits b) (along t (rowsAt X p) x)
   unfolding along
   along-fits t p none q f = tt
-  along-fits t p (some k) q f = record { place = to-fits p k q; set = with-small t _ f (row-a old F (p .0) k q) }
+  along-fits t p (some k) q f = record { place = to-fits p k q; set = with-small t _ f (row-a (X .old) F (p .0) k q) }
 
-  onward-fits : (h : Spot) → Fits b h → OnSome (Fits b) (onward old h)
+  onward-fits : (h : Spot) → Fits b h → OnSome (Fits b) (onward X h)
   unfolding onward
   onward-fits h f =
-      picked _ (atAlarm old (h .place)) none (along (h .set) (rowsAt old (h .place)) (find (rowsAt old (h .place)) isAssignment)) (λ t. tt)
-      (λ t. along-fits (h .set) (h .place) (find (rowsAt old (h .place)) isAssignment) (found (rowsAt old (h .place)) isAssignment) (f .set))
+      picked _ (atAlarm X (h .place)) none (along (h .set) (rowsAt X (h .place)) (find (rowsAt X (h .place)) isAssignment)) (λ t. tt)
+      (λ t. along-fits (h .set) (h .place) (find (rowsAt X (h .place)) isAssignment) (found (rowsAt X (h .place)) isAssignment) (f .set))
 
-  follow-fits : (n met : ℕ) (h : Spot) → Fits b h → OnSome (Fits b) (follow old n met h)
+  follow-fits : (n met : ℕ) (h : Spot) → Fits b h → OnSome (Fits b) (follow X n met h)
   unfolding follow
   follow-fits zero met h f = tt
   follow-fits (suc n) met h f =
-      further (Fits b) _ (onward old h) (some h) _ (onward-fits h f) f
+      further (Fits b) _ (onward X h) (some h) _ (onward-fits h f) f
       (λ h′ f′. picked _ (meets met (alone (h′ .place .0))) none _ (λ t. tt) (λ t. follow-fits n (with met (h′ .place .0)) h′ f′))
 
-  assumed-fits : (h : Spot) (o : Operation) (x : Option ℕ) → OnSome (λ k. k < size (rowsAt old (h .place))) x → Fits b h → OnSome (Fits b) (assumed old h o x)
+  assumed-fits : (h : Spot) (o : Operation) (x : Option ℕ) → OnSome (λ k. k < size (rowsAt X (h .place))) x → Fits b h → OnSome (Fits b) (assumed X h o x)
   unfolding assumed matched
   assumed-fits h o none q f = f
   assumed-fits h o (some k) q f =
-      when-so _ (not (meets (h .set) (readSet o) || meets (h .set) (readSet (operation (rowsAt old (h .place)) k)))) _
+      when-so _ (not (meets (h .set) (readSet o) || meets (h .set) (readSet (operation (rowsAt X (h .place)) k)))) _
       (λ t. record { place = to-fits (h .place) k q; set = f .set })
 
-  counterpart-there : (p : OldPlace) (o : Operation) → OnSome (λ k. k < size (rowsAt old p)) (counterpart old p o)
+  counterpart-there : (p : OldPlace) (o : Operation) → OnSome (λ k. k < size (rowsAt X p)) (counterpart X p o)
   unfolding counterpart matching
   counterpart-there p o =
-      picked _ (atAlarm old p) none _ (λ e. tt) (λ e. or-on _ (find (rowsAt old p) (λ o′. same o′ o)) _ (found (rowsAt old p) (λ o′. same o′ o))
-      (λ _. found (rowsAt old p) (λ o′. isAssumption o′ && isImplied (implication o o′))))
+      picked _ (atAlarm X p) none _ (λ e. tt) (λ e. or-on _ (find (rowsAt X p) (λ o′. same o′ o)) _ (found (rowsAt X p) (λ o′. same o′ o))
+      (λ _. found (rowsAt X p) (λ o′. isAssumption o′ && isImplied (implication o o′))))
 
-  moved-fits : (h : Spot) (o : Operation) → o .a < 64 → Fits b h → OnSome (Fits b) (moved old h o)
+  moved-fits : (h : Spot) (o : Operation) → o .a < 64 → Fits b h → OnSome (Fits b) (moved X h o)
   unfolding moved followed
   moved-fits h o l f =
       picked _ (isAssignment o) _ _
-      (λ t. (assigned-fits h o l (find (rowsAt old (h .place)) (λ o′. same o′ o)) (found (rowsAt old (h .place)) (λ o′. same o′ o)) f))
-      (λ t. further (Fits b) _ (follow old 64 (alone (h .place .0)) h) none _ (follow-fits 64 (alone (h .place .0)) h f) tt
-      (λ h′ f′. assumed-fits h′ o (counterpart old (h′ .place) o) (counterpart-there (h′ .place) o) f′))
+      (λ t. (assigned-fits h o l (find (rowsAt X (h .place)) (λ o′. same o′ o)) (found (rowsAt X (h .place)) (λ o′. same o′ o)) f))
+      (λ t. further (Fits b) _ (follow X 64 (alone (h .place .0)) h) none _ (follow-fits 64 (alone (h .place .0)) h f) tt
+      (λ h′ f′. assumed-fits h′ o (counterpart X (h′ .place) o) (counterpart-there (h′ .place) o) f′))
 
-  arrived-fits : (oa na : ℕ) (q : NewPlace) (x : Option Spot) → OnSome (Fits b) x → OnSome (Fits b) (arrived oa na q x)
+  arrived-fits : (heads : Heads) (q : NewPlace) (x : Option Spot) → OnSome (Fits b) x → OnSome (Fits b) (arrived heads q x)
   unfolding arrived
-  arrived-fits oa na q none f = tt
-  arrived-fits oa na q (some h) f = when-so _ (bool (fair oa na (h .place) q)) h (λ t. f)
+  arrived-fits heads q none f = tt
+  arrived-fits heads q (some h) f = when-so _ (bool (fair heads (h .place) q)) h (λ t. f)
 
-  pub step-fits : (new : Chart) (h : Spot) (o : Operation) (q : NewPlace) → o .a < 64 → Fits b h → OnSome (Fits b) (step old new h o q)
+  pub step-fits : (h : Spot) (o : Operation) (q : NewPlace) → o .a < 64 → Fits b h → OnSome (Fits b) (step X h o q)
   unfolding step
-  step-fits new h o q l f = arrived-fits (old .alarm) (new .alarm) q (moved old h o) (moved-fits h o l f)
+  step-fits h o q l f = arrived-fits (headsOf X) q (moved X h o) (moved-fits h o l f)

@@ -14,7 +14,9 @@ use Rattle.operations.specs.Operations.{isAssignment, isAssumption, same}
 use Rattle.operations.specs.Trials.{implication}
 use Rattle.chart.specs.declared.places.OldPlace.{OldPlace}
 use Rattle.chart.specs.declared.places.NewPlace.{NewPlace}
-use Rattle.chart.specs.Charts.{Chart, size, to, operation, leaving}
+use Rattle.chart.specs.declared.charts.Heads.{Heads}
+use Rattle.chart.specs.Compared.{Compared, headsOf}
+use Rattle.chart.specs.Charts.{size, to, operation, leaving}
 use Rattle.align.specs.declared.spots.Spot.{Spot}
 use Rattle.sets.specs.Sets.{alone, with, without, meets}
 use Rattle.align.specs.Reads.{readSet}
@@ -56,14 +58,23 @@ matched s rows k o =
 unfoldable pub rewritten : ℕ → Operation → ℕ
 rewritten s o = elim (meets s (readSet o)) [ true ↦ with s (o .a) | false ↦ without s (o .a) ]
 
-module _ (old : Chart) where
+-- not "to the new alarm with an old place that isn't the old alarm" (line 27)
+abbrev pub fair : Heads → OldPlace → NewPlace → Test
+fair heads p q = ne (q .0) (heads .new .alarm .0) or eq (p .0) (heads .old .alarm .0)
+
+-- "A step to the new alarm with an old place that isn't the old alarm fails." (line 27)
+unfoldable pub arrived : Heads → NewPlace → Option Spot → Option Spot
+arrived heads q none = none
+arrived heads q (some h) = when (bool (fair heads (h .place) q)) h
+
+module _ (X : Compared) where
   -- "the rows that leave a place": the old ones, as a table of their own
   abbrev pub rowsAt : OldPlace → List ℕ
-  rowsAt p = leaving (old .table) (p .0)
+  rowsAt p = leaving (X .old .table) (p .0)
 
   -- "p is the old alarm"
   abbrev pub atAlarm : OldPlace → Bool
-  atAlarm p = eqb (p .0) (old .alarm)
+  atAlarm p = eqb (p .0) (X .old .head .alarm)
 
   -- ---- lines 6 to 10, an assignment, with its equal row in the old chart if there is one
   unfoldable pub assigned : Spot → Operation → Option ℕ → Spot
@@ -115,16 +126,7 @@ module _ (old : Chart) where
         | false ↦ elim (followed h) [ none ↦ none | some h′ ↦ assumed h′ o (counterpart (h′ .place) o) ]
       ]
 
--- not "to the new alarm with an old place that isn't the old alarm" (line 27): of both alarms, an old and a new place
-abbrev pub fair : ℕ → ℕ → OldPlace → NewPlace → Test
-fair oldAlarm newAlarm p q = ne (q .0) newAlarm or eq (p .0) oldAlarm
-
--- "A step to the new alarm with an old place that isn't the old alarm fails." (line 27)
-unfoldable pub arrived : ℕ → ℕ → NewPlace → Option Spot → Option Spot
-arrived oldAlarm newAlarm q none = none
-arrived oldAlarm newAlarm q (some h) = when (bool (fair oldAlarm newAlarm (h .place) q)) h
-
--- "Given a pair, a set V and a new row q→q2": the aligned step from an old place and its set by a new row with
--- operation o that leads to q: none where it fails, else the old place it comes to and the set there
-unfoldable pub step : Chart → Chart → Spot → Operation → NewPlace → Option Spot
-step old new h o q = arrived (old .alarm) (new .alarm) q (moved old h o)
+  -- "Given a pair, a set V and a new row q→q2": the aligned step from an old place and its set by a new row with
+  -- operation o that leads to q: none where it fails, else the old place it comes to and the set there
+  unfoldable pub step : Spot → Operation → NewPlace → Option Spot
+  step h o q = arrived (headsOf X) q (moved h o)

@@ -11,7 +11,6 @@ use Rattle.base.specs.inner.Fits.{Fits, FitsOr}
 use Rattle.base.proofs.Counts.{count-most}
 use Rattle.base.proofs.Fits.{unless-fits}
 use Rattle.base.proofs.OnSome.{OnSome}
-use Rattle.chart.specs.Charts.{Chart}
 use Rattle.chart.proofs.Bounds.{judged-fits}
 use Rattle.records.specs.Records.{Record}
 use Rattle.checker.specs.Rules.{startFits}
@@ -26,36 +25,37 @@ use Rattle.builder.specs.Answers.{told, lent, refusal, answered}
 use Rattle.builder.specs.inner.Small.{Small}
 use Rattle.builder.proofs.Passing.{record-passes}
 use Rattle.builder.proofs.Answering.{accepted}
+use Rattle.chart.specs.Compared.{Compared}
 
 -- ---- a record that passes
-module _ (old new : Chart) (R : Record) (e : checkRefusal old new R ≡ none) where
+module _ (X : Compared) (R : Record) (e : checkRefusal X R ≡ none) where
   few-marked : (v : ℕ) → count v (R .graph .marks) ≤ 4160
-  few-marked v = omega (arith, count-most v (R .graph .marks), lengths old new R e .0)
+  few-marked v = omega (arith, count-most v (R .graph .marks), lengths X R e .0)
 
   start-small : R .start ≤ 4160
   unfolding startFits
-  start-small = ⊎-elim (λ s. omega (arith, s .0)) (λ s. omega (arith, s .0)) (passed old new R e .starts)
+  start-small = ⊎-elim (λ s. omega (arith, s .0)) (λ s. omega (arith, s .0)) (passed X R e .starts)
 
   summary-small : Small (summary (R .start) (R .graph .marks))
   unfolding summary
   summary-small = record { start = start-small; opened = few-marked 1; kept = few-marked 2; covered = few-marked 3 }
 
 -- ---- a build
-module _ (old new : Chart) (g : Buffers) where
+module _ (X : Compared) (g : Buffers) where
   -- whatever a build refuses
-  pub refusal-fits : OnSome Fits (refusal old new g)
+  pub refusal-fits : OnSome Fits (refusal X g)
   unfolding refusal
-  refusal-fits = judged-fits (bool (lent g)) old new
+  refusal-fits = judged-fits (bool (lent g)) X
 
   -- whatever it answers
-  pub build-fits : FitsOr Small (answered old new g)
+  pub build-fits : FitsOr Small (answered X g)
   unfolding answered
   build-fits =
-      unless-fits Small (refusal old new g) (summary (recorded old new .start) (recorded old new .graph .marks)) refusal-fits
-      (λ e. let A = accepted old new g e in summary-small old new (recorded old new) (record-passes old new (A .old-faultless) (A .new-faultless)))
+      unless-fits Small (refusal X g) (summary (recorded X .start) (recorded X .graph .marks)) refusal-fits
+      (λ e. let A = accepted X g e in summary-small X (recorded X) (record-passes X (A .old-faultless) (A .new-faultless)))
 
   -- the case of it that the code comes upon
-  module _ {b : Built} (is : told b ≡ answered old new g) where
+  module _ {b : Built} (is : told b ≡ answered X g) where
     pub done-small : {s : Summary} → b ≡ Done s → Small s
     done-small e = subst (FitsOr Small) (sym is ∙ ap told e) build-fits
 

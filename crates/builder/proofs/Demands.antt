@@ -8,7 +8,6 @@ use Rattle.base.specs.Answers.{given}
 use Rattle.base.specs.Says.{bool}
 use Rattle.base.proofs.Says.{said}
 use Rattle.base.proofs.Tests.{is-true}
-use Rattle.chart.specs.Charts.{Chart}
 use Rattle.chart.proofs.Words.{Words}
 use Rattle.chart.specs.Faultless.{FaultlessChart}
 use Rattle.chart.proofs.Faultless.{none-judged}
@@ -23,38 +22,39 @@ use Rattle.condition.specs.Builds.{recorded, summary}
 use Rattle.builder.proofs.Passing.{record-passes}
 use Rattle.builder.specs.Answers.{lent, refusal, answered, left}
 use Rattle.builder.proofs.Answering.{accepted}
+use Rattle.chart.specs.Compared.{Compared}
 
-pub first-half : (old new : Chart) → Words (old .table) → Words (new .table) → (R : Record)
-    → checkRefusal old new R ≡ none → Promise old new R
+pub first-half : (X : Compared) → Words (X .old .table) → Words (X .new .table) → (R : Record)
+    → checkRefusal X R ≡ none → Promise X R
 first-half = demand-3-first
 
-module _ (old new : Chart) (g : Buffers) where
+module _ (X : Compared) (g : Buffers) where
   -- what a build leaves in g, with the start s
   abbrev pub leftWith : Summary → Record
-  leftWith s = recordOf (s .start) (left old new g .marks) (left old new g .targets) (left old new g .sets)
+  leftWith s = recordOf (s .start) (left X g .marks) (left X g .targets) (left X g .sets)
 
   -- faultless charts and buffers of the stated lengths are not refused
-  pub never-refused : FaultlessChart old → FaultlessChart new → Sized g → refusal old new g ≡ none
+  pub never-refused : FaultlessChart (X .old) → FaultlessChart (X .new) → Sized g → refusal X g ≡ none
   unfolding refusal
   never-refused F H S =
-      none-judged (bool (lent g)) old new
+      none-judged (bool (lent g)) X
       (is-true (bool (lent g)) (said (lent g) (S .waiting, (S .marks, (S .targets, S .sets)))), F, H)
 
   -- where none is refused, a build answers, and what it leaves in g, with the start that it answers, the check passes
-  module _ (e : refusal old new g ≡ none) where
+  module _ (e : refusal X g ≡ none) where
     abbrev Answers : Summary → Type 0
-    Answers s = answered old new g ≡ given s
+    Answers s = answered X g ≡ given s
 
-    answers : (s : Summary) × Answers s × (leftWith s ≡ recorded old new)
+    answers : (s : Summary) × Answers s × (leftWith s ≡ recorded X)
     unfolding answered left recorded summary
-    answers = (summary (recorded old new .start) (recorded old new .graph .marks), rw e, rw (e, left))
+    answers = (summary (recorded X .start) (recorded X .graph .marks), rw e, rw (e, left))
 
-    pub second-half : (s : Summary) × Answers s × (checkRefusal old new (leftWith s) ≡ none)
+    pub second-half : (s : Summary) × Answers s × (checkRefusal X (leftWith s) ≡ none)
     second-half =
         let a = answers in
-        let A = accepted old new g e in
-        (a .0, a .1, ap (checkRefusal old new) (a .2) ∙ record-passes old new (A .old-faultless) (A .new-faultless))
+        let A = accepted X g e in
+        (a .0, a .1, ap (checkRefusal X) (a .2) ∙ record-passes X (A .old-faultless) (A .new-faultless))
 
     -- so it keeps the promise
-    pub built-promises : Words (old .table) → Words (new .table) → (s : Summary) × Answers s × Promise old new (leftWith s)
-    built-promises wo wn = let a = second-half in (a .0, a .1, first-half old new wo wn (leftWith (a .0)) (a .2))
+    pub built-promises : Words (X .old .table) → Words (X .new .table) → (s : Summary) × Answers s × Promise X (leftWith s)
+    built-promises wo wn = let a = second-half in (a .0, a .1, first-half X wo wn (leftWith (a .0)) (a .2))

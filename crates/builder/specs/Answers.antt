@@ -6,7 +6,7 @@ use Rattle.base.specs.Answers.{Answer, given, refused}
 use Rattle.base.specs.declared.Refusal.{Refusal}
 use Rattle.base.specs.Refusals.{unless}
 use Rattle.base.specs.Says.{Test, eq, _and_, bool}
-use Rattle.chart.specs.Charts.{Chart}
+use Rattle.chart.specs.Compared.{Compared}
 use Rattle.chart.specs.Faults.{judged}
 use Rattle.checker.specs.Checks.{sized}
 use Rattle.condition.specs.declared.Summary.{Summary}
@@ -25,16 +25,16 @@ told (builts.Refused r) = refused r
 abbrev pub lent : Buffers → Test
 lent g = eq (length (g .waiting)) 4096 and sized (graphIn g)
 
-module _ (old new : Chart) (g : Buffers) where
+module _ (X : Compared) (g : Buffers) where
   -- the refusal that is due, if any: "21, a lent length differs from the stated one", and what the charts' authors can
   -- cause
   unfoldable pub refusal : Option Refusal
-  refusal = judged (bool (lent g)) old new
+  refusal = judged (bool (lent g)) X
 
   -- "The answer has the start and the counts of marks 1, 2 and 3.", unless a refusal is due
   unfoldable pub answered : Answer Summary
-  answered = unless refusal (summary (recorded old new .start) (recorded old new .graph .marks))
+  answered = unless refusal (summary (recorded X .start) (recorded X .graph .marks))
 
   -- "lent memory is untouched" by a refusal; else "What these held before has no effect."
   unfoldable pub left : Buffers
-  left = elim refusal [ none ↦ built old new | some r ↦ g ]
+  left = elim refusal [ none ↦ built X | some r ↦ g ]

@@ -3,7 +3,7 @@
 ghost use mathlib.Core.Path.{_≡_};
 ghost use mathlib.Core.Option.{none};
 ghost use Rattle.base.specs.Says.{bool};
-ghost use Rattle.chart.specs.Charts.{charted};
+ghost use Rattle.chart.specs.Compared.{compared};
 ghost use Rattle.chart.specs.Faultless.{FaultlessChart};
 ghost use Rattle.records.specs.Records.{recordOf};
 ghost use Rattle.checker.specs.Checks.{refusal as checkRefusal};
@@ -15,7 +15,7 @@ ghost use Rattle.condition.specs.Builds.{built, recorded, summary};
 ghost use Rattle.paper.specs.Returned.{Returned};
 ghost use Rattle.builder.specs.Answers.{told, lent, answered, left};
 use answers::Built;
-use chart::charts::Head;
+use chart::charts::Heads;
 use chart::charts::Judged;
 use chart::inner::rows;
 use checker::inner::lengths::sized;
@@ -37,30 +37,28 @@ fn lent(marks: &[u8], targets: &[u16], sets: &[u64], waiting: &[u8]) -> bool
 // Both algorithms on faultless charts. Which pairs they saw is told from one to the other by a set of them, so that
 // none looks at all pairs.
 fn complete<'a>(
-    old: Head,
+    heads: Heads,
     old_rows: &'a [u32],
-    new: Head,
     new_rows: &'a [u32],
     marks: &mut [u8],
     targets: &mut [u16],
     sets: &mut [u64],
     waiting: &mut [u8],
 ) -> Summary
-    requires { ⌜ FaultlessChart (charted old (now «old_rows»)) ⌝ }
-    requires { ⌜ FaultlessChart (charted new (now «new_rows»)) ⌝ }
+    requires { ⌜ FaultlessChart (compared heads (now «old_rows») (now «new_rows») .old) ⌝ }
+    requires { ⌜ FaultlessChart (compared heads (now «old_rows») (now «new_rows») .new) ⌝ }
     requires { ⌜ Sized (buffers (now marks) (now targets) (now sets) (now waiting)) ⌝ }
     ensures { λ r. ⌜ (buffers (now (marks .exit)) (now (targets .exit)) (now (sets .exit)) (now (waiting .exit))
-        ≡ built (charted old (now («old_rows» .entry))) (charted new (now («new_rows» .entry))))
+        ≡ built (compared heads (now («old_rows» .entry)) (now («new_rows» .entry))))
         × (r ≡ summary
-        (recorded (charted old (now («old_rows» .entry))) (charted new (now («new_rows» .entry))) .start)
+        (recorded (compared heads (now («old_rows» .entry)) (now («new_rows» .entry))) .start)
         (now (marks .exit))) ⌝ }
 {
     let index = rows::index(old_rows, new_rows);
     let mut seen = [0u64; 64];
     explore(
-        old,
+        heads,
         old_rows,
-        new,
         new_rows,
         &index,
         marks,
@@ -69,15 +67,14 @@ fn complete<'a>(
         waiting,
         &mut seen,
     );
-    finish(old, new, marks, targets, sets, waiting, &seen)
+    finish(heads, marks, targets, sets, waiting, &seen)
 }
 
 // A build, or the refusal that is due, which writes nothing. What a build leaves, with the start it answers, the check
 // passes, and it is what the source's Algorithms 2 and 1 return.
 pub fn build<'a>(
-    old: Head,
+    heads: Heads,
     old_rows: &'a [u32],
-    new: Head,
     new_rows: &'a [u32],
     marks: &mut [u8],
     targets: &mut [u16],
@@ -85,24 +82,23 @@ pub fn build<'a>(
     waiting: &mut [u8],
 ) -> Built
     ensures answer { λ r. ⌜ told r
-        ≡ answered (charted old (now («old_rows» .entry))) (charted new (now («new_rows» .entry)))
+        ≡ answered (compared heads (now («old_rows» .entry)) (now («new_rows» .entry)))
         (buffers (now (marks .entry)) (now (targets .entry)) (now (sets .entry)) (now (waiting .entry))) ⌝ }
     ensures leaves { λ _. ⌜ buffers (now (marks .exit)) (now (targets .exit)) (now (sets .exit)) (now (waiting .exit))
-        ≡ left (charted old (now («old_rows» .entry))) (charted new (now («new_rows» .entry)))
+        ≡ left (compared heads (now («old_rows» .entry)) (now («new_rows» .entry)))
         (buffers (now (marks .entry)) (now (targets .entry)) (now (sets .entry)) (now (waiting .entry))) ⌝ }
     ensures passes { λ r. ⌜ ((s : Summary) → r ≡ Done s
-        → checkRefusal (charted old (now («old_rows» .entry))) (charted new (now («new_rows» .entry)))
+        → checkRefusal (compared heads (now («old_rows» .entry)) (now («new_rows» .entry)))
         (recordOf (s .start) (now (marks .exit)) (now (targets .exit)) (now (sets .exit))) ≡ none) ⌝ }
     ensures algorithms { λ r. ⌜ ((s : Summary) → r ≡ Done s
-        → Returned (charted old (now («old_rows» .entry))) (charted new (now («new_rows» .entry)))
+        → Returned (compared heads (now («old_rows» .entry)) (now («new_rows» .entry)))
         (recordOf (s .start) (now (marks .exit)) (now (targets .exit)) (now (sets .exit)))) ⌝ }
 {
     let lengths = lent(&*marks, &*targets, &*sets, &*waiting);
-    match chart::judged(lengths, old, old_rows, new, new_rows) {
+    match chart::judged(lengths, heads, old_rows, new_rows) {
         Judged::Faultless => Built::Done(complete(
-            old,
+            heads,
             old_rows,
-            new,
             new_rows,
             marks,
             targets,

@@ -16,6 +16,7 @@ use Rattle.base.proofs.Options.{both-missing, not-due}
 use Rattle.base.proofs.Tests.{or-false}
 use Rattle.operations.specs.Operations.{isKnown, operandsFit}
 use Rattle.chart.specs.Charts.{Chart, size, operation}
+use Rattle.chart.specs.Compared.{Compared}
 use Rattle.chart.specs.Faults.{lacks, exceeds, alarmOutside, strays, descends, conflicts, whole, countFault, alarmFault, rowFault, conflictFault, rowsFault, fault, refusal, judged}
 
 module _ (k : ℕ) (near : k < 2) where
@@ -32,7 +33,7 @@ module _ (k : ℕ) (near : k < 2) where
     unfolding countFault
     few-rows e =
         let a = both-missing (dueIn k (lacks C) 1 0) _ e in
-        ltb-false _ _ (or-false (ltb 64 (C .places)) _ (not-due _ _ (a .1)) .1)
+        ltb-false _ _ (or-false (ltb 64 (C .head .places)) _ (not-due _ _ (a .1)) .1)
 
     row-fits : (i : ℕ) → i < 128 → OnSome Fits (rowFault k C i)
     unfolding rowFault
@@ -55,7 +56,7 @@ module _ (k : ℕ) (near : k < 2) where
     fault-fits =
         or-on Fits (countFault k C) (orElse (alarmFault k C) (rowsFault k C))
         (or-on Fits (dueIn k (lacks C) 1 0) (dueIn k (exceeds C) 2 0) (whole-due (lacks C) 1 tt) (λ _. whole-due (exceeds C) 2 tt))
-        (λ e. or-on Fits (alarmFault k C) (rowsFault k C) (whole-due (alarmOutside C) 3 tt) (λ _. rows-fit (few-rows e)))
+        (λ e. or-on Fits (alarmFault k C) (rowsFault k C) (whole-due (alarmOutside (C .head)) 3 tt) (λ _. rows-fit (few-rows e)))
 
 -- whatever a chart is refused by
 pub refusal-fits : (C : Chart) → OnSome Fits (refusal C)
@@ -65,9 +66,9 @@ refusal-fits C =
     or-on Fits (due ragged 21 0) (fault 0 C) (whole-due 0 (omega arith) ragged 21 tt) (λ _. fault-fits 0 (omega arith) C)
 
 -- whatever two charts are refused by
-pub judged-fits : (lent : Bool) (old new : Chart) → OnSome Fits (judged lent old new)
+pub judged-fits : (lent : Bool) (X : Compared) → OnSome Fits (judged lent X)
 unfolding judged
-judged-fits lent old new =
-    let lengths = not (lent && (whole (old .table) && whole (new .table))) in
-    or-on Fits (due lengths 21 0) (orElse (fault 0 old) (fault 1 new)) (whole-due 0 (omega arith) lengths 21 tt)
-    (λ _. or-on Fits (fault 0 old) (fault 1 new) (fault-fits 0 (omega arith) old) (λ _. fault-fits 1 (omega arith) new))
+judged-fits lent X =
+    let lengths = not (lent && (whole (X .old .table) && whole (X .new .table))) in
+    or-on Fits (due lengths 21 0) (orElse (fault 0 (X .old)) (fault 1 (X .new))) (whole-due 0 (omega arith) lengths 21 tt)
+    (λ _. or-on Fits (fault 0 (X .old)) (fault 1 (X .new)) (fault-fits 0 (omega arith) (X .old)) (λ _. fault-fits 1 (omega arith) (X .new)))

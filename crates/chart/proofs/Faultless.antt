@@ -15,6 +15,7 @@ use Rattle.base.proofs.Options.{missing-none, both-missing, not-due, none-of, n
 use Rattle.base.proofs.Tests.{and-true, or-false, not-both, none-below, none-below-at}
 use Rattle.operations.specs.Operations.{isKnown, isAssumption}
 use Rattle.chart.specs.Charts.{Chart, size, from, to, operation}
+use Rattle.chart.specs.Compared.{Compared}
 use Rattle.chart.specs.Faults.{lacks, strays, fromBefore, descends, clash, whole, countFault, alarmFault, rowFault, conflictFault, rowsFault, fault, refusal, judged}
 use Rattle.chart.specs.Faultless.{FaultlessRow, Apart, FaultlessChart}
 use Rattle.chart.specs.Lookup.{openTo}
@@ -30,7 +31,7 @@ faultless-row k C i e =
     let a = both-missing (dueIn k (strays C i) 4 i) _ e in
     let b = both-missing (dueIn k (descends (C .table) i) 5 i) _ (a .1) in
     let c = both-missing (dueIn k (not (isKnown (operation (C .table) i))) 6 i) _ (b .1) in
-    let near = or-false (leb (C .places) (from (C .table) i)) _ (not-due _ _ (a .0)) in
+    let near = or-false (leb (C .head .places) (from (C .table) i)) _ (not-due _ _ (a .0)) in
     record {
       from-below = leb-false _ _ (near .0);
       to-below = leb-false _ _ (near .1);
@@ -77,9 +78,9 @@ module _ (k : ℕ) (C : Chart) (w : whole (C .table) ≡ true) (e : fault k C �
   unfolding countFault alarmFault conflictFault
   unfaulted =
       let a = both-missing (dueIn k (lacks C) 1 0) _ (parts .0) in
-      let none-missing = or-false (eqb (C .places) 0) _ (not-due _ _ (a .0)) in
-      let none-many = or-false (ltb 64 (C .places)) _ (not-due _ _ (a .1)) in
-      let p : C .places ≡ 0 → ⊥ = eqb-false _ _ (none-missing .0) in
+      let none-missing = or-false (eqb (C .head .places) 0) _ (not-due _ _ (a .0)) in
+      let none-many = or-false (ltb 64 (C .head .places)) _ (not-due _ _ (a .1)) in
+      let p : C .head .places ≡ 0 → ⊥ = eqb-false _ _ (none-missing .0) in
       let r : size (C .table) ≡ 0 → ⊥ = eqb-false _ _ (none-missing .1) in
       record {
         whole = eqb-true _ _ w;
@@ -130,11 +131,11 @@ module _ (C : Chart) where
     unfolding fault countFault alarmFault rowsFault conflictFault
     no-fault k =
         rw (
-          ne-eqb (C .places) 0 (let l = F .some-places in λ e. omega arith),
+          ne-eqb (C .head .places) 0 (let l = F .some-places in λ e. omega arith),
           ne-eqb (size (C .table)) 0 (let l = F .some-rows in λ e. omega arith),
-          le-ltb 64 (C .places) (F .few-places),
+          le-ltb 64 (C .head .places) (F .few-places),
           le-ltb 128 (size (C .table)) (F .few-rows),
-          lt-leb (C .places) (C .alarm) (F .alarm-below),
+          lt-leb (C .head .places) (C .head .alarm) (F .alarm-below),
           none-everywhere (rowFault k C) (size (C .table)) (λ i l. row-none k i (F .rows i l)),
         )
         (none-everywhere (conflictFault k (C .table)) (size (C .table))
@@ -149,22 +150,22 @@ module _ (C : Chart) where
   faultless-exactly = (faultless C, no-refusal)
 
 -- ---- two charts
-module _ (lent : Bool) (old new : Chart) where
-  pub none-judged : (lent ≡ true) × FaultlessChart old × FaultlessChart new → judged lent old new ≡ none
+module _ (lent : Bool) (X : Compared) where
+  pub none-judged : (lent ≡ true) × FaultlessChart (X .old) × FaultlessChart (X .new) → judged lent X ≡ none
   unfolding judged
-  none-judged (l, F, H) = rw (l, is-whole old F, is-whole new H, no-fault old F 0) (no-fault new H 1)
+  none-judged (l, F, H) = rw (l, is-whole (X .old) F, is-whole (X .new) H, no-fault (X .old) F 0) (no-fault (X .new) H 1)
 
-  pub both-faultless : judged lent old new ≡ none → (lent ≡ true) × FaultlessChart old × FaultlessChart new
+  pub both-faultless : judged lent X ≡ none → (lent ≡ true) × FaultlessChart (X .old) × FaultlessChart (X .new)
   unfolding judged
   both-faultless e =
-      let a = both-missing (due (not (lent && (whole (old .table) && whole (new .table)))) 21 0) _ e in
-      let b = both-missing (fault 0 old) (fault 1 new) (a .1) in
+      let a = both-missing (due (not (lent && (whole (X .old .table) && whole (X .new .table)))) 21 0) _ e in
+      let b = both-missing (fault 0 (X .old)) (fault 1 (X .new)) (a .1) in
       let l = and-true lent _ (not-false _ (not-due _ _ (a .0))) in
-      let w = and-true (whole (old .table)) (whole (new .table)) (l .1) in
-      (l .0, unfaulted 0 old (w .0) (b .0), unfaulted 1 new (w .1) (b .1))
+      let w = and-true (whole (X .old .table)) (whole (X .new .table)) (l .1) in
+      (l .0, unfaulted 0 (X .old) (w .0) (b .0), unfaulted 1 (X .new) (w .1) (b .1))
 
   -- none is due exactly where the lengths are the stated ones and both charts are faultless
-  pub judged-exactly : (judged lent old new ≡ none) ↔ ((lent ≡ true) × FaultlessChart old × FaultlessChart new)
+  pub judged-exactly : (judged lent X ≡ none) ↔ ((lent ≡ true) × FaultlessChart (X .old) × FaultlessChart (X .new))
   judged-exactly = (both-faultless, none-judged)
 
 -- the rows of a faultless chart can be indexed
@@ -180,4 +181,4 @@ indexable C F =
 pub opened : (C : Chart) (p : ℕ) → openTo C p ≡ true → Ascending (C .table)
 unfolding openTo
 opened C p e =
-    ascends C (faultless C (missing-none (refusal C) (and-true (missing (refusal C)) (ltb p (C .places)) e .0)))
+    ascends C (faultless C (missing-none (refusal C) (and-true (missing (refusal C)) (ltb p (C .head .places)) e .0)))

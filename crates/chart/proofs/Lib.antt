@@ -1,5 +1,4 @@
 -- Laws that several proofs cite.
-pub mod Comparisons
 pub mod Rows
 pub mod Faults
 pub mod Faultless

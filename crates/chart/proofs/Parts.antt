@@ -195,7 +195,7 @@ later-row C p k F z l =
 
 -- a row of a faultless chart leads to one of its places, and writes or compares one of 64 variables
 module _ (C : Chart) (F : FaultlessChart C) (p k : ℕ) (l : k < size (leaving (C .table) p)) where
-  pub row-to : to (leaving (C .table) p) k < C .places
+  pub row-to : to (leaving (C .table) p) k < C .head .places
   row-to = let (i, r) = row-of (C .table) p k l in rw (row-same (C .table) p r .to-same) (F .rows i (r .inside) .to-below)
 
   pub row-a : operation (leaving (C .table) p) k .a < 64

@@ -30,9 +30,9 @@ module _ (C : Chart) where
       go none = refl
       go (some seen) = refl
 
-  pub reaches-here : (s : State) → s .place ≡ C .alarm → T (reachesFrom s [])
+  pub reaches-here : (s : State) → s .place ≡ C .head .alarm → T (reachesFrom s [])
   unfolding run alarmed
-  reaches-here s e = T-or-l (eqb (s .place) (C .alarm)) false (eqb←eq e)
+  reaches-here s e = T-or-l (eqb (s .place) (C .head .alarm)) false (eqb←eq e)
 
   run-none : (s : State) (i : ℕ) (is : List ℕ) → ready C s i ≡ false → run C s (i ∷ is) ≡ none
   unfolding run
@@ -53,30 +53,30 @@ module _ (C : Chart) where
     where
       go : (o : Option (List State)) → run C (taken (row (C .table) i) s) is ≡ o → T (everThere o) → T (reachesFrom s (i ∷ is))
       go none e h = absurd h
-      go (some seen) e h = subst (λ (o : Option (List State)). T (everThere o)) (sym (run-some s i is seen t e)) (T-or-r (eqb (s .place) (C .alarm)) (alarmed C seen) h)
+      go (some seen) e h = subst (λ (o : Option (List State)). T (everThere o)) (sym (run-some s i is seen t e)) (T-or-r (eqb (s .place) (C .head .alarm)) (alarmed C seen) h)
 
-  pub reaches-nil : (s : State) → T (reachesFrom s []) → s .place ≡ C .alarm
+  pub reaches-nil : (s : State) → T (reachesFrom s []) → s .place ≡ C .head .alarm
   unfolding run alarmed
-  reaches-nil s t = elim (T-or (eqb (s .place) (C .alarm)) false t) [ inl a ↦ eqb→eq (s .place) (C .alarm) a | inr z ↦ absurd z ]
+  reaches-nil s t = elim (T-or (eqb (s .place) (C .head .alarm)) false t) [ inl a ↦ eqb→eq (s .place) (C .head .alarm) a | inr z ↦ absurd z ]
 
   pub reaches-cons : (s : State) (i : ℕ) (is : List ℕ) → T (reachesFrom s (i ∷ is))
-      → (s .place ≡ C .alarm) ⊎ ((ready C s i ≡ true) × T (reachesFrom (taken (row (C .table) i) s) is))
+      → (s .place ≡ C .head .alarm) ⊎ ((ready C s i ≡ true) × T (reachesFrom (taken (row (C .table) i) s) is))
   unfolding alarmed
   reaches-cons s i is t = go (ready C s i) refl (run C (taken (row (C .table) i) s) is) refl
     where
       go : (b : Bool) → ready C s i ≡ b → (o : Option (List State)) → run C (taken (row (C .table) i) s) is ≡ o
-          → (s .place ≡ C .alarm) ⊎ ((ready C s i ≡ true) × T (reachesFrom (taken (row (C .table) i) s) is))
+          → (s .place ≡ C .head .alarm) ⊎ ((ready C s i ≡ true) × T (reachesFrom (taken (row (C .table) i) s) is))
       go false e o f = absurd (subst (λ (o : Option (List State)). T (everThere o)) (run-none s i is e) t)
       go true e none f = absurd (subst (λ (o : Option (List State)). T (everThere o)) (run-ends s i is e f) t)
-      go true e (some seen) f = elim (T-or (eqb (s .place) (C .alarm)) (alarmed C seen) (subst (λ (o : Option (List State)). T (everThere o)) (run-some s i is seen e f) t)) [ inl a ↦ inl (eqb→eq (s .place) (C .alarm) a) | inr h ↦ inr (e, subst (λ (o : Option (List State)). T (everThere o)) (sym f) h) ]
+      go true e (some seen) f = elim (T-or (eqb (s .place) (C .head .alarm)) (alarmed C seen) (subst (λ (o : Option (List State)). T (everThere o)) (run-some s i is seen e f) t)) [ inl a ↦ inl (eqb→eq (s .place) (C .head .alarm) a) | inr h ↦ inr (e, subst (λ (o : Option (List State)). T (everThere o)) (sym f) h) ]
 
   -- some rows lead from here to the alarm
   pub record Hits (p : ℕ) (v : List ℕ) : Type 0 where
     pub rows : List ℕ
     pub lead : T (reachesFrom (record { place = p; values = v }) rows)
 
-  pub hits-here : (v : List ℕ) → Hits (C .alarm) v
-  hits-here v = record { rows = []; lead = reaches-here (record { place = C .alarm; values = v }) refl }
+  pub hits-here : (v : List ℕ) → Hits (C .head .alarm) v
+  hits-here v = record { rows = []; lead = reaches-here (record { place = C .head .alarm; values = v }) refl }
 
   -- by row k of the place
   pub hits-row : (p k : ℕ) (v : List ℕ) → k < size (leaving (C .table) p) → lets (operation (leaving (C .table) p) k) v ≡ true

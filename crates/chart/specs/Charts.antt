@@ -8,20 +8,19 @@ use lib.ListN.{length, getD, take, drop}
 use Rattle.operations.specs.declared.Operation.{Operation}
 use Rattle.chart.specs.declared.charts.Head.{Head}
 
--- "A chart is a count of places n, an alarm place, and rows of six u32 fields in a lent table"
+-- "A chart is a count of places n, an alarm place, and rows of six u32 fields in a lent table": its head, places and
+-- alarm, as the code has it by value, and its table
 pub record Chart : Type 0 where
-  pub places : ℕ
-  pub alarm : ℕ
+  pub head : Head
   pub table : List ℕ
 
--- "a count of places n, an alarm place, and rows [..] in a lent table", as the code has them: the head by value beside
--- the table
+-- "a count of places n, an alarm place, and rows [..] in a lent table", as the code has them: the head beside the table
 abbrev pub charted : Head → List ℕ → Chart
-charted h t = record { places = h .places; alarm = h .alarm; table = t }
+charted h t = record { head = h; table = t }
 
 -- "the start is place 0"
-abbrev pub start : Chart → ℕ
-start C = 0
+abbrev pub start : Head → ℕ
+start h = 0
 
 -- ---- rows of a table, by number: "from, to, op, a, b, c"
 pub record Row : Type 0 where

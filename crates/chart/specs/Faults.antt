@@ -14,24 +14,26 @@ use Rattle.operations.specs.Operations.{isKnown, isAssumption, operandsFit}
 use Rattle.operations.specs.Trials.{exclusive}
 use Rattle.chart.specs.declared.charts.Judged.{Judged}
 use Rattle.chart.specs.declared.charts.Judged.the-variants.{Faultless, Refused}
+use Rattle.chart.specs.declared.charts.Head.{Head}
 use Rattle.chart.specs.Charts.{Chart, size, from, to, operation}
+use Rattle.chart.specs.Compared.{Compared}
 
 -- ---- the tests
 -- "1 no places or rows"
 abbrev pub lacks : Chart → Bool
-lacks C = eqb (C .places) 0 || eqb (size (C .table)) 0
+lacks C = eqb (C .head .places) 0 || eqb (size (C .table)) 0
 
 -- "2 above 64 places or 128 rows"
 abbrev pub exceeds : Chart → Bool
-exceeds C = ltb 64 (C .places) || ltb 128 (size (C .table))
+exceeds C = ltb 64 (C .head .places) || ltb 128 (size (C .table))
 
 -- "3 alarm not below n"
-abbrev pub alarmOutside : Chart → Bool
-alarmOutside C = leb (C .places) (C .alarm)
+abbrev pub alarmOutside : Head → Bool
+alarmOutside h = leb (h .places) (h .alarm)
 
 -- "4 a place not below n"
 abbrev pub strays : Chart → ℕ → Bool
-strays C i = leb (C .places) (from (C .table) i) || leb (C .places) (to (C .table) i)
+strays C i = leb (C .head .places) (from (C .table) i) || leb (C .head .places) (to (C .table) i)
 
 -- "the previous row's" "from": that of the row before row i; none is below that of the first
 abbrev pub fromBefore : List ℕ → ℕ → ℕ
@@ -63,7 +65,7 @@ countFault k C = orElse (dueIn k (lacks C) 1 0) (dueIn k (exceeds C) 2 0)
 
 -- "3 alarm not below n"
 unfoldable pub alarmFault : ℕ → Chart → Option Refusal
-alarmFault k C = dueIn k (alarmOutside C) 3 0
+alarmFault k C = dueIn k (alarmOutside (C .head)) 3 0
 
 -- "Then per row (position: row from 0): 4 a place not below n; 5 "from" below the previous row's; 6 unknown op; 7
 -- variable above 63 or an unused operand not 0"
@@ -95,9 +97,10 @@ refusal C = orElse (due (not (whole (C .table))) 21 0) (fault 0 C)
 -- of two charts, where `lent` says whether the caller's other lengths are the stated ones: "21, a lent length differs
 -- from the stated one [..], or a chart table's isn't a multiple of 6. Always first"; "elsewhere the old chart comes
 -- before the new"
-unfoldable pub judged : Bool → Chart → Chart → Option Refusal
-judged lent old new =
-    orElse (due (not (lent && (whole (old .table) && whole (new .table)))) 21 0) (orElse (fault 0 old) (fault 1 new))
+unfoldable pub judged : Bool → Compared → Option Refusal
+judged lent X =
+    orElse (due (not (lent && (whole (X .old .table) && whole (X .new .table)))) 21 0)
+    (orElse (fault 0 (X .old)) (fault 1 (X .new)))
 
 -- what the code's answer says, "for each of the enum's cases"
 abbrev pub told : Judged → Option Refusal

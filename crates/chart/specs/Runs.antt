@@ -25,7 +25,7 @@ pub record State : Type 0 where
 
 -- "at first the start, place 0, and the given ones"
 abbrev pub begin : Chart → List ℕ → State
-begin C v = record { place = start C; values = v }
+begin C v = record { place = start (C .head); values = v }
 
 -- "The place is then the row's "to""
 abbrev pub taken : Row → State → State
@@ -51,7 +51,7 @@ run C s (i ∷ is) = elim (ready C s i) [ true ↦ onward s (run C (taken (row (
 -- "it reaches the alarm if it is ever there, its start included"
 unfoldable pub alarmed : Chart → List State → Bool
 alarmed C [] = false
-alarmed C (s ∷ seen) = eqb (s .place) (C .alarm) || alarmed C seen
+alarmed C (s ∷ seen) = eqb (s .place) (C .head .alarm) || alarmed C seen
 
 -- "A run is a list of rows of one chart, of any length, none included, from any 64 values": these rows are one from v,
 -- and it reaches the alarm

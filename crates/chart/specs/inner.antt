@@ -2,3 +2,4 @@
 pub mod Faulty
 pub mod Ascending
 pub mod Index
+pub mod Prepared

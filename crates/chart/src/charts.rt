@@ -1,10 +1,32 @@
-// A chart's head, and what judging a chart answers.
+// The heads of charts, and what judging a chart answers.
+ghost use mathlib.Core.Path.{_≡_};
+ghost use Rattle.chart.specs.Compared.{oldHead, newHead, bothHeads};
+use crate::places::NewPlace;
+use crate::places::OldPlace;
 use base::Refusal;
 
-// What a chart is beside its rows.
+// What a chart is beside its rows, whichever chart it is.
 pub struct Head {
     pub places: u32,
     pub alarm: u32,
+}
+
+// What the old chart is beside its rows: its alarm is one of its own places.
+pub struct OldHead {
+    pub places: u32,
+    pub alarm: OldPlace,
+}
+
+// What the new chart is beside its rows: its alarm is one of its own places.
+pub struct NewHead {
+    pub places: u32,
+    pub alarm: NewPlace,
+}
+
+// What is compared, beside the two tables: it is passed on whole.
+pub struct Heads {
+    pub old: OldHead,
+    pub new: NewHead,
 }
 
 // What judging a chart finds: no refusal is due, or the first that is. A table that is not whole rows is the caller's
@@ -12,4 +34,44 @@ pub struct Head {
 pub enum Judged {
     Faultless,
     Refused(Refusal),
+}
+
+// Both heads, of charts that came one by one.
+pub fn both_heads(old: Head, new: Head) -> Heads
+    ensures { λ r. ⌜ r ≡ bothHeads old new ⌝ }
+{
+    Heads {
+        old: OldHead {
+            places: old.places,
+            alarm: OldPlace(old.alarm),
+        },
+        new: NewHead {
+            places: new.places,
+            alarm: NewPlace(new.alarm),
+        },
+    }
+}
+
+impl OldHead {
+    // As any chart's head: by itself a chart is judged alike, old or new.
+    pub fn head(self) -> Head
+        ensures { λ r. ⌜ r ≡ oldHead self ⌝ }
+    {
+        Head {
+            places: self.places,
+            alarm: self.alarm.0,
+        }
+    }
+}
+
+impl NewHead {
+    // As any chart's head: by itself a chart is judged alike, old or new.
+    pub fn head(self) -> Head
+        ensures { λ r. ⌜ r ≡ newHead self ⌝ }
+    {
+        Head {
+            places: self.places,
+            alarm: self.alarm.0,
+        }
+    }
 }

@@ -7,17 +7,19 @@ ghost use mathlib.Core.List.{[]};
 ghost use mathlib.Core.Option.{some};
 ghost use Prim.Native.Nat.{_<_};
 ghost use Rattle.chart.specs.Charts.{charted, size, leaving};
+ghost use Rattle.chart.specs.Compared.{compared};
 ghost use Rattle.chart.specs.Faults.{told, rowsFault, fault, refusal, judged};
 ghost use Rattle.chart.specs.inner.Faulty.{rowNumber};
 ghost use Rattle.chart.specs.Lookup.{openTo, lookup, Stands};
 use base::Found;
 use base::Refusal;
 use charts::Head;
+use charts::Heads;
 use charts::Judged;
 use inner::faults;
 
 pub mod places; // places.rt: places of the old and of the new chart
-pub mod charts; // charts.rt: a chart's head, and what judging a chart answers
+pub mod charts; // charts.rt: the heads of charts, and what judging a chart answers
 pub mod inner; // inner.rt: for the crates above
 
 // The refusal with this number and position, of the chart with this number.
@@ -71,7 +73,7 @@ fn fault(chart: u32, head: Head, rows: &[u32]) -> Judged
     if faults::exceeds(head, rows) {
         return refused(chart, 2, 0);
     }
-    if faults::alarm_outside(head.places, head.alarm) {
+    if faults::alarm_outside(head) {
         return refused(chart, 3, 0);
     }
     rows_fault(chart, head, rows)
@@ -90,22 +92,15 @@ pub fn judge(head: Head, rows: &[u32]) -> Judged
 
 // The refusal that is due for two charts: 21, where another length of the caller's is not the stated one or a table is
 // not whole rows, else the old chart's first fault, with chart 0, else the new one's, with chart 1.
-pub fn judged<'a>(
-    lent: bool,
-    old: Head,
-    old_rows: &'a [u32],
-    new: Head,
-    new_rows: &'a [u32],
-) -> Judged
-    ensures { λ r. ⌜ told r
-        ≡ judged lent (charted old (now («old_rows» .entry))) (charted new (now («new_rows» .entry))) ⌝ }
+pub fn judged<'a>(lent: bool, heads: Heads, old_rows: &'a [u32], new_rows: &'a [u32]) -> Judged
+    ensures { λ r. ⌜ told r ≡ judged lent (compared heads (now («old_rows» .entry)) (now («new_rows» .entry))) ⌝ }
 {
     if !(lent & (faults::whole(old_rows) & faults::whole(new_rows))) {
         return refused(0, 21, 0);
     }
-    match fault(0, old, old_rows) {
+    match fault(0, heads.old.head(), old_rows) {
         Judged::Refused(r) => Judged::Refused(r),
-        Judged::Faultless => fault(1, new, new_rows),
+        Judged::Faultless => fault(1, heads.new.head(), new_rows),
     }
 }
 
@@ -135,9 +130,8 @@ fn rows_open(head: Head, rows: &[u32], place: u32) -> &[u32]
 // The rows that leave a place of the chart named (0 old, 1 new), as a part of its table; an empty part where there is
 // no such chart or place, or the chart named is faulty.
 pub fn lookup<'a>(
-    old: Head,
+    heads: Heads,
     old_rows: &'a [u32],
-    new: Head,
     new_rows: &'a [u32],
     chart: u32,
     place: u32,
@@ -145,13 +139,13 @@ pub fn lookup<'a>(
     ensures stands { λ r. ⌜ Stands (r .ptr) (cond (eqb chart 1) («new_rows» .entry .ptr) («old_rows» .entry .ptr))
         (now r) (cond (eqb chart 1) (now («new_rows» .entry)) (now («old_rows» .entry))) ⌝ }
     ensures is { λ r. ⌜ now r
-        ≡ lookup (charted old (now («old_rows» .entry))) (charted new (now («new_rows» .entry))) chart place ⌝ }
+        ≡ lookup (compared heads (now («old_rows» .entry)) (now («new_rows» .entry))) chart place ⌝ }
 {
     if chart == 0 {
-        return rows_open(old, old_rows, place);
+        return rows_open(heads.old.head(), old_rows, place);
     }
     if chart == 1 {
-        return rows_open(new, new_rows, place);
+        return rows_open(heads.new.head(), new_rows, place);
     }
     &old_rows[0..0]
 }

@@ -1,7 +1,7 @@
-// Places of the old and of the new chart: an old place number is never taken for a new one. A place is opened in three
-// spots alone: here, where it is compared with n, in the pair number and in the lookup.
+// Places of the old and of the new chart: an old place number is never taken for a new one. Only the number of a pair
+// joins them.
 ghost use mathlib.Core.Path.{_≡_};
-ghost use lib.Dec.{eqb, ltb};
+ghost use lib.Dec.{eqb};
 
 // A place of the old chart (L in the source).
 pub struct OldPlace(pub u32);
@@ -16,35 +16,19 @@ pub enum Place {
 }
 
 impl OldPlace {
-    // Whether it is one of n places. A u64, so that there is a number after every place.
-    pub fn below(self, n: u64) -> bool
-        ensures { λ r. ⌜ r ≡ ltb (self .0) n ⌝ }
+    // Whether it is this place of the old chart, as its alarm.
+    pub fn is(self, place: OldPlace) -> bool
+        ensures { λ r. ⌜ r ≡ eqb (self .0) (place .0) ⌝ }
     {
-        (self.0 as u64) < n
-    }
-
-    // Whether it is this place of the old chart, as its alarm: one of the places up to this one, and of none before.
-    pub fn is(self, place: u32) -> bool
-        ensures { λ r. ⌜ r ≡ eqb (self .0) place ⌝ }
-    {
-        let n = place as u64;
-        !self.below(n) & self.below(n + 1)
+        self.0 == place.0
     }
 }
 
 impl NewPlace {
-    // Whether it is one of n places. A u64, so that there is a number after every place.
-    pub fn below(self, n: u64) -> bool
-        ensures { λ r. ⌜ r ≡ ltb (self .0) n ⌝ }
+    // Whether it is this place of the new chart, as its alarm.
+    pub fn is(self, place: NewPlace) -> bool
+        ensures { λ r. ⌜ r ≡ eqb (self .0) (place .0) ⌝ }
     {
-        (self.0 as u64) < n
-    }
-
-    // Whether it is this place of the new chart, as its alarm: one of the places up to this one, and of none before.
-    pub fn is(self, place: u32) -> bool
-        ensures { λ r. ⌜ r ≡ eqb (self .0) place ⌝ }
-    {
-        let n = place as u64;
-        !self.below(n) & self.below(n + 1)
+        self.0 == place.0
     }
 }

@@ -35,6 +35,7 @@ use Rattle.checker.specs.Rules.{startFits, keeps, joins, joinsStep, rank
 use Rattle.checker.specs.Checks.{refusal}
 use Rattle.checker.specs.Promise.{Promise}
 use Rattle.checker.proofs.Passed.{Passed, passed}
+use Rattle.chart.specs.Compared.{Compared, headsOf}
 
 -- ---- covered from here on
 abbrev three : Graph → ℕ → Bool
@@ -78,7 +79,7 @@ module _ (new : Chart) (G : Graph) where
   going-next n i is l k (inl c) = elim (first-or-later n i is c) [ inl e ↦ inr (beyond n (targetOf new G n i) (omega arith) l k) | inr c ↦ inl (c .1) ]
 
 -- ---- along the rows
-module _ (old new : Chart) (old-words : Words (old .table)) (new-words : Words (new .table)) (R : Record) (ok : Passed old new R) where
+module _ (X : Compared) (old-words : Words (X .old .table)) (new-words : Words (X .new .table)) (R : Record) (ok : Passed X R) where
   abbrev G : Graph
   G = R .graph
 
@@ -86,29 +87,29 @@ module _ (old new : Chart) (old-words : Words (old .table)) (new-words : Words (
   at m w = record { place = m % 64; values = w }
 
   -- the rule for the target of row i of the new chart at a pair that it leaves
-  rule : (m i : ℕ) → m < 4096 → mark G m ≢ 0 → i < size (new .table) → from (new .table) i ≡ m % 64
-      → Says (leads old new G m (operation (new .table) i) (record { 0 = to (new .table) i }) (targetOf new G m i)) × Says (ranked (G .marks) m (targetOf new G m i))
+  rule : (m i : ℕ) → m < 4096 → mark G m ≢ 0 → i < size (X .new .table) → from (X .new .table) i ≡ m % 64
+      → Says (leads X G m (operation (X .new .table) i) (record { 0 = to (X .new .table) i }) (targetOf (X .new) G m i)) × Says (ranked (G .marks) m (targetOf (X .new) G m i))
   unfolding rowFits
   rule m i l n u e =
-      let t = new .table in
+      let t = X .new .table in
       let S = same-row t (m % 64) i u e in
       let b : rank t i ≡ before t (m % 64) i = rw e in
       let s = stands t (m % 64) i u e in
-      let two = two-at-most new (ok .new-faultless) (new-words .small) (m % 64) in
+      let two = two-at-most (X .new) (ok .new-faultless) (new-words .small) (m % 64) in
       let q = ok .rules m (before t (m % 64) i) l n (omega arith) s in (
-        subst (λ (k : ℕ). Says (leads old new G m (operation t i) (record { 0 = to t i }) (target G m k))) (sym b)
-            (subst₂ (λ (o : Operation) (p : ℕ). Says (leads old new G m o (record { 0 = p }) (target G m (before t (m % 64) i)))) (S .operation-same) (S .to-same) (q .0)),
+        subst (λ (k : ℕ). Says (leads X G m (operation t i) (record { 0 = to t i }) (target G m k))) (sym b)
+            (subst₂ (λ (o : Operation) (p : ℕ). Says (leads X G m o (record { 0 = p }) (target G m (before t (m % 64) i)))) (S .operation-same) (S .to-same) (q .0)),
         subst (λ (k : ℕ). Says (ranked (G .marks) m (target G m k))) (sym b) (q .1),
       )
 
   -- the claim for a list of rows, from any pair
   Claim : List ℕ → Type 0
-  Claim is = (m : ℕ) (w : List ℕ) → Says (fair (old .alarm) (new .alarm) (oldOf m) (newOf m)) → Values w → T (reachesFrom new (at m w) is) → Going new G m is → Onto old w (spot G m)
+  Claim is = (m : ℕ) (w : List ℕ) → Says (fair (headsOf X) (oldOf m) (newOf m)) → Values w → T (reachesFrom (X .new) (at m w) is) → Going (X .new) G m is → Onto X w (spot G m)
 
-  at-old : (m : ℕ) (w : List ℕ) → m / 64 ≡ old .alarm → Onto old w (spot G m)
-  at-old m w e = record { leads = λ v A. subst (λ (p : ℕ). Hits old p v) (sym e) (hits-here old v) }
+  at-old : (m : ℕ) (w : List ℕ) → m / 64 ≡ X .old .head .alarm → Onto X w (spot G m)
+  at-old m w e = record { leads = λ v A. subst (λ (p : ℕ). Hits (X .old) p v) (sym e) (hits-here (X .old) v) }
 
-  at-new : (m : ℕ) (w : List ℕ) → Says (fair (old .alarm) (new .alarm) (oldOf m) (newOf m)) → m % 64 ≡ new .alarm → Onto old w (spot G m)
+  at-new : (m : ℕ) (w : List ℕ) → Says (fair (headsOf X) (oldOf m) (newOf m)) → m % 64 ≡ X .new .head .alarm → Onto X w (spot G m)
   at-new m w (inl n) e = absurd (n e)
   at-new m w (inr e) t = at-old m w e
 
@@ -119,81 +120,81 @@ module _ (old new : Chart) (old-words : Words (old .table)) (new-words : Words (
   joined-step q t (some s) h x = (s, says (joins (G .marks) (G .sets) q t s) x, h)
 
   -- one row from a pair that is not at the old alarm
-  module _ (m i : ℕ) (is : List ℕ) (w : List ℕ) (off : m / 64 ≢ old .alarm) (W : Values w)
-      (inside : i < size (new .table)) (leaves : from (new .table) i ≡ m % 64) (let-by : lets (operation (new .table) i) w ≡ true)
-      (re : T (reachesFrom new (taken (row (new .table) i) (at m w)) is)) (g : Going new G m (i ∷ is)) (rec : Claim is) where
+  module _ (m i : ℕ) (is : List ℕ) (w : List ℕ) (off : m / 64 ≢ X .old .head .alarm) (W : Values w)
+      (inside : i < size (X .new .table)) (leaves : from (X .new .table) i ≡ m % 64) (let-by : lets (operation (X .new .table) i) w ≡ true)
+      (re : T (reachesFrom (X .new) (taken (row (X .new .table) i) (at m w)) is)) (g : Going (X .new) G m (i ∷ is)) (rec : Claim is) where
     o : Operation
-    o = operation (new .table) i
+    o = operation (X .new .table) i
 
     q : NewPlace
-    q = record { 0 = to (new .table) i }
+    q = record { 0 = to (X .new .table) i }
 
     t : ℕ
-    t = targetOf new G m i
+    t = targetOf (X .new) G m i
 
     small : m < 4096
     small =
-        let gm = going-mark new G m (i ∷ is) g in
+        let gm = going-mark (X .new) G m (i ∷ is) g in
         elim (ok .marks m (ok .marked m (gm .0))) [ inl e ↦ absurd (gm .0 e) | inr x ↦ elim (x .1) [ inl y ↦ y .0 | inr y ↦ absurd (gm .1 (y .1)) ] ]
 
-    onward : Says (ranked (G .marks) m t) → mark G t ≢ 0 → Going new G t is
+    onward : Says (ranked (G .marks) m t) → mark G t ≢ 0 → Going (X .new) G t is
     unfolding t
-    onward k h = let l = ok .marked t h in going-next new G m i is (λ e. omega arith) k g
+    onward k h = let l = ok .marked t h in going-next (X .new) G m i is (λ e. omega arith) k g
 
-    arrive : Says (ranked (G .marks) m t) → (h : Spot) → Says (joins (G .marks) (G .sets) q t h) → Says (fair (old .alarm) (new .alarm) (h .place) q) → Onto old (after o w) h
+    arrive : Says (ranked (G .marks) m t) → (h : Spot) → Says (joins (G .marks) (G .sets) q t h) → Says (fair (headsOf X) (h .place) q) → Onto X (after o w) h
     unfolding Claim joins o q
     arrive k h x a =
         let b = ok .new-faultless .rows i inside .to-below in
         let f = ok .new-faultless .few-places in
         let e : h .place .0 ≡ t / 64 = omega (arith, x .0) in
-        let e′ : to (new .table) i ≡ t % 64 = omega (arith, x .0) in
+        let e′ : to (X .new .table) i ≡ t % 64 = omega (arith, x .0) in
         let c = new-words .small (i * 6 + 5) in
-        let r = rec t (after o w) (subst₂ (λ (p q : ℕ). Says (fair (old .alarm) (new .alarm) (record { 0 = p }) (record { 0 = q }))) e e′ a) (values-after o w c W)
-        (subst (λ (q : ℕ). T (reachesFrom new (record { place = q; values = after o w }) is)) e′ re) (onward k (x .1 .0)) in
-        record { leads = λ v A. subst (λ (p : ℕ). Hits old p v) (sym e) (r .leads v (agree-wider A (setAt G t) (is-true _ (x .1 .1)))) }
+        let r = rec t (after o w) (subst₂ (λ (p q : ℕ). Says (fair (headsOf X) (record { 0 = p }) (record { 0 = q }))) e e′ a) (values-after o w c W)
+        (subst (λ (q : ℕ). T (reachesFrom (X .new) (record { place = q; values = after o w }) is)) e′ re) (onward k (x .1 .0)) in
+        record { leads = λ v A. subst (λ (p : ℕ). Hits (X .old) p v) (sym e) (r .leads v (agree-wider A (setAt G t) (is-true _ (x .1 .1)))) }
 
-    turn : Says (leads old new G m o q t) → Says (ranked (G .marks) m t) → Onto old w (spot G m)
+    turn : Says (leads X G m o q t) → Says (ranked (G .marks) m t) → Onto X w (spot G m)
     unfolding leads keeps o
     turn (inl x) k = absurd (off (x .0))
-    turn (inr (n, inl x)) k = absurd (going-mark new G t is (onward k (λ e. omega (arith, x .1))) .1 (x .1))
+    turn (inr (n, inl x)) k = absurd (going-mark (X .new) G t is (onward k (λ e. omega (arith, x .1))) .1 (x .1))
     turn (inr (n, inr x)) k =
-        let z = joined-step q t (step old new (spot G m) o q)
-        (step-onto old (ok .old-faultless) (old-words .small) w W new (spot G m) o q (operands new (ok .new-faultless) (new-words .small) i inside) let-by) x in
+        let z = joined-step q t (step X (spot G m) o q)
+        (step-onto X (ok .old-faultless) (old-words .small) w W (spot G m) o q (operands (X .new) (ok .new-faultless) (new-words .small) i inside) let-by) x in
         z .2 .0 (arrive k (z .0) (z .1) (z .2 .1))
 
-    advance : Onto old w (spot G m)
+    advance : Onto X w (spot G m)
     unfolding o q t
-    advance = let r = rule m i small (going-mark new G m (i ∷ is) g .0) inside leaves in turn (r .0) (r .1)
+    advance = let r = rule m i small (going-mark (X .new) G m (i ∷ is) g .0) inside leaves in turn (r .0) (r .1)
 
-  is-ready : (m : ℕ) (w : List ℕ) (i : ℕ) → ready new (at m w) i ≡ true → (i < size (new .table)) × (from (new .table) i ≡ m % 64) × (lets (operation (new .table) i) w ≡ true)
+  is-ready : (m : ℕ) (w : List ℕ) (i : ℕ) → ready (X .new) (at m w) i ≡ true → (i < size (X .new .table)) × (from (X .new .table) i ≡ m % 64) × (lets (operation (X .new .table) i) w ≡ true)
   unfolding ready
   is-ready m w i t =
-      let a = T-and (ltb i (size (new .table))) _ (T-true t) in
-      let b = T-and (eqb (from (new .table) i) (m % 64)) _ (a .1) in
-      (ltb→lt i (size (new .table)) (a .0), eqb→eq (from (new .table) i) (m % 64) (b .0), is-true _ (b .1))
+      let a = T-and (ltb i (size (X .new .table))) _ (T-true t) in
+      let b = T-and (eqb (from (X .new .table) i) (m % 64)) _ (a .1) in
+      (ltb→lt i (size (X .new .table)) (a .0), eqb→eq (from (X .new .table) i) (m % 64) (b .0), is-true _ (b .1))
 
   along : (is : List ℕ) → Claim is
   unfolding Claim
-  along [] m w a W re g = at-new m w a (reaches-nil new (at m w) re)
+  along [] m w a W re g = at-new m w a (reaches-nil (X .new) (at m w) re)
   along (i ∷ is) m w a W re g =
-      elim (ℕ-discrete (m / 64) (old .alarm)) [
+      elim (ℕ-discrete (m / 64) (X .old .head .alarm)) [
         | yes e ↦ at-old m w e
-        | no n ↦ elim (reaches-cons new (at m w) i is re) [
+        | no n ↦ elim (reaches-cons (X .new) (at m w) i is re) [
           | inl t ↦ at-new m w a t
           | inr x ↦ (let r = is-ready m w i (x .0) in advance m i is w n W (r .0) (r .1) (r .2) (x .1) g (along is))
         ]
       ]
 
 -- DEMAND 3, FIRST HALF
-pub demand-3-first : (old new : Chart) → Words (old .table) → Words (new .table) → (R : Record) → refusal old new R ≡ none → Promise old new R
+pub demand-3-first : (X : Compared) → Words (X .old .table) → Words (X .new .table) → (R : Record) → refusal X R ≡ none → Promise X R
 unfolding startFits covered Going Claim
-demand-3-first old new ow nw R e v is W re c =
-    let ok = passed old new R e in
-    let from-start : T (reachesFrom new (begin new v) is) = T-true (sym (from-begin new v is) ∙ re) in
+demand-3-first X ow nw R e v is W re c =
+    let ok = passed X R e in
+    let from-start : T (reachesFrom (X .new) (begin (X .new) v) is) = T-true (sym (from-begin (X .new) v is) ∙ re) in
     elim (ok .starts) [
       | inl s ↦ (
-          let h = along old new ow nw R ok is 0 v (s .1 .1) W from-start (inl (subst (λ (n : ℕ). T (any (three (R .graph)) (nodes new (R .graph) n is))) (s .0) (T-true c))) .leads v (agree-same-values (setAt (R .graph) 0) v W) in
-          (h .rows, from-begin old v (h .rows) ∙ is-true _ (h .lead))
+          let h = along X ow nw R ok is 0 v (s .1 .1) W from-start (inl (subst (λ (n : ℕ). T (any (three (R .graph)) (nodes (X .new) (R .graph) n is))) (s .0) (T-true c))) .leads v (agree-same-values (setAt (R .graph) 0) v W) in
+          (h .rows, from-begin (X .old) v (h .rows) ∙ is-true _ (h .lead))
           )
-      | inr s ↦ absurd (going-mark new (R .graph) 4096 is (inl (subst (λ (n : ℕ). T (any (three (R .graph)) (nodes new (R .graph) n is))) (s .0) (T-true c))) .1 (s .1))
+      | inr s ↦ absurd (going-mark (X .new) (R .graph) 4096 is (inl (subst (λ (n : ℕ). T (any (three (R .graph)) (nodes (X .new) (R .graph) n is))) (s .0) (T-true c))) .1 (s .1))
     ]

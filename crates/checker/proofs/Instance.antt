@@ -26,7 +26,8 @@ use Rattle.chart.specs.Charts as charts
 use Rattle.chart.specs.Faultless.{FaultlessChart}
 use Rattle.chart.specs.Faults as faults
 use Rattle.chart.proofs.Faultless.{faultless}
-use Rattle.chart.specs.Places.{newOf, headOf}
+use Rattle.chart.specs.Places.{newOf}
+use Rattle.chart.specs.Compared.{Compared, headsOf}
 use Rattle.chart.specs.Runs.{begin, run, reaches}
 use Rattle.chart.specs.Runs as runs
 use Rattle.sets.specs.Sets as sets
@@ -43,7 +44,10 @@ use Rattle.checker.proofs.Passes.{Rules, passes}
 -- both charts, `2,1,2,0,0,0 0,1,16,0,0,0 0,1,17,0,0,0`: from the start to the alarm, by one row where v0 is 0, by the
 -- other where it isn't
 abbrev pub C : Chart
-C = record { places = 2; alarm = 1; table = 0 ∷ 1 ∷ 16 ∷ 0 ∷ 0 ∷ 0 ∷ 0 ∷ 1 ∷ 17 ∷ 0 ∷ 0 ∷ 0 ∷ [] }
+C = record { head = record { places = 2; alarm = 1 }; table = 0 ∷ 1 ∷ 16 ∷ 0 ∷ 0 ∷ 0 ∷ 0 ∷ 1 ∷ 17 ∷ 0 ∷ 0 ∷ 0 ∷ [] }
+
+abbrev pub X : Compared
+X = record { old = C; new = C }
 
 -- the start open, the pair of both alarms covered, the new alarm kept
 pub marks : List ℕ
@@ -84,13 +88,13 @@ none-due = refl
 sound : FaultlessChart C
 sound = faultless C none-due
 
-mark-at : (i : ℕ) → T (bool (markFits (headOf C) (headOf C) i (getD marks i 0))) → (n : ℕ) → n ≡ i
-    → Says (markFits (headOf C) (headOf C) n (getD marks n 0))
+mark-at : (i : ℕ) → T (bool (markFits (headsOf X) i (getD marks i 0))) → (n : ℕ) → n ≡ i
+    → Says (markFits (headsOf X) n (getD marks n 0))
 mark-at i t n e =
-    subst (λ (n : ℕ). Says (markFits (headOf C) (headOf C) n (getD marks n 0))) (sym e)
-    (says (markFits (headOf C) (headOf C) i (getD marks i 0)) t)
+    subst (λ (n : ℕ). Says (markFits (headsOf X) n (getD marks n 0))) (sym e)
+    (says (markFits (headsOf X) i (getD marks i 0)) t)
 
-marks-so : (n : ℕ) → n < 4160 → Says (markFits (headOf C) (headOf C) n (getD marks n 0))
+marks-so : (n : ℕ) → n < 4160 → Says (markFits (headsOf X) n (getD marks n 0))
 unfolding Marked marks
 marks-so n l =
     dite (ℕ-discrete (getD marks n 0) 0) (λ z. inl z)
@@ -104,19 +108,19 @@ targets-so i l =
     (λ b. inr (getD-set-other (set (replicate 8192 65535) 0 65) 1 i 4097 0 b ∙ getD-set-other (replicate 8192 65535) 0 i 65 0 a ∙ getD-replicate 8192 i 65535 0 l)))
 
 -- both rows of the start are as their rules say, and no row leaves the alarm
-row-at : (k : ℕ) → T (bool (rowFits C C (R .graph) 0 (leaving (C .table) 0) k)) → Says (rowFits C C (R .graph) 0 (leaving (C .table) 0) k)
-row-at k = says (rowFits C C (R .graph) 0 (leaving (C .table) 0) k)
+row-at : (k : ℕ) → T (bool (rowFits X (R .graph) 0 (leaving (C .table) 0) k)) → Says (rowFits X (R .graph) 0 (leaving (C .table) 0) k)
+row-at k = says (rowFits X (R .graph) 0 (leaving (C .table) 0) k)
 
-rules-so : Rules C C (R .graph)
+rules-so : Rules X (R .graph)
 unfolding Marked marks targets options.firstOf charts.leavingOf charts.leaving operations.kind operations.operandB operations.operandC operations.reads operations.same sets.alone sets.joined sets.meets sets.holdsAll sets.setOf reads.readSet steps.find steps.along steps.matching steps.matched steps.onward steps.follow steps.followed steps.counterpart steps.assumed steps.moved steps.arrived steps.step keeps joins joinsStep ranked leads rowFits
 rules-so m k l h two there =
     elim (is-marked m h) [
-      | inl e ↦ subst (λ (m : ℕ). Says (rowFits C C (R .graph) m (leaving (C .table) (newOf m .0)) k)) (sym e) (first k two)
+      | inl e ↦ subst (λ (m : ℕ). Says (rowFits X (R .graph) m (leaving (C .table) (newOf m .0)) k)) (sym e) (first k two)
       | inr (inl e) ↦ absurd (nowhere (subst (λ (m : ℕ). k < size (leaving (C .table) (newOf m .0))) e there))
       | inr (inr e) ↦ absurd (omega arith)
     ]
   where
-    first : (k : ℕ) → k < 2 → Says (rowFits C C (R .graph) 0 (leaving (C .table) 0) k)
+    first : (k : ℕ) → k < 2 → Says (rowFits X (R .graph) 0 (leaving (C .table) 0) k)
     first zero u = row-at 0 tt
     first (suc zero) u = row-at 1 tt
     first (suc (suc k)) u = absurd (omega arith)
@@ -124,10 +128,10 @@ rules-so m k l h two there =
     nowhere : k < size (leaving (C .table) (newOf 65 .0)) → ⊥
     nowhere u = omega arith
 
-pub instance-passes : refusal C C R ≡ none
+pub instance-passes : refusal X R ≡ none
 unfolding shaped marksFit targetsFit startFits marks
 instance-passes =
-    passes C C R sized-so sound sound (inl refl, (marks-so, targets-so)) (inl (refl, (refl, inl (λ e. omega arith))))
+    passes X R sized-so sound sound (inl refl, (marks-so, targets-so)) (inl (refl, (refl, inl (λ e. omega arith))))
     rules-so
 
 -- ---- what it promises
@@ -171,7 +175,7 @@ is-covered = refl
 pub old-run : (js : List ℕ) × (reaches C zeros js ≡ true)
 old-run =
     let w = words-of (C .table) tt in
-    demand-3-first C C w w R instance-passes zeros (0 ∷ []) zeros-values reached-alarm is-covered
+    demand-3-first X w w R instance-passes zeros (0 ∷ []) zeros-values reached-alarm is-covered
 
 -- the run by row 1, from ones: it reaches the new alarm and is not covered
 pub reached-uncovered : reaches C ones (1 ∷ []) ≡ true

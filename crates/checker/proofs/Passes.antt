@@ -13,47 +13,48 @@ use Rattle.base.proofs.Says.{said}
 use Rattle.base.proofs.Tests.{is-true}
 use Rattle.chart.specs.Charts.{Chart, size, leaving}
 use Rattle.chart.specs.Faultless.{FaultlessChart}
-use Rattle.chart.specs.Places.{newOf, headOf}
+use Rattle.chart.specs.Places.{newOf}
 use Rattle.chart.proofs.Faultless.{none-judged}
 use Rattle.records.specs.Records.{Graph, Record, mark}
 use Rattle.checker.specs.Rules.{shaped, startFits, rowFits}
 use Rattle.checker.specs.Checks.{sized, targetFault, rowsFault, pairFault, broken, ruleFault, recordFault, refusal}
+use Rattle.chart.specs.Compared.{Compared, headsOf}
 
 -- a test passes where what it says is so
 met : (t : Test) → Says t → bool t ≡ true
 met t h = is-true (bool t) (said t h)
 
 -- each row of each present pair is as its rule says
-abbrev pub Rules : Chart → Chart → Graph → Type 0
-Rules old new G =
-    (m k : ℕ) → m < 4096 → mark G m ≢ 0 → k < 2 → k < size (leaving (new .table) (newOf m .0))
-    → Says (rowFits old new G m (leaving (new .table) (newOf m .0)) k)
+abbrev pub Rules : Compared → Graph → Type 0
+Rules X G =
+    (m k : ℕ) → m < 4096 → mark G m ≢ 0 → k < 2 → k < size (leaving (X .new .table) (newOf m .0))
+    → Says (rowFits X G m (leaving (X .new .table) (newOf m .0)) k)
 
-module _ (old new : Chart) (G : Graph) (rules : Rules old new G) where
-  row-off : (m k : ℕ) → m < 4096 → mark G m ≢ 0 → k < 2 → targetFault old new G m (leaving (new .table) (newOf m .0)) k ≡ none
+module _ (X : Compared) (G : Graph) (rules : Rules X G) where
+  row-off : (m k : ℕ) → m < 4096 → mark G m ≢ 0 → k < 2 → targetFault X G m (leaving (X .new .table) (newOf m .0)) k ≡ none
   unfolding targetFault
   row-off m k b p c =
-      dite (decLt k (size (leaving (new .table) (newOf m .0))))
-      (λ l. rw (lt-ltb k (size (leaving (new .table) (newOf m .0))) l) (rw (met (rowFits old new G m (leaving (new .table) (newOf m .0)) k) (rules m k b p c l))))
-      (λ l. rw (le-ltb k (size (leaving (new .table) (newOf m .0))) (omega arith)))
+      dite (decLt k (size (leaving (X .new .table) (newOf m .0))))
+      (λ l. rw (lt-ltb k (size (leaving (X .new .table) (newOf m .0))) l) (rw (met (rowFits X G m (leaving (X .new .table) (newOf m .0)) k) (rules m k b p c l))))
+      (λ l. rw (le-ltb k (size (leaving (X .new .table) (newOf m .0))) (omega arith)))
 
-  pair-off : (m : ℕ) → m < 4096 → pairFault old new G m ≡ none
+  pair-off : (m : ℕ) → m < 4096 → pairFault X G m ≡ none
   unfolding pairFault rowsFault
   pair-off m b =
       dite (ℕ-discrete (mark G m) 0) (λ e. rw (eq-eqb (mark G m) 0 e, pairFault))
       (λ e. rw (ne-eqb (mark G m) 0 e, pairFault) (rw (row-off m 0 b e (omega arith), row-off m 1 b e (omega arith))))
 
-module _ (old new : Chart) (R : Record) where
-  pub passes : Says (sized (R .graph)) → FaultlessChart old → FaultlessChart new
-      → Says (shaped (headOf old) (headOf new) (R .start) (R .graph .marks) (R .graph .targets))
-      → Says (startFits (headOf old) (headOf new) (R .start) (R .graph .marks))
-      → Rules old new (R .graph)
-      → refusal old new R ≡ none
+module _ (X : Compared) (R : Record) where
+  pub passes : Says (sized (R .graph)) → FaultlessChart (X .old) → FaultlessChart (X .new)
+      → Says (shaped (headsOf X) (R .start) (R .graph .marks) (R .graph .targets))
+      → Says (startFits (headsOf X) (R .start) (R .graph .marks))
+      → Rules X (R .graph)
+      → refusal X R ≡ none
   unfolding refusal recordFault ruleFault broken
   passes z F H sh st rules =
       rw (
-        none-judged (bool (sized (R .graph))) old new (met (sized (R .graph)) z, F, H),
-        met (shaped (headOf old) (headOf new) (R .start) (R .graph .marks) (R .graph .targets)) sh,
-        met (startFits (headOf old) (headOf new) (R .start) (R .graph .marks)) st,
-        none-everywhere (pairFault old new (R .graph)) 4096 (λ m b. pair-off old new (R .graph) rules m b),
+        none-judged (bool (sized (R .graph))) X (met (sized (R .graph)) z, F, H),
+        met (shaped (headsOf X) (R .start) (R .graph .marks) (R .graph .targets)) sh,
+        met (startFits (headsOf X) (R .start) (R .graph .marks)) st,
+        none-everywhere (pairFault X (R .graph)) 4096 (λ m b. pair-off X (R .graph) rules m b),
       )

@@ -13,7 +13,7 @@ use lib.ListN.{getD}
 use Rattle.base.specs.Says.{every, bool, Says}
 use Rattle.base.proofs.Says.{every-at}
 use Rattle.base.proofs.Tests.{and-false, or-none, T-true}
-use Rattle.chart.specs.declared.charts.Head.{Head}
+use Rattle.chart.specs.declared.charts.Heads.{Heads}
 use Rattle.chart.specs.declared.places.OldPlace.{OldPlace}
 use Rattle.chart.specs.declared.places.NewPlace.{NewPlace}
 use Rattle.chart.specs.Places.{oldOf, newOf, startPair, startKept}
@@ -136,43 +136,43 @@ unless-0 x b {s} {t} h = go (ℕ-discrete x 0)
     go (no n) = rw (h n)
 
 -- a mark at old place p and new place j
-module _ (old new : Head) (p j x : ℕ) (l : j < 64) where
+module _ (heads : Heads) (p j x : ℕ) (l : j < 64) where
   new-place : (64 * p + j) % 64 ≡ j
   new-place = omega arith
 
   old-place : (64 * p + j) / 64 ≡ p
   old-place = omega arith
 
-  kept-fits : (n : ℕ) → p ≡ 64 → ltb j n ≡ ltb j (new .places)
-      → eqb x 0 || (ltb j n && (not (eqb x 1) && leb x 2)) ≡ bool (markFits old new (64 * p + j) x)
+  kept-fits : (n : ℕ) → p ≡ 64 → ltb j n ≡ ltb j (heads .new .places)
+      → eqb x 0 || (ltb j n && (not (eqb x 1) && leb x 2)) ≡ bool (markFits heads (64 * p + j) x)
   kept-fits n e t =
       rw (t, new-place, le-ltb (64 * p + j) 4096 (omega arith), le-leb 4096 (64 * p + j) (omega arith))
-      (unless-0 x (ltb j (new .places)) (kept-mark x))
+      (unless-0 x (ltb j (heads .new .places)) (kept-mark x))
 
-  pair-fits : (n : ℕ) → p < 64 → ltb p (old .places) ≡ true → ltb j n ≡ ltb j (new .places)
-      → eqb x 0 || (ltb j n && (not (eqb x 2) && leb x 4)) ≡ bool (markFits old new (64 * p + j) x)
+  pair-fits : (n : ℕ) → p < 64 → ltb p (heads .old .places) ≡ true → ltb j n ≡ ltb j (heads .new .places)
+      → eqb x 0 || (ltb j n && (not (eqb x 2) && leb x 4)) ≡ bool (markFits heads (64 * p + j) x)
   pair-fits n u o t =
       rw (t, new-place, lt-ltb (64 * p + j) 4096 (omega arith), lt-leb 4096 (64 * p + j) (omega arith), old-place, o)
-      (unless-0 x (ltb j (new .places)) (λ z. pair-mark x z ∙ sym (or-none (eqb x 1 || (eqb x 3 || eqb x 4)))))
+      (unless-0 x (ltb j (heads .new .places)) (λ z. pair-mark x z ∙ sym (or-none (eqb x 1 || (eqb x 3 || eqb x 4)))))
 
-  none-fits : p < 64 → ltb p (old .places) ≡ false → eqb x 0 ≡ bool (markFits old new (64 * p + j) x)
+  none-fits : p < 64 → ltb p (heads .old .places) ≡ false → eqb x 0 ≡ bool (markFits heads (64 * p + j) x)
   none-fits u o =
       rw (new-place, lt-ltb (64 * p + j) 4096 (omega arith), lt-leb 4096 (64 * p + j) (omega arith), old-place, o)
-      (sym (rw (and-false (ltb j (new .places))) (or-none (eqb x 0))))
+      (sym (rw (and-false (ltb j (heads .new .places))) (or-none (eqb x 0))))
 
 -- the 64 marks at old place p, where n of them are of places that exist
-module _ (old new : Head) (marks : List ℕ) (p n : ℕ) (there : (j : ℕ) → j < 64 → ltb j n ≡ ltb j (new .places)) where
+module _ (heads : Heads) (marks : List ℕ) (p n : ℕ) (there : (j : ℕ) → j < 64 → ltb j n ≡ ltb j (heads .new .places)) where
   abbrev x : ℕ → ℕ
   x j = getD marks (64 * p + j) 0
 
   abbrev fits : ℕ → Bool
-  fits j = bool (markFits old new (64 * p + j) (x j))
+  fits j = bool (markFits heads (64 * p + j) (x j))
 
   pub place-kept : {b : Bool} → p ≡ 64 → b ≡ every 64 (λ j. eqb (x j) 0 || (ltb j n && (not (eqb (x j) 1) && leb (x j) 2))) → b ≡ every 64 fits
   place-kept e h =
-      h ∙ all-same (λ j. eqb (x j) 0 || (ltb j n && (not (eqb (x j) 1) && leb (x j) 2))) fits 64 (λ j l. kept-fits old new p j (x j) l n e (there j l))
+      h ∙ all-same (λ j. eqb (x j) 0 || (ltb j n && (not (eqb (x j) 1) && leb (x j) 2))) fits 64 (λ j l. kept-fits heads p j (x j) l n e (there j l))
 
-  module _ (k : ℕ) (l : p < 65) (m : p ≡ 64 → ⊥) (there-old : (j : ℕ) → j < 64 → ltb j k ≡ ltb j (old .places)) where
+  module _ (k : ℕ) (l : p < 65) (m : p ≡ 64 → ⊥) (there-old : (j : ℕ) → j < 64 → ltb j k ≡ ltb j (heads .old .places)) where
     pair : p < 64
     pair = omega arith
 
@@ -180,10 +180,10 @@ module _ (old new : Head) (marks : List ℕ) (p n : ℕ) (there : (j : ℕ) → 
     place-pairs u h =
         h
         ∙ all-same (λ j. eqb (x j) 0 || (ltb j n && (not (eqb (x j) 2) && leb (x j) 4))) fits 64
-        (λ j l. pair-fits old new p j (x j) l n pair (sym (there-old p pair) ∙ lt-ltb p k u) (there j l))
+        (λ j l. pair-fits heads p j (x j) l n pair (sym (there-old p pair) ∙ lt-ltb p k u) (there j l))
 
     pub place-none : {b : Bool} → k ≤ p → b ≡ every 64 (λ j. eqb (x j) 0) → b ≡ every 64 fits
-    place-none u h = h ∙ all-same (λ j. eqb (x j) 0) fits 64 (λ j l. none-fits old new p j (x j) l pair (sym (there-old p pair) ∙ le-ltb p k u))
+    place-none u h = h ∙ all-same (λ j. eqb (x j) 0) fits 64 (λ j l. none-fits heads p j (x j) l pair (sym (there-old p pair) ∙ le-ltb p k u))
 
 -- ---- targets
 pub wrapped-fits : (t r : ℕ) → t < 65536 → r ≡ (t + 1) % 65536 → leb r 4160 ≡ bool (targetFits t)
@@ -199,22 +199,22 @@ unfolding targetsFit
 fits-at targets i h l = h i l
 
 -- ---- the start: n is the pair of both starts, k the kept new start
-module _ (old new : Head) (marks : List ℕ) where
-  pub start-unmarked : (s : ℕ) {n : ℕ} → n ≡ startPair old new → s ≡ n → (getD marks n 0 ≡ 1 → ⊥) → false ≡ bool (startFits old new s marks)
+module _ (heads : Heads) (marks : List ℕ) where
+  pub start-unmarked : (s : ℕ) {n : ℕ} → n ≡ startPair heads → s ≡ n → (getD marks n 0 ≡ 1 → ⊥) → false ≡ bool (startFits heads s marks)
   unfolding startFits
   start-unmarked s z e m = rw (e ∙ z, ne-eqb (getD marks 0 0) 1 (λ y. m (rw z y)))
 
-  pub start-pair : (s : ℕ) {n : ℕ} {r : Bool} {p : OldPlace} {q : NewPlace} → n ≡ startPair old new → s ≡ n → getD marks n 0 ≡ 1 → p ≡ oldOf n → q ≡ newOf n
-      → r ≡ bool (fair (old .alarm) (new .alarm) p q) → r ≡ bool (startFits old new s marks)
+  pub start-pair : (s : ℕ) {n : ℕ} {r : Bool} {p : OldPlace} {q : NewPlace} → n ≡ startPair heads → s ≡ n → getD marks n 0 ≡ 1 → p ≡ oldOf n → q ≡ newOf n
+      → r ≡ bool (fair heads p q) → r ≡ bool (startFits heads s marks)
   unfolding startFits
   start-pair s {q = q} z e m a b h =
-      h ∙ ap (λ (p : OldPlace). bool (fair (old .alarm) (new .alarm) p q)) (rw z at a) ∙ ap (λ (q : NewPlace). bool (fair (old .alarm) (new .alarm) (oldOf 0) q)) (rw z at b)
-      ∙ sym (rw (e ∙ z, eq-eqb (getD marks 0 0) 1 (rw z at m)) (or-none (bool (fair (old .alarm) (new .alarm) (oldOf 0) (newOf 0)))))
+      h ∙ ap (λ (p : OldPlace). bool (fair heads p q)) (rw z at a) ∙ ap (λ (q : NewPlace). bool (fair heads (oldOf 0) q)) (rw z at b)
+      ∙ sym (rw (e ∙ z, eq-eqb (getD marks 0 0) 1 (rw z at m)) (or-none (bool (fair heads (oldOf 0) (newOf 0)))))
 
-  pub start-kept : (s : ℕ) {k : ℕ} {r : Bool} → k ≡ startKept new → s ≡ k → r ≡ eqb (getD marks k 0) 2 → r ≡ bool (startFits old new s marks)
+  pub start-kept : (s : ℕ) {k : ℕ} {r : Bool} → k ≡ startKept heads → s ≡ k → r ≡ eqb (getD marks k 0) 2 → r ≡ bool (startFits heads s marks)
   unfolding startFits
   start-kept s z e h = rw (e ∙ z) (rw z at h)
 
-  pub start-none : (s : ℕ) {n k : ℕ} → n ≡ startPair old new → k ≡ startKept new → (s ≡ n → ⊥) → (s ≡ k → ⊥) → false ≡ bool (startFits old new s marks)
+  pub start-none : (s : ℕ) {n k : ℕ} → n ≡ startPair heads → k ≡ startKept heads → (s ≡ n → ⊥) → (s ≡ k → ⊥) → false ≡ bool (startFits heads s marks)
   unfolding startFits
   start-none s y z m n = rw (ne-eqb s 0 (λ e. m (e ∙ sym y)), ne-eqb s 4096 (λ e. n (e ∙ sym z)))

@@ -32,6 +32,7 @@ use Rattle.chart.proofs.Parts.{part-right}
 use Rattle.records.specs.Records.{Graph, mark, setAt, target, index}
 use Rattle.checker.specs.Rules.{targetFits, keeps, joins, joinsStep, restsAt, ranked, leads, rowFits, spot}
 use Rattle.checker.specs.Checks.{targetFault, rowsFault, pairFault}
+use Rattle.chart.specs.Compared.{Compared}
 
 -- a place is known by its number
 abbrev placed : {q : NewPlace} {x : ℕ} → q .0 ≡ x → q ≡ record { 0 = x }
@@ -114,32 +115,32 @@ module _ (new : Chart) (F : FaultlessChart new) {rows : List ℕ} (p k : ℕ) (e
 pub pair-below : {p : OldPlace} (m : ℕ) → p ≡ oldOf m → m < 4096 → p .0 < 64
 pair-below m e l = subst (λ (p : OldPlace). p .0 < 64) (sym e) (omega arith)
 
-module _ (old new : Chart) (G : Graph) (m : ℕ) (o : Operation) (x t : ℕ) {p : OldPlace} {a : Option Spot} (e : p ≡ oldOf m)
-    (s : a ≡ step old new (record { place = p; set = setAt G m }) o (record { 0 = x })) where
-  same-step : a ≡ step old new (spot G m) o (record { 0 = x })
-  same-step = s ∙ ap (λ (p : OldPlace). step old new (record { place = p; set = setAt G m }) o (record { 0 = x })) e
+module _ (X : Compared) (G : Graph) (m : ℕ) (o : Operation) (x t : ℕ) {p : OldPlace} {a : Option Spot} (e : p ≡ oldOf m)
+    (s : a ≡ step X (record { place = p; set = setAt G m }) o (record { 0 = x })) where
+  same-step : a ≡ step X (spot G m) o (record { 0 = x })
+  same-step = s ∙ ap (λ (p : OldPlace). step X (record { place = p; set = setAt G m }) o (record { 0 = x })) e
 
-  pub stepped-below : (h : Spot) → FaultlessChart old → m < 4096 → a ≡ some h → h .place .0 < 64
-  stepped-below h F l z = on-at _ (step-below old F new (spot G m) o (record { 0 = x }) (omega arith)) (sym same-step ∙ z)
+  pub stepped-below : (h : Spot) → FaultlessChart (X .old) → m < 4096 → a ≡ some h → h .place .0 < 64
+  stepped-below h F l z = on-at _ (step-below X F (spot G m) o (record { 0 = x }) (omega arith)) (sym same-step ∙ z)
 
-  pub joins-failed : a ≡ none → false ≡ joinsStep (G .marks) (G .sets) (record { 0 = x }) t (step old new (spot G m) o (record { 0 = x }))
+  pub joins-failed : a ≡ none → false ≡ joinsStep (G .marks) (G .sets) (record { 0 = x }) t (step X (spot G m) o (record { 0 = x }))
   unfolding joinsStep
   joins-failed z = ap (joinsStep (G .marks) (G .sets) (record { 0 = x }) t) (sym (sym same-step ∙ z))
 
   pub joins-stepped : (h : Spot) {q : NewPlace} {r : Bool} → a ≡ some h → q .0 ≡ x → r ≡ bool (joins (G .marks) (G .sets) q t h)
-      → r ≡ joinsStep (G .marks) (G .sets) (record { 0 = x }) t (step old new (spot G m) o (record { 0 = x }))
+      → r ≡ joinsStep (G .marks) (G .sets) (record { 0 = x }) t (step X (spot G m) o (record { 0 = x }))
   unfolding joinsStep
   joins-stepped h {q} z w k =
       k ∙ ap (λ (q : NewPlace). bool (joins (G .marks) (G .sets) q t h)) (placed {q = q} {x = x} w)
       ∙ ap (joinsStep (G .marks) (G .sets) (record { 0 = x }) t) (sym (sym same-step ∙ z))
 
 -- ---- where the row may lead
-module _ (old new : Chart) (G : Graph) (m : ℕ) (o : Operation) (x t : ℕ) {p : OldPlace} {q : NewPlace} {a : Bool} (e : p ≡ oldOf m)
-    (d : a ≡ eqb (p .0) (old .alarm)) (w : q .0 ≡ x) where
-  alarm : eqb (m / 64) (old .alarm) ≡ a
-  alarm = sym (d ∙ ap (λ (p : OldPlace). eqb (p .0) (old .alarm)) e)
+module _ (X : Compared) (G : Graph) (m : ℕ) (o : Operation) (x t : ℕ) {p : OldPlace} {q : NewPlace} {a : Bool} (e : p ≡ oldOf m)
+    (d : a ≡ eqb (p .0) (X .old .head .alarm)) (w : q .0 ≡ x) where
+  alarm : eqb (m / 64) (X .old .head .alarm) ≡ a
+  alarm = sym (d ∙ ap (λ (p : OldPlace). eqb (p .0) (X .old .head .alarm)) e)
 
-  pub leads-resting : {r : Bool} → a ≡ true → r ≡ bool (restsAt (G .marks) q t) → r ≡ bool (leads old new G m o (record { 0 = x }) t)
+  pub leads-resting : {r : Bool} → a ≡ true → r ≡ bool (restsAt (G .marks) q t) → r ≡ bool (leads X G m o (record { 0 = x }) t)
   unfolding leads
   leads-resting u h = h ∙ ap (λ (q : NewPlace). bool (restsAt (G .marks) q t)) (placed {q = q} {x = x} w) ∙ sym (rw (alarm ∙ u) (or-none (bool (restsAt (G .marks) (record { 0 = x }) t))))
 
@@ -147,69 +148,69 @@ module _ (old new : Chart) (G : Graph) (m : ℕ) (o : Operation) (x t : ℕ) {p 
     kept-so : bool (keeps (G .marks) (record { 0 = x }) t) ≡ k
     kept-so = sym (h ∙ ap (λ (q : NewPlace). bool (keeps (G .marks) q t)) (placed {q = q} {x = x} w))
 
-    pub leads-kept : k ≡ true → true ≡ bool (leads old new G m o (record { 0 = x }) t)
+    pub leads-kept : k ≡ true → true ≡ bool (leads X G m o (record { 0 = x }) t)
     unfolding leads
     leads-kept v = rw (alarm ∙ u, kept-so ∙ v)
 
-    pub leads-stepped : {r : Bool} → k ≡ false → r ≡ joinsStep (G .marks) (G .sets) (record { 0 = x }) t (step old new (spot G m) o (record { 0 = x }))
-        → r ≡ bool (leads old new G m o (record { 0 = x }) t)
+    pub leads-stepped : {r : Bool} → k ≡ false → r ≡ joinsStep (G .marks) (G .sets) (record { 0 = x }) t (step X (spot G m) o (record { 0 = x }))
+        → r ≡ bool (leads X G m o (record { 0 = x }) t)
     unfolding leads
     leads-stepped v j = rw (alarm ∙ u, kept-so ∙ v) j
 
-module _ (old new : Chart) (G : Graph) (m : ℕ) (rows : List ℕ) (k : ℕ) {l : Bool} (e : l ≡ bool (leads old new G m (operation rows k) (record { 0 = to rows k }) (target G m k))) where
-  pub row-astray : l ≡ false → false ≡ bool (rowFits old new G m rows k)
+module _ (X : Compared) (G : Graph) (m : ℕ) (rows : List ℕ) (k : ℕ) {l : Bool} (e : l ≡ bool (leads X G m (operation rows k) (record { 0 = to rows k }) (target G m k))) where
+  pub row-astray : l ≡ false → false ≡ bool (rowFits X G m rows k)
   unfolding rowFits
   row-astray u = rw (sym e ∙ u)
 
-  pub row-ranked : {r : Bool} → l ≡ true → r ≡ bool (ranked (G .marks) m (target G m k)) → r ≡ bool (rowFits old new G m rows k)
+  pub row-ranked : {r : Bool} → l ≡ true → r ≡ bool (ranked (G .marks) m (target G m k)) → r ≡ bool (rowFits X G m rows k)
   unfolding rowFits
   row-ranked u h = rw (sym e ∙ u) h
 
 -- ---- the fault of a target and of a pair
-module _ (old new : Chart) (G : Graph) (m : ℕ) (rows : List ℕ) (k : ℕ) where
-  pub no-row : size rows ≤ k → none ≡ targetFault old new G m rows k
+module _ (X : Compared) (G : Graph) (m : ℕ) (rows : List ℕ) (k : ℕ) where
+  pub no-row : size rows ≤ k → none ≡ targetFault X G m rows k
   unfolding targetFault
   no-row l = rw (le-ltb k (size rows) l)
 
-  module _ {r : Bool} (l : k < size rows) (e : r ≡ bool (rowFits old new G m rows k)) where
-    pub row-fine : r ≡ true → none ≡ targetFault old new G m rows k
+  module _ {r : Bool} (l : k < size rows) (e : r ≡ bool (rowFits X G m rows k)) where
+    pub row-fine : r ≡ true → none ≡ targetFault X G m rows k
     unfolding targetFault
     row-fine u = rw (lt-ltb k (size rows) l, sym e ∙ u)
 
-    pub row-fails : r ≡ false → some (index m k) ≡ targetFault old new G m rows k
+    pub row-fails : r ≡ false → some (index m k) ≡ targetFault X G m rows k
     unfolding targetFault
     row-fails u = rw (lt-ltb k (size rows) l, sym e ∙ u)
 
 pub part-of : (t : List ℕ) (m : ℕ) {q : NewPlace} {rows : List ℕ} → q ≡ newOf m → rows ≡ leaving t (q .0) → rows ≡ leaving t (newOf m .0)
 part-of t m e h = h ∙ ap (λ (q : NewPlace). leaving t (q .0)) e
 
-module _ (old new : Chart) (G : Graph) (m : ℕ) where
-  pub absent : mark G m ≡ 0 → none ≡ pairFault old new G m
+module _ (X : Compared) (G : Graph) (m : ℕ) where
+  pub absent : mark G m ≡ 0 → none ≡ pairFault X G m
   unfolding pairFault
-  absent e = sym (pick-true (eqb (mark G m) 0) none (rowsFault old new G m (leaving (new .table) (newOf m .0))) (eq-eqb (mark G m) 0 e))
+  absent e = sym (pick-true (eqb (mark G m) 0) none (rowsFault X G m (leaving (X .new .table) (newOf m .0))) (eq-eqb (mark G m) 0 e))
 
-  pub present : {q : NewPlace} {rows : List ℕ} {r : Option ℕ} → (mark G m ≡ 0 → ⊥) → q ≡ newOf m → rows ≡ leaving (new .table) (q .0)
-      → r ≡ rowsFault old new G m rows → r ≡ pairFault old new G m
+  pub present : {q : NewPlace} {rows : List ℕ} {r : Option ℕ} → (mark G m ≡ 0 → ⊥) → q ≡ newOf m → rows ≡ leaving (X .new .table) (q .0)
+      → r ≡ rowsFault X G m rows → r ≡ pairFault X G m
   unfolding pairFault
   present n e h f =
-      f ∙ ap (rowsFault old new G m) (part-of (new .table) m e h)
-      ∙ sym (pick-false (eqb (mark G m) 0) none (rowsFault old new G m (leaving (new .table) (newOf m .0))) (ne-eqb (mark G m) 0 n))
+      f ∙ ap (rowsFault X G m) (part-of (X .new .table) m e h)
+      ∙ sym (pick-false (eqb (mark G m) 0) none (rowsFault X G m (leaving (X .new .table) (newOf m .0))) (ne-eqb (mark G m) 0 n))
 
 pub node-below : (t : ℕ) → Says (targetFits t) → (t ≡ 65535 → ⊥) → t < 4160
 node-below t (inl l) n = l
 node-below t (inr e) n = absurd (n e)
 
 -- a pair's two rows, one after the other
-pub both-rows : (old new : Chart) (G : Graph) (m : ℕ) (rows : List ℕ) → firstOf 2 (targetFault old new G m rows) ≡ rowsFault old new G m rows
+pub both-rows : (X : Compared) (G : Graph) (m : ℕ) (rows : List ℕ) → firstOf 2 (targetFault X G m rows) ≡ rowsFault X G m rows
 unfolding firstOf rowsFault
-both-rows old new G m rows = refl
+both-rows X G m rows = refl
 
 -- the walk over the pairs: one that has no fault, and absent ones after it
-pub passed-over : (old new : Chart) (G : Graph) (m r : ℕ) {o : Option ℕ} → firstOf m (pairFault old new G) ≡ none → o ≡ pairFault old new G m
-    → missing o ≡ true → ((i : ℕ) → m < i → i < r → mark G i ≡ 0) → firstOf r (pairFault old new G) ≡ none
-passed-over old new G m r {o} e h t a = none-everywhere (pairFault old new G) r (λ i l. go i l (decLt i m) (ℕ-discrete i m))
+pub passed-over : (X : Compared) (G : Graph) (m r : ℕ) {o : Option ℕ} → firstOf m (pairFault X G) ≡ none → o ≡ pairFault X G m
+    → missing o ≡ true → ((i : ℕ) → m < i → i < r → mark G i ≡ 0) → firstOf r (pairFault X G) ≡ none
+passed-over X G m r {o} e h t a = none-everywhere (pairFault X G) r (λ i l. go i l (decLt i m) (ℕ-discrete i m))
   where
-    go : (i : ℕ) → i < r → Dec (i < m) → Dec (i ≡ m) → pairFault old new G i ≡ none
-    go i l (yes u) d = none-of (pairFault old new G) m i e u
+    go : (i : ℕ) → i < r → Dec (i < m) → Dec (i ≡ m) → pairFault X G i ≡ none
+    go i l (yes u) d = none-of (pairFault X G) m i e u
     go i l (no n) (yes q) = rw q (sym h ∙ missing-none o t)
-    go i l (no n) (no d) = sym (absent old new G i (a i (omega arith) l))
+    go i l (no n) (no d) = sym (absent X G i (a i (omega arith) l))

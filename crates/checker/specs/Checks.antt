@@ -9,9 +9,10 @@ use Rattle.base.specs.Options.{when, orElse, firstOf}
 use Rattle.base.specs.declared.Refusal.{Refusal}
 use Rattle.base.specs.Refusals.{sole, due}
 use Rattle.base.specs.Says.{Test, eq, _and_, bool}
-use Rattle.chart.specs.Charts.{Chart, size, leaving}
+use Rattle.chart.specs.Compared.{Compared, headsOf}
+use Rattle.chart.specs.Charts.{size, leaving}
 use Rattle.chart.specs.Faults.{judged}
-use Rattle.chart.specs.Places.{newOf, headOf}
+use Rattle.chart.specs.Places.{newOf}
 use Rattle.checker.specs.declared.answers.Checked.{Checked}
 use Rattle.checker.specs.declared.answers.Checked.the-variants.{Passed, Refused}
 use Rattle.records.specs.Records.{Graph, Record, mark, index}
@@ -31,11 +32,11 @@ abbrev pub ruleAt : Option ℕ → Option Refusal
 ruleAt none = none
 ruleAt (some i) = some (sole 32 i)
 
-module _ (old new : Chart) (G : Graph) where
+module _ (X : Compared) (G : Graph) where
   -- the index of the target of row k of the pair's new place, if it is at fault. "Targets without a row aren't looked
   -- at."
   unfoldable pub targetFault : ℕ → List ℕ → ℕ → Option ℕ
-  targetFault m rows k = when (ltb k (size rows) && not (bool (rowFits old new G m rows k))) (index m k)
+  targetFault m rows k = when (ltb k (size rows) && not (bool (rowFits X G m rows k))) (index m k)
 
   -- "the lowest target index at fault" of a pair's two, "for a place's first and second row"
   unfoldable pub rowsFault : ℕ → List ℕ → Option ℕ
@@ -43,14 +44,14 @@ module _ (old new : Chart) (G : Graph) where
 
   -- "For each present pair"
   unfoldable pub pairFault : ℕ → Option ℕ
-  pairFault m = elim (eqb (mark G m) 0) [ true ↦ none | false ↦ rowsFault m (leaving (new .table) (newOf m .0)) ]
+  pairFault m = elim (eqb (mark G m) 0) [ true ↦ none | false ↦ rowsFault m (leaving (X .new .table) (newOf m .0)) ]
 
-module _ (old new : Chart) (R : Record) where
+module _ (X : Compared) (R : Record) where
   -- "position 8,192 for the start, else the lowest target index at fault"
   unfoldable pub broken : Option ℕ
   broken =
-      orElse (when (not (bool (startFits (headOf old) (headOf new) (R .start) (R .graph .marks)))) 8192)
-      (firstOf 4096 (pairFault old new (R .graph)))
+      orElse (when (not (bool (startFits (headsOf X) (R .start) (R .graph .marks)))) 8192)
+      (firstOf 4096 (pairFault X (R .graph)))
 
   -- "Then 32, a rule fails"
   unfoldable pub ruleFault : Option Refusal
@@ -59,9 +60,9 @@ module _ (old new : Chart) (R : Record) where
   -- "A record's maker, after both charts: 31 [..]. Then 32"
   unfoldable pub recordFault : Option Refusal
   recordFault =
-      orElse (due (not (bool (shaped (headOf old) (headOf new) (R .start) (R .graph .marks) (R .graph .targets)))) 31 0)
+      orElse (due (not (bool (shaped (headsOf X) (R .start) (R .graph .marks) (R .graph .targets)))) 31 0)
       ruleFault
 
   -- the refusal that is due, if any: "A record's maker, after both charts"
   unfoldable pub refusal : Option Refusal
-  refusal = orElse (judged (bool (sized (R .graph))) old new) recordFault
+  refusal = orElse (judged (bool (sized (R .graph))) X) recordFault

@@ -6,14 +6,14 @@ use mathlib.Core.Bool.{true}
 use mathlib.Core.List.{List}
 use Prim.Native.Nat.{ℕ}
 use Rattle.operations.specs.Values.{Values}
-use Rattle.chart.specs.Charts.{Chart}
+use Rattle.chart.specs.Compared.{Compared}
 use Rattle.chart.specs.Runs.{reaches}
 use Rattle.records.specs.Records.{Record}
 use Rattle.checker.specs.Following.{covered}
 
 -- "a single claim about the whole list of rows of a run": where one of the new chart, from any 64 values, reaches its
 -- alarm and is covered, "some list of the old chart's rows from the same 64 values" is a run that reaches the old alarm
-abbrev pub Promise : Chart → Chart → Record → Type 0
-Promise old new R =
-    (v is : List ℕ) → Values v → reaches new v is ≡ true → covered new R is ≡ true
-    → (js : List ℕ) × (reaches old v js ≡ true)
+abbrev pub Promise : Compared → Record → Type 0
+Promise X R =
+    (v is : List ℕ) → Values v → reaches (X .new) v is ≡ true → covered (X .new) R is ≡ true
+    → (js : List ℕ) × (reaches (X .old) v js ≡ true)

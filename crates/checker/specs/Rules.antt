@@ -7,9 +7,10 @@ use Prim.Native.Nat.{ℕ}
 use lib.ListN.{getD}
 use Rattle.base.specs.Says.{Test, eq, ne, le, so, _and_, _or_, each, below, bool}
 use Rattle.operations.specs.declared.Operation.{Operation}
-use Rattle.chart.specs.declared.charts.Head.{Head}
+use Rattle.chart.specs.declared.charts.Heads.{Heads}
 use Rattle.chart.specs.declared.places.NewPlace.{NewPlace}
-use Rattle.chart.specs.Charts.{Chart, to, operation}
+use Rattle.chart.specs.Compared.{Compared}
+use Rattle.chart.specs.Charts.{to, operation}
 use Rattle.chart.specs.Places.{pairNumber, keptNumber, oldOf, newOf, oldStart, newStart, startPair, startKept}
 use Rattle.align.specs.declared.spots.Spot.{Spot}
 use Rattle.sets.specs.Sets.{holdsAll}
@@ -22,20 +23,20 @@ spot G m = record { place = oldOf m; set = setAt G m }
 
 -- ---- refusal 31
 -- "start neither 0 nor 4,096"
-abbrev pub startNamed : Head → Head → ℕ → Test
-startNamed old new s = eq s (startPair old new) or eq s (startKept new)
+abbrev pub startNamed : Heads → ℕ → Test
+startNamed heads s = eq s (startPair heads) or eq s (startKept heads)
 
 -- a mark x of node n: none is "above 4", "on places that don't exist", "a pair marked 2 or a kept node marked 1, 3 or
 -- 4". The new place of a node of either kind is its number modulo 64
-abbrev pub markFits : Head → Head → ℕ → ℕ → Test
-markFits old new n x =
+abbrev pub markFits : Heads → ℕ → ℕ → Test
+markFits heads n x =
     eq x 0
-    or below (newOf n .0) (new .places)
-    and (below n 4096 and below (oldOf n .0) (old .places) and (eq x 1 or eq x 3 or eq x 4) or le 4096 n and eq x 2)
+    or below (newOf n .0) (heads .new .places)
+    and (below n 4096 and below (oldOf n .0) (heads .old .places) and (eq x 1 or eq x 3 or eq x 4) or le 4096 n and eq x 2)
 
 -- so of the marks of all nodes: "marks (4,160 bytes)"
-unfoldable pub marksFit : Head → Head → List ℕ → Test
-marksFit old new marks = each 4160 (λ n. markFits old new n (getD marks n 0))
+unfoldable pub marksFit : Heads → List ℕ → Test
+marksFit heads marks = each 4160 (λ n. markFits heads n (getD marks n 0))
 
 -- "a target neither below 4,160 nor 65535"
 abbrev pub targetFits : ℕ → Test
@@ -46,16 +47,16 @@ unfoldable pub targetsFit : List ℕ → Test
 targetsFit targets = each 8192 (λ i. targetFits (getD targets i 0))
 
 -- all of 31, from "31 start neither 0 nor 4,096" to "a target neither below 4,160 nor 65535": none is so
-unfoldable pub shaped : Head → Head → ℕ → List ℕ → List ℕ → Test
-shaped old new s marks targets = startNamed old new s and marksFit old new marks and targetsFit targets
+unfoldable pub shaped : Heads → ℕ → List ℕ → List ℕ → Test
+shaped heads s marks targets = startNamed heads s and marksFit heads marks and targetsFit targets
 
 -- ---- refusal 32
 -- "Start 0: mark 1, and place 0 isn't the new alarm unless it is also the old one. Start 4,096: mark 2."
-unfoldable pub startFits : Head → Head → ℕ → List ℕ → Test
-startFits old new s marks =
-    eq s (startPair old new) and eq (getD marks (startPair old new) 0) 1
-    and fair (old .alarm) (new .alarm) (oldStart old) (newStart new)
-    or eq s (startKept new) and eq (getD marks (startKept new) 0) 2
+unfoldable pub startFits : Heads → ℕ → List ℕ → Test
+startFits heads s marks =
+    eq s (startPair heads) and eq (getD marks (startPair heads) 0) 1
+    and fair heads (oldStart heads) (newStart heads)
+    or eq s (startKept heads) and eq (getD marks (startKept heads) 0) 2
 
 -- "the target is kept q2, marked 2"
 unfoldable pub keeps : List ℕ → NewPlace → ℕ → Test
@@ -83,14 +84,14 @@ ranked marks m t =
     or eq (getD marks m 0) 1 and le 1 (getD marks t 0) and le (getD marks t 0) 3
     or ne (getD marks m 0) 1 and le 3 (getD marks t 0) and le (getD marks t 0) 4
 
-module _ (old new : Chart) (G : Graph) where
+module _ (X : Compared) (G : Graph) where
   -- a target t of the pair m by a new row with operation o that leads to q: "For each present pair whose old place
   -- isn't the old alarm", "For each present pair at the old alarm"
   unfoldable pub leads : ℕ → Operation → NewPlace → ℕ → Test
   leads m o q t =
-      eq (oldOf m .0) (old .alarm) and restsAt (G .marks) q t
-      or ne (oldOf m .0) (old .alarm)
-      and (keeps (G .marks) q t or so (joinsStep (G .marks) (G .sets) q t (step old new (spot G m) o q)))
+      eq (oldOf m .0) (X .old .head .alarm) and restsAt (G .marks) q t
+      or ne (oldOf m .0) (X .old .head .alarm)
+      and (keeps (G .marks) q t or so (joinsStep (G .marks) (G .sets) q t (step X (spot G m) o q)))
 
   -- "each of its rows q→q2", "Of these targets": what holds of the target of row k of a pair's new place; rows is the
   -- part of the new table that leaves it

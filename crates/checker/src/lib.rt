@@ -5,7 +5,7 @@ ghost use mathlib.Core.Path.{_≡_};
 ghost use mathlib.Core.Option.{none, some};
 ghost use Rattle.base.specs.Refusals.{sole};
 ghost use Rattle.base.specs.Says.{Says};
-ghost use Rattle.chart.specs.Charts.{charted};
+ghost use Rattle.chart.specs.Compared.{compared};
 ghost use Rattle.chart.specs.Faultless.{FaultlessChart};
 ghost use Rattle.records.specs.Records.{graphOf, recordOf};
 ghost use Rattle.checker.specs.Checks.{told, sized, recordFault, refusal};
@@ -13,7 +13,7 @@ ghost use Rattle.checker.specs.Promise.{Promise};
 use answers::Checked;
 use base::Found;
 use base::sole;
-use chart::charts::Head;
+use chart::charts::Heads;
 use chart::charts::Judged;
 use chart::inner::rows;
 use inner::lengths::sized;
@@ -32,30 +32,28 @@ fn refused(number: u32, position: usize) -> Checked
 
 // The record's shape before its rules.
 fn record_fault<'a>(
-    old: Head,
+    heads: Heads,
     old_rows: &'a [u32],
-    new: Head,
     new_rows: &'a [u32],
     start: u32,
     marks: &[u8],
     targets: &[u16],
     sets: &[u64],
 ) -> Checked
-    requires { ⌜ FaultlessChart (charted old (now «old_rows»)) ⌝ }
-    requires { ⌜ FaultlessChart (charted new (now «new_rows»)) ⌝ }
+    requires { ⌜ FaultlessChart (compared heads (now «old_rows») (now «new_rows») .old) ⌝ }
+    requires { ⌜ FaultlessChart (compared heads (now «old_rows») (now «new_rows») .new) ⌝ }
     requires { ⌜ Says (sized (graphOf (now marks) (now targets) (now sets))) ⌝ }
     ensures { λ r. ⌜ told r
-        ≡ recordFault (charted old (now («old_rows» .entry))) (charted new (now («new_rows» .entry)))
+        ≡ recordFault (compared heads (now («old_rows» .entry)) (now («new_rows» .entry)))
         (recordOf start (now (marks .entry)) (now (targets .entry)) (now (sets .entry))) ⌝ }
 {
-    if !shaped(old, new, start, marks, targets) {
+    if !shaped(heads, start, marks, targets) {
         return refused(31, 0);
     }
     let index = rows::index(old_rows, new_rows);
     match broken(
-        old,
+        heads,
         old_rows,
-        new,
         new_rows,
         &index,
         start,
@@ -71,9 +69,8 @@ fn record_fault<'a>(
 // The check: the refusal that is due, if any. What passes keeps the promise: a run of the new chart that reaches its
 // alarm and that the record covers has a run of the old chart, from the same values, that reaches the old alarm.
 pub fn check<'a>(
-    old: Head,
+    heads: Heads,
     old_rows: &'a [u32],
-    new: Head,
     new_rows: &'a [u32],
     start: u32,
     marks: &[u8],
@@ -81,16 +78,16 @@ pub fn check<'a>(
     sets: &[u64],
 ) -> Checked
     ensures is { λ r. ⌜ told r
-        ≡ refusal (charted old (now («old_rows» .entry))) (charted new (now («new_rows» .entry)))
+        ≡ refusal (compared heads (now («old_rows» .entry)) (now («new_rows» .entry)))
         (recordOf start (now (marks .entry)) (now (targets .entry)) (now (sets .entry))) ⌝ }
     ensures promise { λ r. ⌜ (told r ≡ none
-        → Promise (charted old (now («old_rows» .entry))) (charted new (now («new_rows» .entry)))
+        → Promise (compared heads (now («old_rows» .entry)) (now («new_rows» .entry)))
         (recordOf start (now (marks .entry)) (now (targets .entry)) (now (sets .entry)))) ⌝ }
 {
-    match chart::judged(sized(marks, targets, sets), old, old_rows, new, new_rows) {
+    match chart::judged(sized(marks, targets, sets), heads, old_rows, new_rows) {
         Judged::Refused(r) => Checked::Refused(r),
         Judged::Faultless => {
-            record_fault(old, old_rows, new, new_rows, start, marks, targets, sets)
+            record_fault(heads, old_rows, new_rows, start, marks, targets, sets)
         }
     }
 }

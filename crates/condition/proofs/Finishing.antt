@@ -17,7 +17,7 @@ use Rattle.base.proofs.Says.{says}
 use Rattle.base.proofs.Stores.{Passing, passing-none, passing-all, passing-gap}
 use Rattle.base.proofs.Tests.{and-true, T-true}
 use Rattle.base.proofs.Walks.{zeros-at}
-use Rattle.chart.specs.declared.charts.Head.{Head}
+use Rattle.chart.specs.declared.charts.Heads.{Heads}
 use Rattle.chart.specs.declared.places.OldPlace.{OldPlace}
 use Rattle.chart.specs.declared.places.NewPlace.{NewPlace}
 use Rattle.chart.specs.Places.{keptNumber, oldOf, newOf, startPair, startKept}
@@ -207,49 +207,49 @@ module _ (m : List ℕ) {b : Bool} (e : b ≡ bool (each 64 (λ j. eq (getD m (4
       mapped (redirected m) {i = length t} (passing-gap f (passing-none f t) (omega arith) (omega arith) (λ k a d. stays (getD t k 0))) (omega arith)
 
 -- ---- the lone kept start
-module _ (old new : Head) (m : List ℕ) {k : ℕ} {b : Bool} (a : k ≡ startKept new) (d : b ≡ marked m k) where
-  pub alone-kept : b ≡ true → true ≡ alone old new m
+module _ (heads : Heads) (m : List ℕ) {k : ℕ} {b : Bool} (a : k ≡ startKept heads) (d : b ≡ marked m k) where
+  pub alone-kept : b ≡ true → true ≡ alone heads m
   unfolding alone
   alone-kept t = rw (ap (marked m) (sym a) ∙ sym d ∙ t)
 
-  pub alone-not : {f : ℕ} {p : OldPlace} {q : NewPlace} {r : Bool} → b ≡ false → f ≡ startPair old new → p ≡ oldOf f → q ≡ newOf f
-      → r ≡ bool (fair (old .alarm) (new .alarm) p q) → not r ≡ alone old new m
+  pub alone-not : {f : ℕ} {p : OldPlace} {q : NewPlace} {r : Bool} → b ≡ false → f ≡ startPair heads → p ≡ oldOf f → q ≡ newOf f
+      → r ≡ bool (fair heads p q) → not r ≡ alone heads m
   unfolding alone
   alone-not t e o n h =
       let u = o ∙ ap oldOf e in
       let v = n ∙ ap newOf e in
-      rw (ap (marked m) (sym a) ∙ sym d ∙ t) (ap not (h ∙ (λ i. bool (fair (old .alarm) (new .alarm) (u i) (v i)))))
+      rw (ap (marked m) (sym a) ∙ sym d ∙ t) (ap not (h ∙ (λ i. bool (fair heads (u i) (v i)))))
 
-pub lone-is : (new : Head) {m t s w m₁ m₂ t₁ s₁ w₁ : List ℕ} {k : ℕ} → Sized (buffers m t s w) → k ≡ startKept new
+pub lone-is : (heads : Heads) {m t s w m₁ m₂ t₁ s₁ w₁ : List ℕ} {k : ℕ} → Sized (buffers m t s w) → k ≡ startKept heads
     → m₁ ≡ replicate (length m) 0 → m₂ ≡ set m₁ k 2 → t₁ ≡ replicate (length t) 65535 → s₁ ≡ replicate (length s) 0 → w₁ ≡ replicate (length w) 0
-    → buffers m₂ t₁ s₁ w₁ ≡ lone new
+    → buffers m₂ t₁ s₁ w₁ ≡ lone heads
 unfolding lone
-lone-is new z f a b c d e =
+lone-is heads z f a b c d e =
     graph-eq
-    (b ∙ (λ i. set (a i) (f i) 2) ∙ ap (λ (k : ℕ). set (replicate k 0) (startKept new) 2) (z .marks))
+    (b ∙ (λ i. set (a i) (f i) 2) ∙ ap (λ (k : ℕ). set (replicate k 0) (startKept heads) 2) (z .marks))
     (c ∙ ap (λ (k : ℕ). replicate k 65535) (z .targets))
     (d ∙ ap (λ (k : ℕ). replicate k 0) (z .sets))
     (e ∙ ap (λ (k : ℕ). replicate k 0) (z .waiting))
 
 -- its marks: one kept node, no open or covered one
-module _ (new : Head) {m t s w : List ℕ} (e : buffers m t s w ≡ lone new) where
-  is : m ≡ set (replicate 4160 0) (startKept new) 2
+module _ (heads : Heads) {m t s w : List ℕ} (e : buffers m t s w ≡ lone heads) where
+  is : m ≡ set (replicate 4160 0) (startKept heads) 2
   unfolding lone
   is = λ i. e i .marks
 
   none-at : (v k : ℕ) → 0 < v → (v ≡ 2 → ⊥) → getD m k 0 ≡ v → ⊥
-  none-at v k a b z = go (ℕ-discrete k (startKept new)) (rw is at z)
+  none-at v k a b z = go (ℕ-discrete k (startKept heads)) (rw is at z)
     where
-      go : Dec (k ≡ startKept new) → getD (set (replicate 4160 0) (startKept new) 2) k 0 ≡ v → ⊥
-      go (yes q) h = b (sym h ∙ rw q (getD-set-same {A = ℕ} (replicate 4160 0) (startKept new) 2 0 (omega arith)))
-      go (no q) h = omega (arith, h, getD-set-other {A = ℕ} (replicate 4160 0) (startKept new) k 2 0 q, zeros-at 4160 k)
+      go : Dec (k ≡ startKept heads) → getD (set (replicate 4160 0) (startKept heads) 2) k 0 ≡ v → ⊥
+      go (yes q) h = b (sym h ∙ rw q (getD-set-same {A = ℕ} (replicate 4160 0) (startKept heads) 2 0 (omega arith)))
+      go (no q) h = omega (arith, h, getD-set-other {A = ℕ} (replicate 4160 0) (startKept heads) k 2 0 q, zeros-at 4160 k)
 
   lone-none : (v : ℕ) → 0 < v → (v ≡ 2 → ⊥) → 0 ≡ count v m
   lone-none v a b = sym (count-none v m {i = 0} (omega arith) (λ k x y z. none-at v k a b z))
 
   lone-one : 1 ≡ count 2 m
   lone-one =
-      let a = count-set 2 (replicate 4160 0) (startKept new) (omega arith) (λ z. omega (arith, z, zeros-at 4160 (startKept new))) in
+      let a = count-set 2 (replicate 4160 0) (startKept heads) (omega arith) (λ z. omega (arith, z, zeros-at 4160 (startKept heads))) in
       let b = count-none 2 (replicate 4160 0) {i = 0} (omega arith) (λ k x y z. omega (arith, z, zeros-at 4160 k)) in
       omega (arith, ap (count 2) is, a, b)
 
@@ -280,22 +280,22 @@ module _ (v : ℕ) (l : List ℕ) where
   count-row {a} {n} {i} C p q = let e : i ≡ a + 64 = omega arith in (rw e at (C .same), omega (arith, C .few))
 
 -- ---- the end
-module _ (old new : Head) (m t s w : List ℕ) {b : Bool} (e : b ≡ alone old new m) where
-  pub finish-alone : {g : Buffers} → b ≡ true → g ≡ lone new → g ≡ finished old new (buffers m t s w)
+module _ (heads : Heads) (m t s w : List ℕ) {b : Bool} (e : b ≡ alone heads m) where
+  pub finish-alone : {g : Buffers} → b ≡ true → g ≡ lone heads → g ≡ finished heads (buffers m t s w)
   unfolding finished
   finish-alone q a = a ∙ rw (sym e ∙ q, finished)
 
-  pub finish-joint : {f : ℕ} {t′ m′ : List ℕ} → b ≡ false → f ≡ startPair old new → t′ ≡ map (redirected m) t → m′ ≡ finalMarks f t′ m
-      → buffers m′ t′ s w ≡ finished old new (buffers m t s w)
+  pub finish-joint : {f : ℕ} {t′ m′ : List ℕ} → b ≡ false → f ≡ startPair heads → t′ ≡ map (redirected m) t → m′ ≡ finalMarks f t′ m
+      → buffers m′ t′ s w ≡ finished heads (buffers m t s w)
   unfolding finished finalTargets
   finish-joint q c a d = graph-eq (d ∙ (λ i. finalMarks (c i) (a i) m)) a refl refl ∙ rw (sym e ∙ q, finished)
 
-module _ (old new : Head) (m : List ℕ) {b : Bool} (e : b ≡ alone old new m) where
-  start-alone : {k : ℕ} → b ≡ true → k ≡ startKept new → k ≡ startOf old new m
+module _ (heads : Heads) (m : List ℕ) {b : Bool} (e : b ≡ alone heads m) where
+  start-alone : {k : ℕ} → b ≡ true → k ≡ startKept heads → k ≡ startOf heads m
   unfolding startOf
   start-alone q c = c ∙ rw (sym e ∙ q, startOf)
 
-  start-joint : {k : ℕ} → b ≡ false → k ≡ startPair old new → k ≡ startOf old new m
+  start-joint : {k : ℕ} → b ≡ false → k ≡ startPair heads → k ≡ startOf heads m
   unfolding startOf
   start-joint q c = c ∙ rw (sym e ∙ q, startOf)
 
@@ -305,16 +305,16 @@ summary-is : {start start′ : ℕ} (m : List ℕ) {a b c : ℕ} → start ≡ s
 unfolding summary
 summary-is m e a b c = λ i. record { start = e i; opened = a i; kept = b i; covered = c i }
 
-module _ (old new : Head) (m : List ℕ) {b : Bool} (e : b ≡ alone old new m) where
-  pub summed-alone : {k : ℕ} {m₁ t₁ s₁ w₁ : List ℕ} → b ≡ true → k ≡ startKept new → buffers m₁ t₁ s₁ w₁ ≡ lone new
-      → record { start = k; opened = 0; kept = 1; covered = 0 } ≡ summary (startOf old new m) m₁
+module _ (heads : Heads) (m : List ℕ) {b : Bool} (e : b ≡ alone heads m) where
+  pub summed-alone : {k : ℕ} {m₁ t₁ s₁ w₁ : List ℕ} → b ≡ true → k ≡ startKept heads → buffers m₁ t₁ s₁ w₁ ≡ lone heads
+      → record { start = k; opened = 0; kept = 1; covered = 0 } ≡ summary (startOf heads m) m₁
   summed-alone {m₁ = m₁} q c g =
-      summary-is m₁ (start-alone old new m e q c)
-      (lone-none new g 1 (omega arith) (λ z. omega arith)) (lone-one new g) (lone-none new g 3 (omega arith) (λ z. omega arith))
+      summary-is m₁ (start-alone heads m e q c)
+      (lone-none heads g 1 (omega arith) (λ z. omega arith)) (lone-one heads g) (lone-none heads g 3 (omega arith) (λ z. omega arith))
 
-  pub summed-joint : {k r : ℕ} {c : Counts} (t m₁ : List ℕ) → b ≡ false → k ≡ startPair old new → length m ≡ 4160 → length t ≡ 8192
+  pub summed-joint : {k r : ℕ} {c : Counts} (t m₁ : List ℕ) → b ≡ false → k ≡ startPair heads → length m ≡ 4160 → length t ≡ 8192
       → (m₁ ≡ finalMarks k t m) × (c .opened ≡ count 1 m₁) × (c .covered ≡ count 3 m₁)
       → (count 2 (drop 4096 m₁) ≡ r + count 2 (drop (4096 + 64) m₁)) × (r ≤ 64)
-      → record { start = k; opened = c .opened; kept = r; covered = c .covered } ≡ summary (startOf old new m) m₁
+      → record { start = k; opened = c .opened; kept = r; covered = c .covered } ≡ summary (startOf heads m) m₁
   summed-joint {k} t m₁ q d lm lt f h =
-      summary-is m₁ (start-joint old new m e q d) (f .1) (kept-is k t m lm lt (omega arith) (f .0) h) (f .2)
+      summary-is m₁ (start-joint heads m e q d) (f .1) (kept-is k t m lm lt (omega arith) (f .0) h) (f .2)

@@ -12,9 +12,9 @@ use lib.ListN.{length, getD, set, replicate, length-map}
 use Rattle.base.specs.Says.{Test, bool, Says}
 use Rattle.base.proofs.Says.{says}
 use Rattle.base.proofs.Tests.{T-true, or-false}
-use Rattle.chart.specs.Charts.{Chart, size}
+use Rattle.chart.specs.Charts.{size}
 use Rattle.chart.specs.Faultless.{FaultlessChart}
-use Rattle.chart.specs.Places.{keptNumber, oldOf, newOf, headOf, oldStart, newStart}
+use Rattle.chart.specs.Places.{keptNumber, oldOf, newOf, oldStart, newStart}
 use Rattle.align.specs.Steps.{fair}
 use Rattle.records.specs.Records.{Graph, recordOf, graphOf, mark, index, target}
 use Rattle.words.specs.inner.Words.{Member}
@@ -29,6 +29,7 @@ use Rattle.detector.proofs.Turns.{leads-below}
 use Rattle.detector.proofs.Measure.{nothing-waits}
 use Rattle.detector.proofs.Invariant.{ToKept, ToPair, ToStep, Led, Stepped, explored-inv}
 use Rattle.marker.proofs.Marks.{rank-there, Final, final-marks}
+use Rattle.chart.specs.Compared.{Compared, headsOf}
 
 -- ---- the final targets
 map-at : (f : ℕ → ℕ) (l : List ℕ) (j : ℕ) → j < length l → getD (map f l) j 0 ≡ f (getD l j 0)
@@ -49,106 +50,106 @@ module _ (m : List ℕ) (t : ℕ) where
   unfolding redirected
   not-kept l e = rw (lt-ltb t 4096 l, redirected) (rw (marked-no m (keptNumber (newOf t)) e, redirected))
 
-module _ (old new : Chart) where
+module _ (X : Compared) where
   -- what a target t is in the end: unused, the kept node of its place, or a pair that is there
   abbrev pub Keeps : List ℕ → ℕ → ℕ → ℕ → Type 0
-  Keeps m n r t = (t ≡ keptNumber (leadsTo new n r)) × (0 < getD m (keptNumber (leadsTo new n r)) 0)
+  Keeps m n r t = (t ≡ keptNumber (leadsTo (X .new) n r)) × (0 < getD m (keptNumber (leadsTo (X .new) n r)) 0)
 
   abbrev pub Ends : List ℕ → ℕ → ℕ → ℕ → Type 0
-  Ends m n r t = (t ≡ 65535) ⊎ (Keeps m n r t ⊎ ToPair old new m n r t)
+  Ends m n r t = (t ≡ 65535) ⊎ (Keeps m n r t ⊎ ToPair X m n r t)
 
   module _ (m : List ℕ) (n r t : ℕ) where
-    kept-ends : ToKept old new m n r t → Keeps m n r (redirected m t)
+    kept-ends : ToKept X m n r t → Keeps m n r (redirected m t)
     kept-ends K =
         ⊎-elim (λ e. (far m t (omega arith) ∙ e, K .kept))
-        (λ e. let z : keptNumber (newOf t) ≡ keptNumber (leadsTo new n r) = omega (arith, e .1) in
+        (λ e. let z : keptNumber (newOf t) ≡ keptNumber (leadsTo (X .new) n r) = omega (arith, e .1) in
         (to-kept m t (e .0) (rw z (K .kept)) ∙ z, K .kept)) (K .leads)
 
-    pair-ends : ToPair old new m n r t → Keeps m n r (redirected m t) ⊎ (redirected m t ≡ t)
+    pair-ends : ToPair X m n r t → Keeps m n r (redirected m t) ⊎ (redirected m t ≡ t)
     pair-ends P =
-        let z : keptNumber (newOf t) ≡ keptNumber (leadsTo new n r) = omega (arith, P .place) in
+        let z : keptNumber (newOf t) ≡ keptNumber (leadsTo (X .new) n r) = omega (arith, P .place) in
         dite (ℕ-discrete (getD m (keptNumber (newOf t)) 0) 0) (λ e. inr (not-kept m t (P .below) e))
         (λ e. inl (to-kept m t (P .below) (omega arith) ∙ z, subst (λ (k : ℕ). 0 < getD m k 0) z (omega arith)))
 
-    led-ends : Led old new m n r t → Ends m n r (redirected m t)
+    led-ends : Led X m n r t → Ends m n r (redirected m t)
     led-ends (inl e) = inl (rw e (far m 65535 (omega arith)))
     led-ends (inr (inl K)) = inr (inl (kept-ends K))
     led-ends (inr (inr P)) = ⊎-elim (λ k. inr (inl k)) (λ e. inr (inr (rw e P))) (pair-ends P)
 
-    step-ends : (s : List ℕ) → Stepped old new m s n r t → Keeps m n r (redirected m t) ⊎ ToStep old new m s n r (redirected m t)
+    step-ends : (s : List ℕ) → Stepped X m s n r t → Keeps m n r (redirected m t) ⊎ ToStep X m s n r (redirected m t)
     step-ends s (inl K) = inl (kept-ends K)
     step-ends s (inr T) = ⊎-elim (λ k. inl k) (λ e. inr (rw e T)) (pair-ends (T .pair))
 
 -- the start is fair: it is not the new alarm without being the old one
-abbrev pub Fair : Chart → Chart → Test
-Fair old new = fair (old .alarm) (new .alarm) (oldStart (headOf old)) (newStart (headOf new))
+abbrev pub Fair : Compared → Test
+Fair X = fair (headsOf X) (oldStart (headsOf X)) (newStart (headsOf X))
 
 -- ---- a build whose start is the start pair
-module _ (old new : Chart) (F : FaultlessChart old) (H : FaultlessChart new) (joint : alone (headOf old) (headOf new) (explored old new .marks) ≡ false) where
-  pub starts : (0 < markAt (explored old new) (firstPair old new)) × Says (Fair old new)
+module _ (X : Compared) (F : FaultlessChart (X .old)) (H : FaultlessChart (X .new)) (joint : alone (headsOf X) (explored X .marks) ≡ false) where
+  pub starts : (0 < markAt (explored X) (firstPair X)) × Says (Fair X)
   unfolding alone
   starts =
-      let z = or-false (marked (explored old new .marks) (firstKept new)) (not (bool (Fair old new))) joint in
-      let k = not-marked (explored old new .marks) (firstKept new) (z .0) in
-      (⊎-elim (λ p. p) (λ p. absurd (omega arith)) (explored-inv old new F H .home), says (Fair old new) (T-true (not-false (bool (Fair old new)) (z .1))))
+      let z = or-false (marked (explored X .marks) (firstKept X)) (not (bool (Fair X))) joint in
+      let k = not-marked (explored X .marks) (firstKept X) (z .0) in
+      (⊎-elim (λ p. p) (λ p. absurd (omega arith)) (explored-inv X F H .home), says (Fair X) (T-true (not-false (bool (Fair X)) (z .1))))
 
-  pub targets-length : length (finalTargets (explored old new)) ≡ 8192
+  pub targets-length : length (finalTargets (explored X)) ≡ 8192
   unfolding finalTargets
-  targets-length = length-map (explored old new .targets) (redirected (explored old new .marks)) ∙ explored-inv old new F H .shaped .sized .targets
+  targets-length = length-map (explored X .targets) (redirected (explored X .marks)) ∙ explored-inv X F H .shaped .sized .targets
 
-  pub target-at : (i r : ℕ) → i < 4096 → r < 2 → getD (finalTargets (explored old new)) (index i r) 0 ≡ redirected (explored old new .marks) (targetAt (explored old new) i r)
+  pub target-at : (i r : ℕ) → i < 4096 → r < 2 → getD (finalTargets (explored X)) (index i r) 0 ≡ redirected (explored X .marks) (targetAt (explored X) i r)
   unfolding finalTargets
   target-at i r b c =
-      map-at (redirected (explored old new .marks)) (explored old new .targets) (index i r) (omega (arith, explored-inv old new F H .shaped .sized .targets))
+      map-at (redirected (explored X .marks)) (explored X .targets) (index i r) (omega (arith, explored-inv X F H .shaped .sized .targets))
 
   abbrev pub marks : List ℕ
-  marks = finalMarks (firstPair old new) (finalTargets (explored old new)) (explored old new .marks)
+  marks = finalMarks (firstPair X) (finalTargets (explored X)) (explored X .marks)
 
   abbrev pub left : Graph
-  left = graphOf marks (finalTargets (explored old new)) (explored old new .sets)
+  left = graphOf marks (finalTargets (explored X)) (explored X .sets)
 
-  pub final : Final (explored old new .marks) (finalTargets (explored old new)) (firstPair old new) marks
+  pub final : Final (explored X .marks) (finalTargets (explored X)) (firstPair X) marks
   final =
-      final-marks (explored old new .marks) (finalTargets (explored old new)) (firstPair old new) (explored-inv old new F H .shaped .sized .marks) targets-length (omega arith) (starts .0)
+      final-marks (explored X .marks) (finalTargets (explored X)) (firstPair X) (explored-inv X F H .shaped .sized .marks) targets-length (omega arith) (starts .0)
 
   -- a target of a pair that is there, by a row that is there
-  module _ (i r : ℕ) (b : i < 4096) (p : mark left i ≢ 0) (c : r < 2) (a : r < size (rowsOf new i)) where
-    pub here : 0 < markAt (explored old new) i
-    here = rank-there (explored old new .marks) marks (final .ranks) i (omega arith) .1
+  module _ (i r : ℕ) (b : i < 4096) (p : mark left i ≢ 0) (c : r < 2) (a : r < size (rowsOf (X .new) i)) where
+    pub here : 0 < markAt (explored X) i
+    here = rank-there (explored X .marks) marks (final .ranks) i (omega arith) .1
 
-    pub q-below : leadsTo new i r .0 < 64
-    q-below = omega (arith, leads-below old new F H i 0 r a, H .few-places)
+    pub q-below : leadsTo (X .new) i r .0 < 64
+    q-below = omega (arith, leads-below X F H i 0 r a, H .few-places)
 
-    pub ends : Ends old new (explored old new .marks) i r (target left i r)
-    ends = rw (target-at i r b c) (led-ends old new (explored old new .marks) i r (targetAt (explored old new) i r) (explored-inv old new F H .led i r b here c a))
+    pub ends : Ends X (explored X .marks) i r (target left i r)
+    ends = rw (target-at i r b c) (led-ends X (explored X .marks) i r (targetAt (explored X) i r) (explored-inv X F H .led i r b here c a))
 
-    pub steps : (oldOf i .0 ≡ old .alarm → ⊥) → Keeps old new (explored old new .marks) i r (target left i r) ⊎ ToStep old new (explored old new .marks) (explored old new .sets) i r (target left i r)
+    pub steps : (oldOf i .0 ≡ X .old .head .alarm → ⊥) → Keeps X (explored X .marks) i r (target left i r) ⊎ ToStep X (explored X .marks) (explored X .sets) i r (target left i r)
     steps n =
         rw (target-at i r b c)
-        (step-ends old new (explored old new .marks) i r (targetAt (explored old new) i r) (explored old new .sets)
-        (explored-inv old new F H .stepped i r b here (nothing-waits old new F H i b) n c a tt))
+        (step-ends X (explored X .marks) i r (targetAt (explored X) i r) (explored X .sets)
+        (explored-inv X F H .stepped i r b here (nothing-waits X F H i b) n c a tt))
 
-    pub node-two : {t : ℕ} → Keeps old new (explored old new .marks) i r t → mark left t ≡ 2
-    node-two k = rw (k .0) (final .ranks .node (keptNumber (leadsTo new i r)) (omega arith) (omega (arith, q-below)) (k .1))
+    pub node-two : {t : ℕ} → Keeps X (explored X .marks) i r t → mark left t ≡ 2
+    node-two k = rw (k .0) (final .ranks .node (keptNumber (leadsTo (X .new) i r)) (omega arith) (omega (arith, q-below)) (k .1))
 
-    pub is-there : {t : ℕ} → ToPair old new (explored old new .marks) i r t → mark left t ≢ 0
+    pub is-there : {t : ℕ} → ToPair X (explored X .marks) i r t → mark left t ≢ 0
     is-there {t} P e = ⊎-elim (λ z. omega arith) (λ z. ⊎-elim (λ y. omega arith) (λ y. omega arith) z) (final .ranks .pair t (P .below) (P .there))
 
 -- a set of pairs that covers what Algorithm 2 leaves has the start pair, unless its new place is left alone
-pub start-seen : (old new : Chart) → FaultlessChart old → FaultlessChart new → {g : Buffers} {seen : List ℕ} → g ≡ explored old new
-    → Covers seen g → alone (headOf old) (headOf new) (g .marks) ≡ false → Member seen (firstPair old new)
-start-seen old new F H {seen = seen} e C j =
-    subst (Covers seen) e C .marks (firstPair old new) (omega arith)
-    (starts old new F H (subst (λ (g : Buffers). alone (headOf old) (headOf new) (g .marks) ≡ false) e j) .0)
+pub start-seen : (X : Compared) → FaultlessChart (X .old) → FaultlessChart (X .new) → {g : Buffers} {seen : List ℕ} → g ≡ explored X
+    → Covers seen g → alone (headsOf X) (g .marks) ≡ false → Member seen (firstPair X)
+start-seen X F H {seen = seen} e C j =
+    subst (Covers seen) e C .marks (firstPair X) (omega arith)
+    (starts X F H (subst (λ (g : Buffers). alone (headsOf X) (g .marks) ≡ false) e j) .0)
 
 -- ---- what a build leaves
-module _ (old new : Chart) where
-  pub recorded-lone : alone (headOf old) (headOf new) (explored old new .marks) ≡ true
-      → recorded old new ≡ recordOf (firstKept new) (set (replicate 4160 0) (firstKept new) 2) (replicate 8192 65535) (replicate 4096 0)
+module _ (X : Compared) where
+  pub recorded-lone : alone (headsOf X) (explored X .marks) ≡ true
+      → recorded X ≡ recordOf (firstKept X) (set (replicate 4160 0) (firstKept X) 2) (replicate 8192 65535) (replicate 4096 0)
   unfolding recorded built finished startOf lone
   recorded-lone e = rw (e, finished, startOf)
 
-  pub recorded-joint : alone (headOf old) (headOf new) (explored old new .marks) ≡ false
-      → recorded old new ≡ recordOf (firstPair old new) (finalMarks (firstPair old new) (finalTargets (explored old new)) (explored old new .marks)) (finalTargets (explored old new)) (explored old new .sets)
+  pub recorded-joint : alone (headsOf X) (explored X .marks) ≡ false
+      → recorded X ≡ recordOf (firstPair X) (finalMarks (firstPair X) (finalTargets (explored X)) (explored X .marks)) (finalTargets (explored X)) (explored X .sets)
   unfolding recorded built finished startOf
   recorded-joint e = rw (e, finished, startOf)

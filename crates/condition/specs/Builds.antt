@@ -6,9 +6,9 @@ use lib.Dec.{ltb}
 use lib.ListN.{set, replicate}
 use Rattle.base.specs.Says.{bool}
 use Rattle.base.specs.Walks.{count}
-use Rattle.chart.specs.declared.charts.Head.{Head}
-use Rattle.chart.specs.Charts.{Chart}
-use Rattle.chart.specs.Places.{keptNumber, newOf, headOf, oldStart, newStart, startPair, startKept}
+use Rattle.chart.specs.declared.charts.Heads.{Heads}
+use Rattle.chart.specs.Compared.{Compared, headsOf}
+use Rattle.chart.specs.Places.{keptNumber, newOf, oldStart, newStart, startPair, startKept}
 use Rattle.align.specs.Steps.{fair}
 use Rattle.records.specs.Records.{Record}
 use Rattle.graph.specs.Buffers.{Buffers, buffers, graphIn, marked}
@@ -29,38 +29,38 @@ unfoldable pub finalTargets : Buffers → List ℕ
 finalTargets g = map (redirected (g .marks)) (g .targets)
 
 -- "the graph is node 4,096 alone, kept": every other mark 0, all targets 65535, all sets 0
-unfoldable pub lone : Head → Buffers
-lone new =
-    buffers (set (replicate 4160 0) (startKept new) 2) (replicate 8192 65535) (replicate 4096 0) (replicate 4096 0)
+unfoldable pub lone : Heads → Buffers
+lone heads =
+    buffers (set (replicate 4160 0) (startKept heads) 2) (replicate 8192 65535) (replicate 4096 0) (replicate 4096 0)
 
-module _ (old new : Head) where
+module _ (heads : Heads) where
   -- line 19: "If place 0 is kept, or is the new alarm without being the old one"
   unfoldable pub alone : List ℕ → Bool
-  alone m = marked m (startKept new) || not (bool (fair (old .alarm) (new .alarm) (oldStart old) (newStart new)))
+  alone m = marked m (startKept heads) || not (bool (fair heads (oldStart heads) (newStart heads)))
 
   -- lines 19 to 21, then Algorithm 1
   unfoldable pub finished : Buffers → Buffers
   finished g =
       elim (alone (g .marks)) [
-        | true ↦ lone new
+        | true ↦ lone heads
         | false ↦
-            buffers (finalMarks (startPair old new) (finalTargets g) (g .marks)) (finalTargets g) (g .sets) (g .waiting)
+            buffers (finalMarks (startPair heads) (finalTargets g) (g .marks)) (finalTargets g) (g .sets) (g .waiting)
       ]
 
   -- "and that is the start; else the start is 0"
   unfoldable pub startOf : List ℕ → ℕ
-  startOf m = elim (alone m) [ true ↦ startKept new | false ↦ startPair old new ]
+  startOf m = elim (alone m) [ true ↦ startKept heads | false ↦ startPair heads ]
 
 -- "The answer has the start and the counts of marks 1, 2 and 3."
 unfoldable pub summary : ℕ → List ℕ → Summary
 summary start marks = record { start = start; opened = count 1 marks; kept = count 2 marks; covered = count 3 marks }
 
-module _ (old new : Chart) where
+module _ (X : Compared) where
   -- "what a whole build without refusal, on buffers holding anything, leaves": all four buffers
   unfoldable pub built : Buffers
-  built = finished (headOf old) (headOf new) (explored old new)
+  built = finished (headsOf X) (explored X)
 
   -- the record of a build: "what a whole build without refusal, on buffers holding anything, leaves in marks, targets
   -- and sets, with the start it answers"
   unfoldable pub recorded : Record
-  recorded = record { start = startOf (headOf old) (headOf new) (explored old new .marks); graph = graphIn built }
+  recorded = record { start = startOf (headsOf X) (explored X .marks); graph = graphIn built }

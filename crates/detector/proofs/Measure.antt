@@ -12,7 +12,7 @@ use Rattle.base.proofs.Sums.{sum, sum-le, sum-lt, sum-most}
 use Rattle.base.proofs.Walks.{small-set, zeros-at}
 use Rattle.base.proofs.Repeat.{Falls, rests, repeated-keeps}
 use Rattle.chart.specs.declared.places.NewPlace.{NewPlace}
-use Rattle.chart.specs.Charts.{Chart, size}
+use Rattle.chart.specs.Charts.{size}
 use Rattle.chart.specs.Faultless.{FaultlessChart}
 use Rattle.chart.specs.Places.{pairNumber, keptNumber, newOf}
 use Rattle.sets.specs.Sets.{joined}
@@ -23,6 +23,7 @@ use Rattle.align.proofs.Steps.{Fits}
 use Rattle.sets.proofs.Sets.{join-small}
 use Rattle.graph.proofs.Graphs.{markAt, setAt, waitAt, Shaped, marked-yes, marked-no, marked-same, keep-node, keep-nodes, keep-wait, keep-mark-other, keep-set-other, keep-wait-other, keep-shaped, aimed, by-aim, aimed-shaped, join-mark, join-set, join-due, join-not-due, join-mark-other, join-set-other, join-wait-other, join-shaped, join-more, grown, due-why, unwait-shaped}
 use Rattle.detector.proofs.Turns.{by-row, set-now-small, leads-below, step-of-fits, next-waits, none-waits}
+use Rattle.chart.specs.Compared.{Compared, headsOf}
 
 -- what a pair has left: nothing more where its new place is kept; else twice the number of sets above its own, and its flag
 rest : Bool → Bool → ℕ → ℕ
@@ -130,37 +131,37 @@ pub record Lighter (g h : Buffers) : Type 0 where
   pub shaped : Shaped h
   pub less : weight h ≤ weight g
 
-module _ (old new : Chart) (F : FaultlessChart old) (G : FaultlessChart new) where
+module _ (X : Compared) (F : FaultlessChart (X .old)) (G : FaultlessChart (X .new)) where
   aim-lighter : (g h : Buffers) (n r to : ℕ) → Lighter g h → Lighter g (aim h n r to)
   aim-lighter g h n r to L =
       by-aim h n r to (Lighter g) (λ l. record { shaped = aimed-shaped h n r to (L .shaped); less = omega (arith, weight-aimed h n r to, L .less) }) (λ e. L)
 
-  pub row-lighter : (g : Buffers) (n v r : ℕ) → n < 4096 → v < 2 ^ 64 → Shaped g → Lighter g (rowDone old new g n v r)
+  pub row-lighter : (g : Buffers) (n v r : ℕ) → n < 4096 → v < 2 ^ 64 → Shaped g → Lighter g (rowDone X g n v r)
   row-lighter g n v r l k S =
-      by-row old new g n v r (Lighter g)
+      by-row X g n v r (Lighter g)
       (λ a. record { shaped = S; less = omega arith })
-      (λ a e. aim-lighter g (keep g (leadsTo new n r)) n r (keptNumber (leadsTo new n r)) (record { shaped = keep-shaped g (leadsTo new n r) S; less = weight-keep g (leadsTo new n r) (S .sized) (q-below a) }))
-      (λ a e. aim-lighter g g n r (keptNumber (leadsTo new n r)) (record { shaped = S; less = omega arith }))
-      (λ a h e f. let m = pairNumber (h .place) (leadsTo new n r) in
-      let T : Fits 64 h = step-of-fits old new F G n v r a 64 (F .few-places) (omega arith) k h e in
-      let z : keptNumber (newOf m) ≡ keptNumber (leadsTo new n r) = omega (arith, q-below a) in
-      aim-lighter g (join (old .alarm) g m (h .set)) n r m
-      (record { shaped = join-shaped (old .alarm) g m (h .set) (T .set) S; less = weight-join (old .alarm) g m (h .set) S (omega (arith, T .place, q-below a)) (rw z f) (T .set) }))
+      (λ a e. aim-lighter g (keep g (leadsTo (X .new) n r)) n r (keptNumber (leadsTo (X .new) n r)) (record { shaped = keep-shaped g (leadsTo (X .new) n r) S; less = weight-keep g (leadsTo (X .new) n r) (S .sized) (q-below a) }))
+      (λ a e. aim-lighter g g n r (keptNumber (leadsTo (X .new) n r)) (record { shaped = S; less = omega arith }))
+      (λ a h e f. let m = pairNumber (h .place) (leadsTo (X .new) n r) in
+      let T : Fits 64 h = step-of-fits X F G n v r a 64 (F .few-places) (omega arith) k h e in
+      let z : keptNumber (newOf m) ≡ keptNumber (leadsTo (X .new) n r) = omega (arith, q-below a) in
+      aim-lighter g (join (X .old .head .alarm) g m (h .set)) n r m
+      (record { shaped = join-shaped (X .old .head .alarm) g m (h .set) (T .set) S; less = weight-join (X .old .head .alarm) g m (h .set) S (omega (arith, T .place, q-below a)) (rw z f) (T .set) }))
     where
-      q-below : r < size (rowsOf new n) → leadsTo new n r .0 < 64
-      q-below a = omega (arith, leads-below old new F G n v r a, G .few-places)
+      q-below : r < size (rowsOf (X .new) n) → leadsTo (X .new) n r .0 < 64
+      q-below a = omega (arith, leads-below X F G n v r a, G .few-places)
 
-  turn-lighter : (g : Buffers) (n : ℕ) → n < 4096 → Shaped g → Lighter (unwait g n) (taken old new g n)
+  turn-lighter : (g : Buffers) (n : ℕ) → n < 4096 → Shaped g → Lighter (unwait g n) (taken X g n)
   unfolding taken secondDone
   turn-lighter g n l S =
       let v = setAt g n in
       let f = unwait g n in
       let one = row-lighter f n v 0 l (S .small n) (unwait-shaped g n S) in
-      let h = rowDone old new f n v 0 in
+      let h = rowDone X f n v 0 in
       let two = row-lighter h n (setNow (h .marks) (h .sets) n v) 1 l (set-now-small h n v (S .small n) (one .shaped)) (one .shaped) in
       record { shaped = two .shaped; less = omega (arith, one .less, two .less) }
 
-  pub turns : Falls next (taken old new) weight Shaped
+  pub turns : Falls next (taken X) weight Shaped
   turns =
       record {
         keeps = λ g n S e. turn-lighter g n (below g n S e) S .shaped;
@@ -170,7 +171,7 @@ module _ (old new : Chart) (F : FaultlessChart old) (G : FaultlessChart new) whe
       below : (g : Buffers) (n : ℕ) → Shaped g → next g ≡ some n → n < 4096
       below g n S e = omega (arith, next-waits g n e .below, S .sized .waiting)
 
-  pub begun-shaped : Shaped (begun old new)
+  pub begun-shaped : Shaped (begun (headsOf X))
   unfolding begun
   begun-shaped =
       record { sized = record { marks = refl; targets = refl; sets = refl; waiting = refl }; small = λ i. omega (arith, zeros-at 4096 i) }
@@ -181,27 +182,27 @@ module _ (old new : Chart) (F : FaultlessChart old) (G : FaultlessChart new) whe
   rest-most false false s = omega arith
   rest-most false true s = omega arith
 
-  pub begun-weight : weight (begun old new) ≤ 2 ^ 80
+  pub begun-weight : weight (begun (headsOf X)) ≤ 2 ^ 80
   unfolding weight left begun
   begun-weight =
       omega (
         arith,
-        sum-most 4096 (2 * (2 ^ 64 + 1) + 1) (left (begun old new))
+        sum-most 4096 (2 * (2 ^ 64 + 1) + 1) (left (begun (headsOf X)))
             (λ i. omega (
               arith,
               small-set 2 (replicate 4096 0) 0 1 (omega arith) (λ j. omega (arith, zeros-at 4096 j)) i,
-              rest-most (marked (begun old new .marks) (keptNumber (newOf i))) (marked (begun old new .marks) i) (setAt (begun old new) i),
+              rest-most (marked (begun (headsOf X) .marks) (keptNumber (newOf i))) (marked (begun (headsOf X) .marks) i) (setAt (begun (headsOf X)) i),
             )),
       )
 
   -- the turns suffice: nothing waits at the end
-  pub explored-rests : next (explored old new) ≡ none
+  pub explored-rests : next (explored X) ≡ none
   unfolding explored
-  explored-rests = rests next (taken old new) weight Shaped turns (2 ^ 80) (begun old new) begun-shaped begun-weight
+  explored-rests = rests next (taken X) weight Shaped turns (2 ^ 80) (begun (headsOf X)) begun-shaped begun-weight
 
-  pub explored-shaped : Shaped (explored old new)
+  pub explored-shaped : Shaped (explored X)
   unfolding explored
-  explored-shaped = repeated-keeps next (taken old new) Shaped (turns .keeps) (2 ^ 80) (begun old new) begun-shaped
+  explored-shaped = repeated-keeps next (taken X) Shaped (turns .keeps) (2 ^ 80) (begun (headsOf X)) begun-shaped
 
-  pub nothing-waits : (i : ℕ) → i < 4096 → waitAt (explored old new) i ≡ 0
-  nothing-waits i l = none-waits (explored old new) explored-rests i (omega (arith, explored-shaped .sized .waiting))
+  pub nothing-waits : (i : ℕ) → i < 4096 → waitAt (explored X) i ≡ 0
+  nothing-waits i l = none-waits (explored X) explored-rests i (omega (arith, explored-shaped .sized .waiting))

@@ -26,12 +26,14 @@ use Rattle.detector.specs.Turns.{rowsOf, leadsTo, setNow, stepOf, proces
 use Rattle.graph.proofs.Graphs.{marked-yes, marked-no}
 use Rattle.graph.proofs.Tracking.{unwait-tracks}
 use Rattle.detector.proofs.Turns.{step-of-fits}
+use Rattle.chart.specs.Compared.{Compared}
 
+-- ---- the part of the new table that leaves the pair's new place
 module _ (new : Chart) (n r : ℕ) {q′ : NewPlace} {part : List ℕ} (a : q′ ≡ newOf n) (b : part ≡ leaving (new .table) (q′ .0)) where
   part-is : part ≡ rowsOf new n
   part-is = b ∙ ap (λ (x : NewPlace). leaving (new .table) (x .0)) a
 
-  pub part-there : r < length part / 6 → r < size (rowsOf new n)
+  part-there : r < length part / 6 → r < size (rowsOf new n)
   part-there l = subst (λ (x : List ℕ). r < length x / 6) part-is l
 
   pub row-right : FaultlessChart new → r < length part / 6 → (isKnown (operation part r) ≡ true) × (operandsFit (operation part r) ≡ true)
@@ -44,23 +46,30 @@ module _ (new : Chart) (n r : ℕ) {q′ : NewPlace} {part : List ℕ} (a : q′
   pub part-below : (q : NewPlace) → FaultlessChart new → r < length part / 6 → q .0 ≡ to part r → q .0 < 64
   part-below q G l e = omega (arith, ap (λ (x : NewPlace). x .0) (part-leads q e), row-to new G (n % 64) r (part-there l), G .few-places)
 
-  module _ (old : Chart) (v : ℕ) {p : OldPlace} (came : Aligned) (o : p ≡ oldOf n)
-      (s : told came ≡ step old new (record { place = p; set = v }) (operation part r) (record { 0 = to part r })) where
-    stepped : told came ≡ stepOf old new n v r
+-- ---- the step by one of its rows
+module _ (X : Compared) (n r : ℕ) {q′ : NewPlace} {part : List ℕ} (a : q′ ≡ newOf n) (b : part ≡ leaving (X .new .table) (q′ .0)) (v : ℕ) where
+  is : part ≡ rowsOf (X .new) n
+  is = part-is (X .new) n r a b
+
+  there : r < length part / 6 → r < size (rowsOf (X .new) n)
+  there = part-there (X .new) n r a b
+
+  module _ {p : OldPlace} (came : Aligned) (o : p ≡ oldOf n) (s : told came ≡ step X (record { place = p; set = v }) (operation part r) (record { 0 = to part r })) where
+    stepped : told came ≡ stepOf X n v r
     unfolding stepOf
-    stepped = s ∙ (λ i. step old new (record { place = o i; set = v }) (operation (part-is i) r) (record { 0 = to (part-is i) r }))
+    stepped = s ∙ (λ i. step X (record { place = o i; set = v }) (operation (is i) r) (record { 0 = to (is i) r }))
 
-    pub came-fits : FaultlessChart old → FaultlessChart new → n < 4096 → v < 2 ^ 64 → r < length part / 6 → (h : Spot) → told came ≡ some h → h .place .0 < 64
-    came-fits F G l w k h e = step-of-fits old new F G n v r (part-there k) 64 (F .few-places) (omega arith) w h (sym stepped ∙ e) .place
+    pub came-fits : FaultlessChart (X .old) → FaultlessChart (X .new) → n < 4096 → v < 2 ^ 64 → r < length part / 6 → (h : Spot) → told came ≡ some h → h .place .0 < 64
+    came-fits F G l w k h e = step-of-fits X F G n v r (there k) 64 (F .few-places) (omega arith) w h (sym stepped ∙ e) .place
 
-    pub row-there : (g : Buffers) {g′ : Buffers} (q : NewPlace) → r < length part / 6 → q .0 ≡ to part r → g′ ≡ processed (old .alarm) g n r q (told came) → g′ ≡ rowDone old new g n v r
+    pub row-there : (g : Buffers) {g′ : Buffers} (q : NewPlace) → r < length part / 6 → q .0 ≡ to part r → g′ ≡ processed (X .old .head .alarm) g n r q (told came) → g′ ≡ rowDone X g n v r
     unfolding rowDone
     row-there g q l e h =
-        h ∙ (λ i. processed (old .alarm) g n r (part-leads q e i) (stepped i)) ∙ rw (lt-ltb r (size (rowsOf new n)) (part-there l), rowDone)
+        h ∙ (λ i. processed (X .old .head .alarm) g n r (part-leads (X .new) n r a b q e i) (stepped i)) ∙ rw (lt-ltb r (size (rowsOf (X .new) n)) (there l), rowDone)
 
-  pub row-spare : (old : Chart) (v : ℕ) (g : Buffers) → length part / 6 ≤ r → g ≡ rowDone old new g n v r
+  pub row-spare : (g : Buffers) → length part / 6 ≤ r → g ≡ rowDone X g n v r
   unfolding rowDone
-  row-spare old v g l = rw (le-ltb r (size (rowsOf new n)) (subst (λ (x : List ℕ). length x / 6 ≤ r) part-is l), rowDone)
+  row-spare g l = rw (le-ltb r (size (rowsOf (X .new) n)) (subst (λ (x : List ℕ). length x / 6 ≤ r) is l), rowDone)
 
 -- ---- the set of the pair in hand
 module _ (m s : List ℕ) (n v : ℕ) where
@@ -73,15 +82,15 @@ module _ (m s : List ℕ) (n v : ℕ) where
   now-had e = rw (marked-no m n e, setNow)
 
 -- ---- a turn: the pair waits no more, and its two rows are done, each under the set that it has then
-module _ (old new : Chart) (g : Buffers) (n : ℕ) where
+module _ (X : Compared) (g : Buffers) (n : ℕ) where
   -- where the loop stands before row r, with the set v, the graph h and who waits and was seen; it began with g
   pub record Turning (r v : ℕ) (h : Buffers) (waits seen : List ℕ) : Type 0 where
     pub most : r ≤ 2
     pub sized : Sized h
     pub tracks : Tracks waits seen h
     pub none-done : r ≡ 0 → (h ≡ g) × (v ≡ getD (g .sets) n 0)
-    pub one-done : r ≡ 1 → (h ≡ rowDone old new g n (getD (g .sets) n 0) 0) × (v ≡ getD (g .sets) n 0)
-    pub both-done : r ≡ 2 → h ≡ secondDone old new (rowDone old new g n (getD (g .sets) n 0) 0) n (getD (g .sets) n 0)
+    pub one-done : r ≡ 1 → (h ≡ rowDone X g n (getD (g .sets) n 0) 0) × (v ≡ getD (g .sets) n 0)
+    pub both-done : r ≡ 2 → h ≡ secondDone X (rowDone X g n (getD (g .sets) n 0) 0) n (getD (g .sets) n 0)
 
   pub turn-begins : {waits seen : List ℕ} → Sized g → Tracks waits seen g → Turning 0 (getD (g .sets) n 0) g waits seen
   turn-begins S K =
@@ -103,13 +112,13 @@ module _ (old new : Chart) (g : Buffers) (n : ℕ) where
       go true = refl
       go false = refl
 
-  second-is : {v u : ℕ} {h h′ : Buffers} → h ≡ rowDone old new g n (getD (g .sets) n 0) 0 → v ≡ getD (g .sets) n 0 → u ≡ setNow (h .marks) (h .sets) n v
-      → h′ ≡ rowDone old new h n u 1 → h′ ≡ secondDone old new (rowDone old new g n (getD (g .sets) n 0) 0) n (getD (g .sets) n 0)
+  second-is : {v u : ℕ} {h h′ : Buffers} → h ≡ rowDone X g n (getD (g .sets) n 0) 0 → v ≡ getD (g .sets) n 0 → u ≡ setNow (h .marks) (h .sets) n v
+      → h′ ≡ rowDone X h n u 1 → h′ ≡ secondDone X (rowDone X g n (getD (g .sets) n 0) 0) n (getD (g .sets) n 0)
   unfolding secondDone
-  second-is {h = h} e a b c = c ∙ (λ i. rowDone old new h n (b i) 1) ∙ (λ i. rowDone old new (e i) n (setNow (e i .marks) (e i .sets) n (a i)) 1)
+  second-is {h = h} e a b c = c ∙ (λ i. rowDone X h n (b i) 1) ∙ (λ i. rowDone X (e i) n (setNow (e i .marks) (e i .sets) n (a i)) 1)
 
   pub turn-row : (r : ℕ) {v u : ℕ} {h h′ : Buffers} {waits seen waits′ seen′ : List ℕ} → Turning r v h waits seen → r < 2
-      → u ≡ setNow (h .marks) (h .sets) n v → Tracks waits′ seen′ h′ × (h′ ≡ rowDone old new h n u r) → Sized h′ → Turning (r + 1) u h′ waits′ seen′
+      → u ≡ setNow (h .marks) (h .sets) n v → Tracks waits′ seen′ h′ × (h′ ≡ rowDone X h n u r) → Sized h′ → Turning (r + 1) u h′ waits′ seen′
   turn-row zero T l b (K, c) S =
       let z = T .none-done refl in
       let w = own-first (z .0) (z .1) b in
@@ -118,7 +127,7 @@ module _ (old new : Chart) (g : Buffers) (n : ℕ) where
         sized = S;
         tracks = K;
         none-done = λ e. absurd (omega arith);
-        one-done = λ e. (c ∙ (λ i. rowDone old new (z .0 i) n (w i) 0), w);
+        one-done = λ e. (c ∙ (λ i. rowDone X (z .0 i) n (w i) 0), w);
         both-done = λ e. absurd (omega arith);
       }
   turn-row (suc zero) T l b (K, c) S =
@@ -133,12 +142,12 @@ module _ (old new : Chart) (g : Buffers) (n : ℕ) where
       }
   turn-row (suc (suc r)) T l b c S = absurd (omega arith)
 
-pub turn-done : (old new : Chart) (m t s w : List ℕ) (n : ℕ) {w₁ waits seen : List ℕ} {r v : ℕ} {h : Buffers} → w₁ ≡ set w n 0
-    → Turning old new (buffers m t s w₁) n r v h waits seen → 2 ≤ r → Tracks waits seen h × (h ≡ taken old new (buffers m t s w) n)
+pub turn-done : (X : Compared) (m t s w : List ℕ) (n : ℕ) {w₁ waits seen : List ℕ} {r v : ℕ} {h : Buffers} → w₁ ≡ set w n 0
+    → Turning X (buffers m t s w₁) n r v h waits seen → 2 ≤ r → Tracks waits seen h × (h ≡ taken X (buffers m t s w) n)
 unfolding taken unwait
-turn-done old new m t s w n a T l = (
+turn-done X m t s w n a T l = (
   T .tracks,
-  T .both-done (omega (arith, T .most)) ∙ (λ i. secondDone old new (rowDone old new (buffers m t s (a i)) n (getD s n 0) 0) n (getD s n 0)),
+  T .both-done (omega (arith, T .most)) ∙ (λ i. secondDone X (rowDone X (buffers m t s (a i)) n (getD s n 0) 0) n (getD s n 0)),
 )
 
 pub unwait-sized : {m t s w w₁ : List ℕ} (n : ℕ) → Sized (buffers m t s w) → w₁ ≡ set w n 0 → Sized (buffers m t s w₁)

@@ -10,7 +10,7 @@ use lib.Dec.{eqb}
 use lib.ListN.{length, getD}
 use Rattle.base.proofs.OnSome.{on-at}
 use Rattle.base.proofs.Walks.{first-is, none-passes}
-use Rattle.chart.specs.Charts.{Chart, size, operation}
+use Rattle.chart.specs.Charts.{size, operation}
 use Rattle.chart.specs.Faultless.{FaultlessChart}
 use Rattle.chart.specs.Places.{pairNumber, keptNumber, oldOf, newOf}
 use Rattle.align.specs.declared.spots.Spot.{Spot}
@@ -19,49 +19,50 @@ use Rattle.detector.specs.Turns.{rowsOf, leadsTo, lowest, next, setNow, 
 use Rattle.align.proofs.Steps.{Fits, step-fits}
 use Rattle.chart.proofs.Parts.{row-to, row-a}
 use Rattle.graph.proofs.Graphs.{markAt, setAt, waitAt, marked-yes, marked-no, is-marked, not-marked, Shaped}
+use Rattle.chart.specs.Compared.{Compared}
 
-module _ (old new : Chart) (g : Buffers) (n v r : ℕ) where
-  no-row : size (rowsOf new n) ≤ r → rowDone old new g n v r ≡ g
+module _ (X : Compared) (g : Buffers) (n v r : ℕ) where
+  no-row : size (rowsOf (X .new) n) ≤ r → rowDone X g n v r ≡ g
   unfolding rowDone
-  no-row l = rw (le-ltb r (size (rowsOf new n)) l, rowDone)
+  no-row l = rw (le-ltb r (size (rowsOf (X .new) n)) l, rowDone)
 
-  a-row : r < size (rowsOf new n) → {o : Option Spot} → stepOf old new n v r ≡ o → rowDone old new g n v r ≡ processed (old .alarm) g n r (leadsTo new n r) o
+  a-row : r < size (rowsOf (X .new) n) → {o : Option Spot} → stepOf X n v r ≡ o → rowDone X g n v r ≡ processed (X .old .head .alarm) g n r (leadsTo (X .new) n r) o
   unfolding rowDone
-  a-row l e = rw (lt-ltb r (size (rowsOf new n)) l, rowDone) (ap (processed (old .alarm) g n r (leadsTo new n r)) e)
+  a-row l e = rw (lt-ltb r (size (rowsOf (X .new) n)) l, rowDone) (ap (processed (X .old .head .alarm) g n r (leadsTo (X .new) n r)) e)
 
-  fails-is : processed (old .alarm) g n r (leadsTo new n r) none ≡ aim (keep g (leadsTo new n r)) n r (keptNumber (leadsTo new n r))
+  fails-is : processed (X .old .head .alarm) g n r (leadsTo (X .new) n r) none ≡ aim (keep g (leadsTo (X .new) n r)) n r (keptNumber (leadsTo (X .new) n r))
   unfolding processed
   fails-is = refl
 
-  kept-is : (h : Spot) → marked (g .marks) (keptNumber (leadsTo new n r)) ≡ true
-      → processed (old .alarm) g n r (leadsTo new n r) (some h) ≡ aim g n r (keptNumber (leadsTo new n r))
+  kept-is : (h : Spot) → marked (g .marks) (keptNumber (leadsTo (X .new) n r)) ≡ true
+      → processed (X .old .head .alarm) g n r (leadsTo (X .new) n r) (some h) ≡ aim g n r (keptNumber (leadsTo (X .new) n r))
   unfolding processed arrived
   kept-is h e = rw (e, arrived)
 
-  joins-is : (h : Spot) → marked (g .marks) (keptNumber (leadsTo new n r)) ≡ false
-      → processed (old .alarm) g n r (leadsTo new n r) (some h)
-      ≡ aim (join (old .alarm) g (pairNumber (h .place) (leadsTo new n r)) (h .set)) n r (pairNumber (h .place) (leadsTo new n r))
+  joins-is : (h : Spot) → marked (g .marks) (keptNumber (leadsTo (X .new) n r)) ≡ false
+      → processed (X .old .head .alarm) g n r (leadsTo (X .new) n r) (some h)
+      ≡ aim (join (X .old .head .alarm) g (pairNumber (h .place) (leadsTo (X .new) n r)) (h .set)) n r (pairNumber (h .place) (leadsTo (X .new) n r))
   unfolding processed arrived
   joins-is h e = rw (e, arrived)
 
   -- there is no such row; or its step fails; or it leads to a place that is kept already; or to a pair
   pub by-row : (P : Buffers → Type 0)
-      → (size (rowsOf new n) ≤ r → P g)
-      → (r < size (rowsOf new n) → stepOf old new n v r ≡ none → P (aim (keep g (leadsTo new n r)) n r (keptNumber (leadsTo new n r))))
-      → (r < size (rowsOf new n) → 0 < markAt g (keptNumber (leadsTo new n r)) → P (aim g n r (keptNumber (leadsTo new n r))))
-      → (r < size (rowsOf new n) → (h : Spot) → stepOf old new n v r ≡ some h → markAt g (keptNumber (leadsTo new n r)) ≡ 0
-      → P (aim (join (old .alarm) g (pairNumber (h .place) (leadsTo new n r)) (h .set)) n r (pairNumber (h .place) (leadsTo new n r))))
-      → P (rowDone old new g n v r)
-  by-row P a b c d = go (decLt r (size (rowsOf new n))) (stepOf old new n v r) refl
+      → (size (rowsOf (X .new) n) ≤ r → P g)
+      → (r < size (rowsOf (X .new) n) → stepOf X n v r ≡ none → P (aim (keep g (leadsTo (X .new) n r)) n r (keptNumber (leadsTo (X .new) n r))))
+      → (r < size (rowsOf (X .new) n) → 0 < markAt g (keptNumber (leadsTo (X .new) n r)) → P (aim g n r (keptNumber (leadsTo (X .new) n r))))
+      → (r < size (rowsOf (X .new) n) → (h : Spot) → stepOf X n v r ≡ some h → markAt g (keptNumber (leadsTo (X .new) n r)) ≡ 0
+      → P (aim (join (X .old .head .alarm) g (pairNumber (h .place) (leadsTo (X .new) n r)) (h .set)) n r (pairNumber (h .place) (leadsTo (X .new) n r))))
+      → P (rowDone X g n v r)
+  by-row P a b c d = go (decLt r (size (rowsOf (X .new) n))) (stepOf X n v r) refl
     where
-      there : r < size (rowsOf new n) → (h : Spot) → stepOf old new n v r ≡ some h → (k : Bool) → marked (g .marks) (keptNumber (leadsTo new n r)) ≡ k → P (rowDone old new g n v r)
-      there l h e true t = rw (a-row l e ∙ kept-is h t) (c l (is-marked (g .marks) (keptNumber (leadsTo new n r)) t))
-      there l h e false t = rw (a-row l e ∙ joins-is h t) (d l h e (not-marked (g .marks) (keptNumber (leadsTo new n r)) t))
+      there : r < size (rowsOf (X .new) n) → (h : Spot) → stepOf X n v r ≡ some h → (k : Bool) → marked (g .marks) (keptNumber (leadsTo (X .new) n r)) ≡ k → P (rowDone X g n v r)
+      there l h e true t = rw (a-row l e ∙ kept-is h t) (c l (is-marked (g .marks) (keptNumber (leadsTo (X .new) n r)) t))
+      there l h e false t = rw (a-row l e ∙ joins-is h t) (d l h e (not-marked (g .marks) (keptNumber (leadsTo (X .new) n r)) t))
 
-      go : Dec (r < size (rowsOf new n)) → (o : Option Spot) → stepOf old new n v r ≡ o → P (rowDone old new g n v r)
+      go : Dec (r < size (rowsOf (X .new) n)) → (o : Option Spot) → stepOf X n v r ≡ o → P (rowDone X g n v r)
       go (no l) o e = rw (no-row (omega arith)) (a (omega arith))
       go (yes l) none e = rw (a-row l e ∙ fails-is) (b l e)
-      go (yes l) (some h) e = there l h e (marked (g .marks) (keptNumber (leadsTo new n r))) refl
+      go (yes l) (some h) e = there l h e (marked (g .marks) (keptNumber (leadsTo (X .new) n r))) refl
 
 -- ---- the pair in hand's set
 module _ (g : Buffers) (n v : ℕ) where
@@ -82,15 +83,15 @@ module _ (g : Buffers) (n v : ℕ) where
       go false = l
 
 -- ---- what a step comes to
-module _ (old new : Chart) (F : FaultlessChart old) (G : FaultlessChart new) (n v r : ℕ) (there : r < size (rowsOf new n)) where
-  pub leads-below : leadsTo new n r .0 < new .places
-  leads-below = row-to new G (newOf n .0) r there
+module _ (X : Compared) (F : FaultlessChart (X .old)) (G : FaultlessChart (X .new)) (n v r : ℕ) (there : r < size (rowsOf (X .new) n)) where
+  pub leads-below : leadsTo (X .new) n r .0 < X .new .head .places
+  leads-below = row-to (X .new) G (newOf n .0) r there
 
-  pub step-of-fits : (b : ℕ) → old .places ≤ b → oldOf n .0 < b → v < 2 ^ 64 → (h : Spot) → stepOf old new n v r ≡ some h → Fits b h
+  pub step-of-fits : (b : ℕ) → X .old .head .places ≤ b → oldOf n .0 < b → v < 2 ^ 64 → (h : Spot) → stepOf X n v r ≡ some h → Fits b h
   unfolding stepOf
   step-of-fits b w l k h e =
       on-at (Fits b)
-      (step-fits old F b w new (record { place = oldOf n; set = v }) (operation (rowsOf new n) r) (leadsTo new n r) (row-a new G (newOf n .0) r there)
+      (step-fits X F b w (record { place = oldOf n; set = v }) (operation (rowsOf (X .new) n) r) (leadsTo (X .new) n r) (row-a (X .new) G (newOf n .0) r there)
       (record { place = l; set = k })) e
 
 -- ---- the pair that a turn takes

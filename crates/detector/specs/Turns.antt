@@ -8,7 +8,9 @@ use lib.ListN.{getD, set, replicate}
 use Rattle.base.specs.Walks.{firstFrom}
 use Rattle.base.specs.Repeat.{repeated}
 use Rattle.chart.specs.declared.places.NewPlace.{NewPlace}
-use Rattle.chart.specs.Places.{pairNumber, keptNumber, oldOf, newOf, headOf, startPair}
+use Rattle.chart.specs.Places.{pairNumber, keptNumber, oldOf, newOf, startPair}
+use Rattle.chart.specs.declared.charts.Heads.{Heads}
+use Rattle.chart.specs.Compared.{Compared, headsOf}
 use Rattle.chart.specs.Charts.{Chart, size, to, operation, leaving}
 use Rattle.align.specs.declared.spots.Spot.{Spot}
 use Rattle.align.specs.Steps.{step}
@@ -50,23 +52,23 @@ unfoldable pub processed : ℕ → Buffers → ℕ → ℕ → NewPlace → Opti
 processed alarm g n r q none = aim (keep g q) n r (keptNumber q)
 processed alarm g n r q (some h) = arrived alarm g n r q h
 
-module _ (old new : Chart) where
-  -- line 1: "Waiting: node 0, set empty, in the graph, even where place 0 is the old alarm." "What these held before
-  -- has no effect."
-  unfoldable pub begun : Buffers
-  begun =
-      buffers (set (replicate 4160 0) (startPair (headOf old) (headOf new)) 1) (replicate 8192 65535) (replicate 4096 0)
-      (set (replicate 4096 0) (startPair (headOf old) (headOf new)) 1)
+-- line 1: "Waiting: node 0, set empty, in the graph, even where place 0 is the old alarm." "What these held before has no
+-- effect."
+unfoldable pub begun : Heads → Buffers
+begun heads =
+    buffers (set (replicate 4160 0) (startPair heads) 1) (replicate 8192 65535) (replicate 4096 0)
+    (set (replicate 4096 0) (startPair heads) 1)
 
+module _ (X : Compared) where
   -- the aligned step from pair n under the set v by the r-th row of its new place (lines 5 to 18 and 27)
   unfoldable pub stepOf : ℕ → ℕ → ℕ → Option Spot
-  stepOf n v r = step old new (record { place = oldOf n; set = v }) (operation (rowsOf new n) r) (leadsTo new n r)
+  stepOf n v r = step X (record { place = oldOf n; set = v }) (operation (rowsOf (X .new) n) r) (leadsTo (X .new) n r)
 
   -- "its rows in table order": row r of pair n, under the set v, if there is such a row (line 4)
   unfoldable pub rowDone : Buffers → ℕ → ℕ → ℕ → Buffers
   rowDone g n v r =
-      elim (ltb r (size (rowsOf new n))) [
-        | true ↦ processed (old .alarm) g n r (leadsTo new n r) (stepOf n v r)
+      elim (ltb r (size (rowsOf (X .new) n))) [
+        | true ↦ processed (X .old .head .alarm) g n r (leadsTo (X .new) n r) (stepOf n v r)
         | false ↦ g
       ]
 
@@ -81,4 +83,4 @@ module _ (old new : Chart) where
   -- line 2: as long as a pair waits. No build takes as many as 2 ^ 80 turns: nothing waits where these end, which is
   -- proved.
   unfoldable pub explored : Buffers
-  explored = repeated next taken (2 ^ 80) begun
+  explored = repeated next taken (2 ^ 80) (begun (headsOf X))

@@ -9,7 +9,6 @@ use Rattle.base.proofs.Ones.{one-there, one-only}
 use Rattle.base.proofs.Tests.{T-true}
 use Rattle.base.proofs.Walks.{zeros-at, same-at}
 use Rattle.chart.specs.Places.{keptNumber}
-use Rattle.chart.specs.Charts.{Chart}
 use Rattle.records.specs.Records.{Record, recordOf, mark, index}
 use Rattle.chart.proofs.Starts.{firstKept}
 use Rattle.paper.specs.Nodes.{SetOf, _isIn_, Pair, Node, aligned, indicator, Edge, onlyNode, number, nodeNumber, NodeNumbered}
@@ -18,18 +17,19 @@ use Rattle.paper.specs.Algorithm1.{Search}
 use Rattle.paper.specs.Returned.{Marked, Targeted, IsGraph, IsCondition}
 use Rattle.paper.proofs.Members.{in-first, only-node, the-node, number-below}
 use Rattle.paper.proofs.Searching.{within, first-found, node-below}
+use Rattle.chart.specs.Compared.{Compared}
 
-module _ (old new : Chart) where
+module _ (X : Compared) where
   abbrev pub single : Record
-  single = recordOf (firstKept new) (set (replicate 4160 0) (firstKept new) 2) (replicate 8192 65535) (replicate 4096 0)
+  single = recordOf (firstKept X) (set (replicate 4160 0) (firstKept X) 2) (replicate 8192 65535) (replicate 4096 0)
 
   abbrev first : Node
   first = indicator (record { 0 = 0 })
 
   -- the one node that is marked
   single-node : (x : Node) → NodeNumbered x → mark (single .graph) (nodeNumber x) ≢ 0 → x ≡ first
-  single-node (aligned n) B e = absurd (let z = one-only 4160 (firstKept new) 2 (number n) (omega arith) in omega (arith, number-below n B))
-  single-node (indicator q) b e = let z = one-only 4160 (firstKept new) 2 (keptNumber q) (omega arith) in ap (λ (y : ℕ). indicator (record { 0 = y })) (omega arith)
+  single-node (aligned n) B e = absurd (let z = one-only 4160 (firstKept X) 2 (number n) (omega arith) in omega (arith, number-below n B))
+  single-node (indicator q) b e = let z = one-only 4160 (firstKept X) 2 (keptNumber q) (omega arith) in ap (λ (y : ℕ). indicator (record { 0 = y })) (omega arith)
 
   first-mark : mark (single .graph) 4096 ≡ 2
   first-mark = one-there 4160 4096 2 (omega arith)
@@ -43,7 +43,7 @@ module _ (old new : Chart) where
   no-target : (e : Edge) → Targeted single e → ⊥
   no-target e t = omega (arith, t .is, same-at 8192 65535 (index (number (e .pred)) (e .row)) (omega (arith, t .two, number-below (e .pred) (t .pred))), node-below (e .succ) (t .succ))
 
-  pub lone-graph : (S : Pair → ℕ) → IsGraph single (lone old new) S
+  pub lone-graph : (S : Pair → ℕ) → IsGraph single (lone X) S
   unfolding onlyNode
   lone-graph S =
       record {
@@ -56,28 +56,28 @@ module _ (old new : Chart) where
         bare = λ n B e. zeros-at 4096 (number n);
       }
 
-  module _ {Q waits : SetOf Node} (search : Search (lone old new) Q waits) where
+  module _ {Q waits : SetOf Node} (search : Search (lone X) Q waits) where
     Q-kept : (x : Node) → x isIn Q → Marked single (λ m. (m ≡ 1) ⊎ (m ≡ 2)) x
     Q-kept =
-        within (lone old new) (Marked single (λ m. (m ≡ 1) ⊎ (m ≡ 2))) (first-so (λ m. (m ≡ 1) ⊎ (m ≡ 2)) (inr refl) first (the-node first)) (first-so (λ m. (m ≡ 1) ⊎ (m ≡ 2)) (inr refl))
+        within (lone X) (Marked single (λ m. (m ≡ 1) ⊎ (m ≡ 2))) (first-so (λ m. (m ≡ 1) ⊎ (m ≡ 2)) (inr refl) first (the-node first)) (first-so (λ m. (m ≡ 1) ⊎ (m ≡ 2)) (inr refl))
         (λ p x o D. absurd (D .edge)) search .1
 
     kept-Q : (x : Node) → Marked single (λ m. (m ≡ 1) ⊎ (m ≡ 2)) x → x isIn Q
-    kept-Q x M = first-found (lone old new) search x (in-first (onlyNode first x) (onlyNode first x) (is-first x (M .0) (λ e. ⊎-elim (λ a. omega arith) (λ a. omega arith) (M .1))))
+    kept-Q x M = first-found (lone X) search x (in-first (onlyNode first x) (onlyNode first x) (is-first x (M .0) (λ e. ⊎-elim (λ a. omega arith) (λ a. omega arith) (M .1))))
 
     not-covered : (x : Node) → Marked single (λ m. m ≡ 3) x → ⊥
     not-covered x M =
         let z = first-so (λ m. m ≡ 2) refl x (is-first x (M .0) (λ e. omega (arith, M .1))) in
         omega (arith, M .1, z .1)
 
-    pub lone-condition : IsCondition single (lone old new) Q
+    pub lone-condition : IsCondition single (lone X) Q
     lone-condition =
         record {
           highest = λ k l.
               dite (ℕ-discrete (mark (single .graph) k) 0) (λ e. omega arith)
-              (λ e. let z = one-only 4160 (firstKept new) 2 k (omega arith) in rw z (omega (arith, first-mark)));
+              (λ e. let z = one-only 4160 (firstKept X) 2 k (omega arith) in rw z (omega (arith, first-mark)));
           open-or-kept = λ x. (Q-kept x, kept-Q x);
           covered = λ x. (λ f. absurd (f .edge .edge), λ M. absurd (not-covered x M));
           transitions = λ e. (λ t. absurd (t .edge), λ t. absurd (no-target e (t .0)));
-          each = λ i r l c o u. absurd (let z = one-only 4160 (firstKept new) 2 i (omega (arith, o)) in omega arith);
+          each = λ i r l c o u. absurd (let z = one-only 4160 (firstKept X) 2 i (omega (arith, o)) in omega arith);
         }

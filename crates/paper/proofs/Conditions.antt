@@ -8,8 +8,7 @@ use native.Mathlib.Omega.{arith}
 use native.Mathlib.Decide.{decLt}
 use lib.ListN.{List·getD-eq-default}
 use Rattle.base.proofs.Tests.{T-true}
-use Rattle.chart.specs.Places.{keptNumber, newOf, headOf}
-use Rattle.chart.specs.Charts.{Chart}
+use Rattle.chart.specs.Places.{keptNumber, newOf}
 use Rattle.chart.proofs.Words.{Words}
 use Rattle.chart.specs.Faultless.{FaultlessChart}
 use Rattle.records.specs.Records.{mark, target}
@@ -30,23 +29,24 @@ use Rattle.paper.proofs.Members.{in-first, in-second, not-in, in-or-not
 use Rattle.paper.proofs.Searching.{within, first-found, closed}
 use Rattle.paper.proofs.Rows.{Reads}
 use Rattle.paper.proofs.Returning.{built-graph, left-mark, mark-most, whole-graph}
+use Rattle.chart.specs.Compared.{Compared, headsOf}
 
-module _ (old new : Chart) (F′ : FaultlessChart old) (H : FaultlessChart new) (wn : Words (new .table)) (last : State) (reads : Reads old new last (explored old new))
-    (joint : alone (headOf old) (headOf new) (explored old new .marks) ≡ false) where
+module _ (X : Compared) (F′ : FaultlessChart (X .old)) (H : FaultlessChart (X .new)) (wn : Words (X .new .table)) (last : State) (reads : Reads X last (explored X))
+    (joint : alone (headsOf X) (explored X .marks) ≡ false) where
   abbrev G : DifferenceGraph
-  G = whole old new last
+  G = whole X last
 
-  abbrev W : IsGraph (built-graph old new F′ H wn last reads joint) G (last .Vδ)
-  W = whole-graph old new F′ H wn last reads joint
+  abbrev W : IsGraph (built-graph X F′ H wn last reads joint) G (last .Vδ)
+  W = whole-graph X F′ H wn last reads joint
 
   abbrev m : ℕ → ℕ
-  m k = mark (left old new F′ H joint) k
+  m k = mark (left X F′ H joint) k
 
   abbrev to : ℕ → ℕ → ℕ
-  to i r = target (left old new F′ H joint) i r
+  to i r = target (left X F′ H joint) i r
 
   Open : Node → Type 0
-  Open x = Marked (built-graph old new F′ H wn last reads joint) (λ k. (k ≡ 1) ⊎ (k ≡ 2)) x
+  Open x = Marked (built-graph X F′ H wn last reads joint) (λ k. (k ≡ 1) ⊎ (k ≡ 2)) x
 
   -- a pair of Q is open
   pair-open : (n : Pair) → Numbered n → (m (number n) ≡ 1) ⊎ (m (number n) ≡ 2) → m (number n) ≡ 1
@@ -60,9 +60,9 @@ module _ (old new : Chart) (F′ : FaultlessChart old) (H : FaultlessChart new) 
     Q-open : (x : Node) → x isIn Q → Open x
     unfolding Open nodes
     Q-open =
-        within G Open (numbered 0 (omega arith), inl (final old new F′ H joint .start)) (λ x e. let k = W .kept x .0 e in (k .0, inr (k .1)))
+        within G Open (numbered 0 (omega arith), inl (final X F′ H joint .start)) (λ x e. let k = W .kept x .0 e in (k .0, inr (k .1)))
         (λ p x o D. let t = W .edges (edge (D .pair) (D .row) x) .0 (D .edge) in
-        let z = open-closed old new F′ H joint (number (D .pair)) (D .row) (number-below (D .pair) (t .pred)) (W .nodes (aligned (D .pair)) .0 (D .edge .from) .1) (t .two)
+        let z = open-closed X F′ H joint (number (D .pair)) (D .row) (number-below (D .pair) (t .pred)) (W .nodes (aligned (D .pair)) .0 (D .edge .from) .1) (t .two)
         (subst (λ (k : ℕ). (m k ≡ 1) ⊎ (m k ≡ 2)) (sym (t .is)) (o .1)) in
         subst Open (sym (D .is)) (t .pred, inl z)) search .1
 
@@ -76,20 +76,20 @@ module _ (old new : Chart) (F′ : FaultlessChart old) (H : FaultlessChart new) 
     Found : ℕ → Type 0
     Found k = (k < 4096) × (aligned (pairOf k) isIn Q)
 
-    found-closed : Closed (explored old new .marks) (finalTargets (explored old new)) (explored-inv old new F′ H .shaped .sized .marks) Found
+    found-closed : Closed (explored X .marks) (finalTargets (explored X)) (explored-inv X F′ H .shaped .sized .marks) Found
     unfolding Found
     found-closed i r l p c e = (l, ⊎-elim (λ f. by (aligned (pairOf (to i r))) (numbered (to i r) (f .0)) (sym (number-is (to i r))) (f .1)) (λ f. up (f .0) (f .1)) e)
       where
         by : (x : Node) → NodeNumbered x → to i r ≡ nodeNumber x → x isIn Q → aligned (pairOf i) isIn Q
         by x B z q = closed G search (aligned (pairOf i)) x q (emptied x) (record { pair = pairOf i; row = r; is = refl; edge = led i r l c x B z })
 
-        up : 4096 ≤ to i r → 0 < markAt (explored old new) (to i r) → aligned (pairOf i) isIn Q
+        up : 4096 ≤ to i r → 0 < markAt (explored X) (to i r) → aligned (pairOf i) isIn Q
         up a b =
-            let d : to i r < 4160 = dite (decLt (to i r) 4160) (λ z. z) (λ z. absurd (omega (arith, List·getD-eq-default (explored old new .marks) 0 {n = to i r} (omega (arith, explored-inv old new F′ H .shaped .sized .marks))))) in
+            let d : to i r < 4160 = dite (decLt (to i r) 4160) (λ z. z) (λ z. absurd (omega (arith, List·getD-eq-default (explored X .marks) 0 {n = to i r} (omega (arith, explored-inv X F′ H .shaped .sized .marks))))) in
             let z : to i r ≡ keptNumber (newOf (to i r)) = omega arith in
-            by (indicator (newOf (to i r))) (omega arith) z (kept-Q (indicator (newOf (to i r))) (omega arith) (subst (λ (k : ℕ). m k ≡ 2) z (final old new F′ H joint .ranks .node (to i r) a d b)))
+            by (indicator (newOf (to i r))) (omega arith) z (kept-Q (indicator (newOf (to i r))) (omega arith) (subst (λ (k : ℕ). m k ≡ 2) z (final X F′ H joint .ranks .node (to i r) a d b)))
 
-    found-first : Found (firstPair old new)
+    found-first : Found (firstPair X)
     unfolding Found
     found-first = (omega arith, first-found G search (aligned (pairOf 0)) (in-first (onlyNode (G .n₀) (aligned (pairOf 0))) (G .Δ (aligned (pairOf 0))) (the-node (aligned (pairOf 0)))))
 
@@ -99,10 +99,10 @@ module _ (old new : Chart) (F′ : FaultlessChart old) (H : FaultlessChart new) 
       where
         one : (x : Node) → NodeNumbered x → m (nodeNumber x) ≡ 1 → x isIn Q
         one (aligned n) B e =
-            let f = open-least old new F′ H joint Found found-first found-closed (number n) e in
+            let f = open-least X F′ H joint Found found-first found-closed (number n) e in
             subst (λ (k : Pair). aligned k isIn Q) (pair-is n B) (f .1)
         one (indicator q) b e =
-            absurd (let z = rank-pair (explored old new .marks) (marks old new F′ H joint) (final old new F′ H joint .ranks) (keptNumber q) (omega arith) (λ k. omega arith) in omega arith)
+            absurd (let z = rank-pair (explored X .marks) (marks X F′ H joint) (final X F′ H joint .ranks) (keptNumber q) (omega arith) (λ k. omega arith) in omega arith)
 
     not-open : (x : Node) → NodeNumbered x → x isNotIn Q → (m (nodeNumber x) ≡ 1 → ⊥) × (m (nodeNumber x) ≡ 2 → ⊥)
     unfolding Open
@@ -114,7 +114,7 @@ module _ (old new : Chart) (F′ : FaultlessChart old) (H : FaultlessChart new) 
     pair-one n e = let o = Q-open (aligned n) e in pair-open n (o .0) (o .1)
 
     -- ---- line 6
-    F-covered : (x : Node) → F G Q x → Marked (built-graph old new F′ H wn last reads joint) (λ k. k ≡ 3) x
+    F-covered : (x : Node) → F G Q x → Marked (built-graph X F′ H wn last reads joint) (λ k. k ≡ 3) x
     F-covered x f =
         let D = f .edge in
         let t = W .edges (edge (D .pair) (D .row) x) .0 (D .edge) in
@@ -122,18 +122,18 @@ module _ (old new : Chart) (F′ : FaultlessChart old) (H : FaultlessChart new) 
         let o = not-open x (there .0) (f .outside) in
         let below : nodeNumber x < 4096 =
         dite (decLt (nodeNumber x) 4096) (λ z. z)
-        (λ z. let k = left-mark old new F′ H wn last reads joint (nodeNumber x) (there .1) in absurd (o .1 (final old new F′ H joint .ranks .node (nodeNumber x) (omega arith) (k .0) (k .1)))) in (
+        (λ z. let k = left-mark X F′ H wn last reads joint (nodeNumber x) (there .1) in absurd (o .1 (final X F′ H joint .ranks .node (nodeNumber x) (omega arith) (k .0) (k .1)))) in (
           there .0,
           subst (λ (k : ℕ). m k ≡ 3) (t .is)
-              (covered-all old new F′ H joint (number (D .pair)) (D .row) (number-below (D .pair) (t .pred)) (pair-one (D .pair) (subst (λ (y : Node). y isIn Q) (D .is) (f .«open»))) (t .two) (omega (arith, t .is))
+              (covered-all X F′ H joint (number (D .pair)) (D .row) (number-below (D .pair) (t .pred)) (pair-one (D .pair) (subst (λ (y : Node). y isIn Q) (D .is) (f .«open»))) (t .two) (omega (arith, t .is))
               (subst (λ (k : ℕ). m k ≢ 0) (sym (t .is)) (there .1)) (subst (λ (k : ℕ). m k ≢ 1) (sym (t .is)) (o .0))),
         )
 
-    covered-F : (x : Node) → Marked (built-graph old new F′ H wn last reads joint) (λ k. k ≡ 3) x → F G Q x
+    covered-F : (x : Node) → Marked (built-graph X F′ H wn last reads joint) (λ k. k ≡ 3) x → F G Q x
     unfolding Open
     covered-F x M =
-        let T = covered-only old new F′ H joint (nodeNumber x) (M .1) in
-        let l = rank-pair (explored old new .marks) (marks old new F′ H joint) (final old new F′ H joint .ranks) (T .pair) (omega (arith, T .«open»)) (λ k. omega (arith, T .«open»)) in
+        let T = covered-only X F′ H joint (nodeNumber x) (M .1) in
+        let l = rank-pair (explored X .marks) (marks X F′ H joint) (final X F′ H joint .ranks) (T .pair) (omega (arith, T .«open»)) (λ k. omega (arith, T .«open»)) in
         record {
           pred = aligned (pairOf (T .pair));
           edge = record { pair = pairOf (T .pair); row = T .row; is = refl; edge = led (T .pair) (T .row) l (T .two) x (M .0) (T .is) };
@@ -142,7 +142,7 @@ module _ (old new : Chart) (F′ : FaultlessChart old) (H : FaultlessChart new) 
         }
 
     -- ---- line 7
-    transition : (e : Edge) → Targeted (built-graph old new F′ H wn last reads joint) e → m (number (e .pred)) ≡ 1 → Transition G Q e
+    transition : (e : Edge) → Targeted (built-graph X F′ H wn last reads joint) e → m (number (e .pred)) ≡ 1 → Transition G Q e
     unfolding Open
     transition e t o =
         let f = W .edges e .1 t in
@@ -159,11 +159,11 @@ module _ (old new : Chart) (F′ : FaultlessChart old) (H : FaultlessChart new) 
         (λ A. (A .0, A .1, transition (edge (pairOf i) r (A .0)) (W .edges (edge (pairOf i) r (A .0)) .0 (A .2)) (ap m (number-is i) ∙ o)))
         (W .aims i r l c)
 
-    pub whole-condition : IsCondition (built-graph old new F′ H wn last reads joint) G Q
+    pub whole-condition : IsCondition (built-graph X F′ H wn last reads joint) G Q
     unfolding Open
     whole-condition =
         record {
-          highest = λ k l. mark-most old new F′ H wn last reads joint k;
+          highest = λ k l. mark-most X F′ H wn last reads joint k;
           open-or-kept = λ x. (Q-open x, open-Q x);
           covered = λ x. (F-covered x, covered-F x);
           transitions = λ e. (λ t. (W .edges e .0 (t .edge), pair-one (e .pred) (t .from)), λ t. transition e (t .0) (t .1));

@@ -7,7 +7,6 @@ use native.Mathlib.Omega.{arith}
 use native.Mathlib.Decide.{ℕ-discrete, decLt}
 use lib.ListN.{getD}
 use lib.Seq.{ext-getD}
-use Rattle.chart.specs.Charts.{Chart}
 use Rattle.chart.proofs.Words.{Words}
 use Rattle.chart.specs.Faultless.{FaultlessChart}
 use Rattle.records.specs.Records.{Record, recordOf, mark, setAt, target, index}
@@ -20,6 +19,7 @@ use Rattle.paper.proofs.Members.{in-or-not, number-is, numbered}
 use Rattle.paper.proofs.Searching.{nodeOf, nodeOf-numbered}
 use Rattle.paper.proofs.Rounds.{ended-read}
 use Rattle.paper.proofs.Theorem.{read-ends}
+use Rattle.chart.specs.Compared.{Compared}
 
 -- ---- two records of one graph and one condition
 module _ (G : DifferenceGraph) (Vδ : Pair → ℕ) (Q : SetOf Node) where
@@ -74,14 +74,14 @@ module _ (G : DifferenceGraph) (Vδ : Pair → ℕ) (Q : SetOf Node) where
         λ i. recordOf (e i) (m i) (t i) (s i)
 
 -- ---- what is returned
-module _ (old new : Chart) (F : FaultlessChart old) (H : FaultlessChart new) (wo : Words (old .table)) (wn : Words (new .table)) where
+module _ (X : Compared) (F : FaultlessChart (X .old)) (H : FaultlessChart (X .new)) (wo : Words (X .old .table)) (wn : Words (X .new .table)) where
   -- what the source's algorithms return is what a build leaves
-  pub returned-is-recorded : (R : Record) → Lengths R → Returned old new R → R ≡ recorded old new
+  pub returned-is-recorded : (R : Record) → Lengths R → Returned X R → R ≡ recorded X
   returned-is-recorded R L A =
-      let E = read-ends old new F H wn (A .state) (ended-read old new F H wo wn (A .ran) (A .ended)) in
-      same-record _ (A .state .Vδ) (A .Q) R (recorded old new) (A .graph) (E .graph) (A .condition (A .searched) (A .emptied)) (E .condition (A .searched) (A .emptied))
+      let E = read-ends X F H wn (A .state) (ended-read X F H wo wn (A .ran) (A .ended)) in
+      same-record _ (A .state .Vδ) (A .Q) R (recorded X) (A .graph) (E .graph) (A .condition (A .searched) (A .emptied)) (E .condition (A .searched) (A .emptied))
       L (E .lengths)
 
   -- two records that they return are the same
-  pub determined : (R S : Record) → Lengths R → Lengths S → Returned old new R → Returned old new S → R ≡ S
+  pub determined : (R S : Record) → Lengths R → Lengths S → Returned X R → Returned X S → R ≡ S
   determined R S L M A B = returned-is-recorded R L A ∙ sym (returned-is-recorded S M B)

@@ -14,7 +14,7 @@ use lib.Seq.{getD-set-same, getD-set-other}
 use Rattle.base.proofs.Tests.{or-false}
 use Rattle.chart.specs.declared.places.NewPlace.{NewPlace}
 use Rattle.chart.specs.Places.{keptNumber, newOf}
-use Rattle.chart.specs.Charts.{Chart, size, to, operation, leaving}
+use Rattle.chart.specs.Charts.{size, to, operation, leaving}
 use Rattle.records.specs.Records.{index}
 use Rattle.graph.specs.Buffers.{Buffers, keep, aim}
 use Rattle.graph.specs.inner.Sized.{Sized}
@@ -23,22 +23,23 @@ use Rattle.graph.proofs.Graphs.{markAt, keep-target-other, by-aim}
 use Rattle.paper.specs.Nodes.{SetOf, _isIn_, _isNotIn_, _plus_, Pair, Node, aligned, indicator, Edge, edge, onlyPlace, onlyEdge, pairOf}
 use Rattle.align.proofs.Successors.{successor}
 use Rattle.paper.proofs.Members.{in-either, in-first, in-neither, only-edge, the-edge, other-edge, other-pair}
+use Rattle.chart.specs.Compared.{Compared}
 
-module _ (old new : Chart) where
+module _ (X : Compared) where
   -- an edge leads where its row does: to a place of Δ, or to the one successor that the pair has by it
   abbrev pub Onto : SetOf NewPlace → Pair → ℕ → Node → Type 0
   Onto Δ n r (aligned m) =
-      (m .new .0 ≡ to (leaving (new .table) (n .new .0)) r) × (m .old ≡ successor old (n .old) (operation (leaving (new .table) (n .new .0)) r))
-  Onto Δ n r (indicator q) = (q .0 ≡ to (leaving (new .table) (n .new .0)) r) × (q isIn Δ)
+      (m .new .0 ≡ to (leaving (X .new .table) (n .new .0)) r) × (m .old ≡ successor X (n .old) (operation (leaving (X .new .table) (n .new .0)) r))
+  Onto Δ n r (indicator q) = (q .0 ≡ to (leaving (X .new .table) (n .new .0)) r) × (q isIn Δ)
 
   pub record Sound (Δ : SetOf NewPlace) (e : Edge) : Type 0 where
-    pub row : e .row < size (leaving (new .table) (e .pred .new .0))
+    pub row : e .row < size (leaving (X .new .table) (e .pred .new .0))
     pub onto : Onto Δ (e .pred) (e .row) (e .succ)
 
   -- t as the target of row r of pair i: the kept node of its place, and there is an edge; or a pair, and there is the
   -- edge to it
   pub record ToKept (E : SetOf Edge) (i r t : ℕ) : Type 0 where
-    pub is : t ≡ keptNumber (leadsTo new i r)
+    pub is : t ≡ keptNumber (leadsTo (X .new) i r)
     pub succ : Node
     pub edge : edge (pairOf i) r succ isIn E
 

@@ -12,7 +12,7 @@ use Rattle.operations.specs.declared.Operation.{Operation}
 use Rattle.operations.specs.Assumptions.{Operands}
 use Rattle.operations.specs.Operations.{isAssignment, same}
 use Rattle.chart.specs.declared.places.OldPlace.{OldPlace}
-use Rattle.chart.specs.Charts.{Chart, operation}
+use Rattle.chart.specs.Charts.{operation}
 use Rattle.chart.proofs.Words.{Words}
 use Rattle.chart.specs.Faultless.{FaultlessChart}
 use Rattle.align.specs.declared.spots.Spot.{Spot}
@@ -27,28 +27,29 @@ use Rattle.paper.specs.Lines5to18.{IsWith, onlyOld, InG, Line13, Loop, l
 use Rattle.paper.proofs.Members.{in-either, in-first, in-second, not-in, in-or-not}
 use Rattle.paper.proofs.Stepping.{same-self, onlyOld-is, unmet, unmet-less, unmet-few, row-edge, no-edge, an-edge, edge-operands, no-match, a-match}
 use Rattle.paper.proofs.Single.{at, with-is, without-is, does-meet, does-not, one-assignment, one-match, onward-is, onward-none}
+use Rattle.chart.specs.Compared.{Compared}
 
-module _ (old : Chart) (F : FaultlessChart old) (words : Words (old .table)) where
+module _ (X : Compared) (F : FaultlessChart (X .old)) (words : Words (X .old .table)) where
   -- ---- lines 12 to 14: any walk is the one that the step follows
   module _ (ℓ₁ : OldPlace) (Vδ : ℕ) (l : ℓ₁ .0 < 64) (b : Vδ < 2 ^ 64) where
     -- a place where the loop has been goes on, to another one or to where it is
     record GoesOn (been : SetOf OldPlace) (ℓₚ q : OldPlace) : Type 0 where
       op : Operation
       succ : OldPlace
-      line : Line13 old q op succ
+      line : Line13 X q op succ
       within : succ isIn (been plus onlyOld ℓₚ)
 
     -- it has come to a place twice
     record Twice (been : SetOf OldPlace) (ℓₚ : OldPlace) : Type 0 where
       again : ℓₚ isIn been
-      fails : followed old (at ℓ₁ Vδ) ≡ none
+      fails : followed X (at ℓ₁ Vδ) ≡ none
 
     -- or it has not, and what is left of the walk is the step's
     record Once (been : SetOf OldPlace) (ℓₚ : OldPlace) (Vdiff : ℕ) : Type 0 where
       first : ℓₚ isNotIn been
       left : ℕ
       met : ℕ
-      rest : followed old (at ℓ₁ Vδ) ≡ follow old left met (at ℓₚ Vdiff)
+      rest : followed X (at ℓ₁ Vδ) ≡ follow X left met (at ℓₚ Vdiff)
       small : met < 2 ^ 64
       has : (i : ℕ) → In i met → record { 0 = i } isIn (been plus onlyOld ℓₚ)
       had : (q : OldPlace) → q isIn (been plus onlyOld ℓₚ) → In (q .0) met
@@ -86,7 +87,7 @@ module _ (old : Chart) (F : FaultlessChart old) (words : Words (old .table)) whe
         }
 
     -- one turn more
-    module _ (been : SetOf OldPlace) (ℓₚ ℓₛ : OldPlace) (Vdiff Vdiff′ : ℕ) (opₐ : Operation) (A : Looped been ℓₚ Vdiff) (M : Line13 old ℓₚ opₐ ℓₛ)
+    module _ (been : SetOf OldPlace) (ℓₚ ℓₛ : OldPlace) (Vdiff Vdiff′ : ℕ) (opₐ : Operation) (A : Looped been ℓₚ Vdiff) (M : Line13 X ℓₚ opₐ ℓₛ)
         (W : IsWith Vdiff (opₐ .a) Vdiff′) where
       abbrev more : SetOf OldPlace
       more = been plus onlyOld ℓₚ
@@ -97,8 +98,8 @@ module _ (old : Chart) (F : FaultlessChart old) (words : Words (old .table)) whe
       next-below : ℓₛ .0 < 64
       next-below = omega (arith, F .rows (M .edge .row) (M .edge .there) .to-below, F .few-places, M .edge .to)
 
-      goes : onward old (at ℓₚ Vdiff) ≡ some (at ℓₛ Vdiff′)
-      goes = onward-is old F words ℓₚ Vdiff opₐ ℓₛ M ∙ ap (λ (s : ℕ). some (at ℓₛ s)) (sym gains)
+      goes : onward X (at ℓₚ Vdiff) ≡ some (at ℓₛ Vdiff′)
+      goes = onward-is X F words ℓₚ Vdiff opₐ ℓₛ M ∙ ap (λ (s : ℕ). some (at ℓₛ s)) (sym gains)
 
       -- where the loop has been, one goes on
       goes-on : (q : OldPlace) → q isIn more → GoesOn more ℓₛ q
@@ -108,20 +109,20 @@ module _ (old : Chart) (F : FaultlessChart old) (words : Words (old .table)) whe
           (λ h. record {
             op = opₐ;
             succ = ℓₛ;
-            line = subst (λ (p : OldPlace). Line13 old p opₐ ℓₛ) (only-is ℓₚ q h) M;
+            line = subst (λ (p : OldPlace). Line13 X p opₐ ℓₛ) (only-is ℓₚ q h) M;
             within = in-second (more ℓₛ) _ (onlyOld-is ℓₛ (ℓₛ .0) refl);
           })
           (in-either (been q) _ e)
 
       -- the place is not new: the step fails
-      stops : ℓₛ isIn more → followed old (at ℓ₁ Vδ) ≡ none
+      stops : ℓₛ isIn more → followed X (at ℓ₁ Vδ) ≡ none
       stops e = ⊎-elim (λ T. T .fails) (λ O. twice O) (A .walked)
         where
-          twice : Once been ℓₚ Vdiff → followed old (at ℓ₁ Vδ) ≡ none
+          twice : Once been ℓₚ Vdiff → followed X (at ℓ₁ Vδ) ≡ none
           twice O =
               let z : O .left ≡ suc (O .left - 1) = omega (arith, O .enough) in
               let t = ⊎-elim (λ y. y) (λ y. absurd (meet-none (O .met) (alone (ℓₛ .0)) (ℓₛ .0) y (O .had ℓₛ e) (alone-here (ℓₛ .0)))) (in-or-not (meets (O .met) (alone (ℓₛ .0)))) in
-              O .rest ∙ ap (λ (k : ℕ). follow old k (O .met) (at ℓₚ Vdiff)) z ∙ sym (follow-twice old (O .left - 1) (O .met) (at ℓₚ Vdiff) (at ℓₛ Vdiff′) refl goes t)
+              O .rest ∙ ap (λ (k : ℕ). follow X k (O .met) (at ℓₚ Vdiff)) z ∙ sym (follow-twice X (O .left - 1) (O .met) (at ℓₚ Vdiff) (at ℓₛ Vdiff′) refl goes t)
 
       -- it is new: the walk goes on
       walks : ℓₛ isNotIn more → Once more ℓₛ Vdiff′
@@ -130,49 +131,49 @@ module _ (old : Chart) (F : FaultlessChart old) (words : Words (old .table)) whe
           back : Twice been ℓₚ → ⊥
           back T =
               let G = A .on ℓₚ (T .again) in
-              not-in (subst (λ (p : OldPlace). p isIn more) (one-assignment old F words (G .line .edge) (M .edge) (G .line .assignment) .1) (G .within)) e
+              not-in (subst (λ (p : OldPlace). p isIn more) (one-assignment X F words (G .line .edge) (M .edge) (G .line .assignment) .1) (G .within)) e
 
           once : Once been ℓₚ Vdiff → Once more ℓₛ Vdiff′
           once O =
               let z : O .left ≡ suc (O .left - 1) = omega (arith, O .enough) in
-              let new : In (ℓₛ .0) (O .met) → ⊥ = λ i. not-in (O .has (ℓₛ .0) i) e in
-              let t = ⊎-elim (λ y. absurd (let r = meet-some (O .met) (alone (ℓₛ .0)) (O .small) y in new (subst (λ (i : ℕ). In i (O .met)) (alone-only (r .0) (ℓₛ .0) (r .3)) (r .2)))) (λ y. y)
+              let unmet : In (ℓₛ .0) (O .met) → ⊥ = λ i. not-in (O .has (ℓₛ .0) i) e in
+              let t = ⊎-elim (λ y. absurd (let r = meet-some (O .met) (alone (ℓₛ .0)) (O .small) y in unmet (subst (λ (i : ℕ). In i (O .met)) (alone-only (r .0) (ℓₛ .0) (r .3)) (r .2)))) (λ y. y)
               (in-or-not (meets (O .met) (alone (ℓₛ .0)))) in
               record {
                 first = e;
                 left = O .left - 1;
                 met = with (O .met) (ℓₛ .0);
-                rest = O .rest ∙ ap (λ (k : ℕ). follow old k (O .met) (at ℓₚ Vdiff)) z ∙ follow-on old (O .left - 1) (O .met) (at ℓₚ Vdiff) (at ℓₛ Vdiff′) refl goes t;
+                rest = O .rest ∙ ap (λ (k : ℕ). follow X k (O .met) (at ℓₚ Vdiff)) z ∙ follow-on X (O .left - 1) (O .met) (at ℓₚ Vdiff) (at ℓₛ Vdiff′) refl goes t;
                 small = with-small (O .met) (ℓₛ .0) (O .small) next-below;
                 has = λ i k. ⊎-elim (λ y. in-second (more (record { 0 = i })) _ (onlyOld-is ℓₛ i y)) (λ y. in-first (more (record { 0 = i })) _ (O .has i y)) (with-only i (O .met) (ℓₛ .0) k);
                 had = λ q h. ⊎-elim (λ y. with-old (q .0) (O .met) (ℓₛ .0) (O .had q y)) (λ y. subst (λ (p : OldPlace). In (p .0) (with (O .met) (ℓₛ .0))) (only-is ℓₛ q y) (with-here 0 (O .met) (ℓₛ .0))) (in-either (more q) _ h);
-                enough = omega (arith, O .enough, unmet-less (O .met) (ℓₛ .0) next-below new);
+                enough = omega (arith, O .enough, unmet-less (O .met) (ℓₛ .0) next-below unmet);
               }
 
       turn : Looped more ℓₛ Vdiff′
       turn =
           record {
             below = next-below;
-            small = rw gains (with-small Vdiff (opₐ .a) (A .small) (edge-operands old F words ℓₚ opₐ ℓₛ (M .edge) .a));
+            small = rw gains (with-small Vdiff (opₐ .a) (A .small) (edge-operands X F words ℓₚ opₐ ℓₛ (M .edge) .a));
             on = goes-on;
             walked = ⊎-elim (λ e. inl (record { again = e; fails = stops e })) (λ e. inr (walks e)) (in-or-not (more ℓₛ));
           }
 
-    looped : {been : SetOf OldPlace} {ℓₚ : OldPlace} {Vdiff : ℕ} → Loop old ℓ₁ Vδ been ℓₚ Vdiff → Looped been ℓₚ Vdiff
+    looped : {been : SetOf OldPlace} {ℓₚ : OldPlace} {Vdiff : ℕ} → Loop X ℓ₁ Vδ been ℓₚ Vdiff → Looped been ℓₚ Vdiff
     looped line12 = begins
     looped (line14 {been} {ℓₚ} {ℓₛ} {Vdiff} {Vdiff′} {opₐ} L M W) = turn been ℓₚ ℓₛ Vdiff Vdiff′ opₐ (looped L) M W
 
     -- the loop has ended
-    ended : {been : SetOf OldPlace} {ℓₚ : OldPlace} {Vdiff : ℕ} → Looped been ℓₚ Vdiff → ((op : Operation) (q : OldPlace) → Line13 old ℓₚ op q → ⊥)
-        → followed old (at ℓ₁ Vδ) ≡ some (at ℓₚ Vdiff)
+    ended : {been : SetOf OldPlace} {ℓₚ : OldPlace} {Vdiff : ℕ} → Looped been ℓₚ Vdiff → ((op : Operation) (q : OldPlace) → Line13 X ℓₚ op q → ⊥)
+        → followed X (at ℓ₁ Vδ) ≡ some (at ℓₚ Vdiff)
     ended {been} {ℓₚ} {Vdiff} A n = ⊎-elim (λ T. absurd (let G = A .on ℓₚ (T .again) in n (G .op) (G .succ) (G .line))) (λ O. once O) (A .walked)
       where
-        once : Once been ℓₚ Vdiff → followed old (at ℓ₁ Vδ) ≡ some (at ℓₚ Vdiff)
+        once : Once been ℓₚ Vdiff → followed X (at ℓ₁ Vδ) ≡ some (at ℓₚ Vdiff)
         once O =
             let z : O .left ≡ suc (O .left - 1) = omega (arith, O .enough) in
-            O .rest ∙ ap (λ (k : ℕ). follow old k (O .met) (at ℓₚ Vdiff)) z ∙ sym (follow-ends old (O .left - 1) (O .met) (at ℓₚ Vdiff) refl (onward-none old F words ℓₚ Vdiff n))
+            O .rest ∙ ap (λ (k : ℕ). follow X k (O .met) (at ℓₚ Vdiff)) z ∙ sym (follow-ends X (O .left - 1) (O .met) (at ℓₚ Vdiff) refl (onward-none X F words ℓₚ Vdiff n))
 
-    cut : {been : SetOf OldPlace} {ℓₚ : OldPlace} {Vdiff : ℕ} → Looped been ℓₚ Vdiff → ℓₚ isIn been → followed old (at ℓ₁ Vδ) ≡ none
+    cut : {been : SetOf OldPlace} {ℓₚ : OldPlace} {Vdiff : ℕ} → Looped been ℓₚ Vdiff → ℓₚ isIn been → followed X (at ℓ₁ Vδ) ≡ none
     cut A i = ⊎-elim (λ T. T .fails) (λ O. absurd (not-in i (O .first))) (A .walked)
 
     -- ---- all of them
@@ -182,67 +183,67 @@ module _ (old : Chart) (F : FaultlessChart old) (words : Words (old .table)) whe
       rewrites m e = rw (e, rewritten)
 
       -- lines 6 to 9: an equal row
-      by-equal : (q : OldPlace) (W : ℕ) → Lines5and6 old ℓ₁ Vδ o q → W ≡ rewritten Vδ o → some (at q W) ≡ moved old (at ℓ₁ Vδ) o
+      by-equal : (q : OldPlace) (W : ℕ) → Lines5and6 X ℓ₁ Vδ o q → W ≡ rewritten Vδ o → some (at q W) ≡ moved X (at ℓ₁ Vδ) o
       unfolding assigned
-      by-equal q W L e = moved-assigned old (at ℓ₁ Vδ) o (L .assignment) (go (find (rowsAt old ℓ₁) (λ o′. same o′ o)) refl)
+      by-equal q W L e = moved-assigned X (at ℓ₁ Vδ) o (L .assignment) (go (find (rowsAt X ℓ₁) (λ o′. same o′ o)) refl)
         where
-          go : (x : Option ℕ) → find (rowsAt old ℓ₁) (λ o′. same o′ o) ≡ x → at q W ≡ assigned old (at ℓ₁ Vδ) o x
-          go none f = absurd (T-true (sym (no-edge old ℓ₁ (λ o′. same o′ o) f o q (L .edge)) ∙ same-self o))
+          go : (x : Option ℕ) → find (rowsAt X ℓ₁) (λ o′. same o′ o) ≡ x → at q W ≡ assigned X (at ℓ₁ Vδ) o x
+          go none f = absurd (T-true (sym (no-edge X ℓ₁ (λ o′. same o′ o) f o q (L .edge)) ∙ same-self o))
           go (some k) f =
-              let r = an-edge old ℓ₁ (λ o′. same o′ o) k f in
-              ap₂ at (one-assignment old F words (L .edge) (row-edge old ℓ₁ k (r .0)) (L .assignment) .1) e
+              let r = an-edge X ℓ₁ (λ o′. same o′ o) k f in
+              ap₂ at (one-assignment X F words (L .edge) (row-edge X ℓ₁ k (r .0)) (L .assignment) .1) e
 
       -- line 10: none
-      by-none : (W : ℕ) → isAssignment o ≡ true → ((q : OldPlace) → Lines5and6 old ℓ₁ Vδ o q → ⊥) → W ≡ with Vδ (o .a) → some (at ℓ₁ W) ≡ moved old (at ℓ₁ Vδ) o
+      by-none : (W : ℕ) → isAssignment o ≡ true → ((q : OldPlace) → Lines5and6 X ℓ₁ Vδ o q → ⊥) → W ≡ with Vδ (o .a) → some (at ℓ₁ W) ≡ moved X (at ℓ₁ Vδ) o
       unfolding assigned
-      by-none W t n e = moved-assigned old (at ℓ₁ Vδ) o t (go (find (rowsAt old ℓ₁) (λ o′. same o′ o)) refl)
+      by-none W t n e = moved-assigned X (at ℓ₁ Vδ) o t (go (find (rowsAt X ℓ₁) (λ o′. same o′ o)) refl)
         where
-          go : (x : Option ℕ) → find (rowsAt old ℓ₁) (λ o′. same o′ o) ≡ x → at ℓ₁ W ≡ assigned old (at ℓ₁ Vδ) o x
+          go : (x : Option ℕ) → find (rowsAt X ℓ₁) (λ o′. same o′ o) ≡ x → at ℓ₁ W ≡ assigned X (at ℓ₁ Vδ) o x
           go none f = ap (at ℓ₁) e
           go (some k) f =
-              let r = an-edge old ℓ₁ (λ o′. same o′ o) k f in
+              let r = an-edge X ℓ₁ (λ o′. same o′ o) k f in
               absurd
-              (n (oldTo (rowsAt old ℓ₁) k)
-              (record { assignment = t; edge = subst (λ (o′ : Operation). InG old ℓ₁ o′ (oldTo (rowsAt old ℓ₁) k)) (same→eq (operation (rowsAt old ℓ₁) k) o (r .1)) (row-edge old ℓ₁ k (r .0)) }))
+              (n (oldTo (rowsAt X ℓ₁) k)
+              (record { assignment = t; edge = subst (λ (o′ : Operation). InG X ℓ₁ o′ (oldTo (rowsAt X ℓ₁) k)) (same→eq (operation (rowsAt X ℓ₁) k) o (r .1)) (row-edge X ℓ₁ k (r .0)) }))
 
       -- lines 15 to 18, where the loop has ended at ℓ_p with V_diff
-      module _ (ℓₚ : OldPlace) (Vdiff : ℕ) (E : Lines11to14 old ℓ₁ Vδ o ℓₚ Vdiff) where
+      module _ (ℓₚ : OldPlace) (Vdiff : ℕ) (E : Lines11to14 X ℓ₁ Vδ o ℓₚ Vdiff) where
         small : Vdiff < 2 ^ 64
         small = looped (E .loop) .small
 
-        on : {x : Option Spot} → x ≡ assumed old (at ℓₚ Vdiff) o (counterpart old ℓₚ o) → x ≡ moved old (at ℓ₁ Vδ) o
-        on e = moved-assumed old (at ℓ₁ Vδ) o (at ℓₚ Vdiff) (E .assumption) refl (ended (looped (E .loop)) (E .ends)) e
+        on : {x : Option Spot} → x ≡ assumed X (at ℓₚ Vdiff) o (counterpart X ℓₚ o) → x ≡ moved X (at ℓ₁ Vδ) o
+        on e = moved-assumed X (at ℓ₁ Vδ) o (at ℓₚ Vdiff) (E .assumption) refl (ended (looped (E .loop)) (E .ends)) e
 
-        matches-at : (k : ℕ) → matching (rowsAt old ℓₚ) o ≡ some k → atAlarm old ℓₚ ≡ false → Line15 old ℓ₁ Vδ o ℓₚ (operation (rowsAt old ℓₚ) k) (oldTo (rowsAt old ℓₚ) k)
-        matches-at k e a = a-match old F words ℓ₁ Vδ o fits (at ℓₚ Vdiff) E small k e (eqb-false (ℓₚ .0) (old .alarm) a)
+        matches-at : (k : ℕ) → matching (rowsAt X ℓₚ) o ≡ some k → atAlarm X ℓₚ ≡ false → Line15 X ℓ₁ Vδ o ℓₚ (operation (rowsAt X ℓₚ) k) (oldTo (rowsAt X ℓₚ) k)
+        matches-at k e a = a-match X F words ℓ₁ Vδ o fits (at ℓₚ Vdiff) E small k e (eqb-false (ℓₚ .0) (X .old .head .alarm) a)
 
         -- the row that line 15 finds is the step's
         record Found (op : Operation) (q : OldPlace) : Type 0 where
           row : ℕ
-          is : counterpart old ℓₚ o ≡ some row
-          operation : operation (rowsAt old ℓₚ) row ≡ op
-          to : oldTo (rowsAt old ℓₚ) row ≡ q
+          is : counterpart X ℓₚ o ≡ some row
+          operation : operation (rowsAt X ℓₚ) row ≡ op
+          to : oldTo (rowsAt X ℓₚ) row ≡ q
 
-        finds : (op : Operation) (q : OldPlace) → Line15 old ℓ₁ Vδ o ℓₚ op q → Found op q
+        finds : (op : Operation) (q : OldPlace) → Line15 X ℓ₁ Vδ o ℓₚ op q → Found op q
         unfolding counterpart
-        finds op q M = go (atAlarm old ℓₚ) refl (matching (rowsAt old ℓₚ) o) refl
+        finds op q M = go (atAlarm X ℓₚ) refl (matching (rowsAt X ℓₚ) o) refl
           where
-            go : (a : Bool) → atAlarm old ℓₚ ≡ a → (x : Option ℕ) → matching (rowsAt old ℓₚ) o ≡ x → Found op q
-            go true a x e = absurd (M .not-err (eqb-true (ℓₚ .0) (old .alarm) a))
-            go false a none e = absurd (no-match old F words ℓ₁ Vδ o fits (at ℓₚ Vdiff) E small e (eqb-false (ℓₚ .0) (old .alarm) a) op q M)
+            go : (a : Bool) → atAlarm X ℓₚ ≡ a → (x : Option ℕ) → matching (rowsAt X ℓₚ) o ≡ x → Found op q
+            go true a x e = absurd (M .not-err (eqb-true (ℓₚ .0) (X .old .head .alarm) a))
+            go false a none e = absurd (no-match X F words ℓ₁ Vδ o fits (at ℓₚ Vdiff) E small e (eqb-false (ℓₚ .0) (X .old .head .alarm) a) op q M)
             go false a (some k) e =
-                let z = one-match old F words (matches-at k e a) M in
+                let z = one-match X F words (matches-at k e a) M in
                 record { row = k; is = rw (a, e, counterpart); operation = z .0; to = z .1 }
 
-        finds-none : ((op : Operation) (q : OldPlace) → Line15 old ℓ₁ Vδ o ℓₚ op q → ⊥) → counterpart old ℓₚ o ≡ none
+        finds-none : ((op : Operation) (q : OldPlace) → Line15 X ℓ₁ Vδ o ℓₚ op q → ⊥) → counterpart X ℓₚ o ≡ none
         unfolding counterpart
-        finds-none n = go (atAlarm old ℓₚ) refl (matching (rowsAt old ℓₚ) o) refl
+        finds-none n = go (atAlarm X ℓₚ) refl (matching (rowsAt X ℓₚ) o) refl
           where
-            go : (a : Bool) → atAlarm old ℓₚ ≡ a → (x : Option ℕ) → matching (rowsAt old ℓₚ) o ≡ x
-                → _≡_ {A = Option ℕ} (elim (atAlarm old ℓₚ) as (λ _. Option ℕ) [ true ↦ none | false ↦ matching (rowsAt old ℓₚ) o ]) none
+            go : (a : Bool) → atAlarm X ℓₚ ≡ a → (x : Option ℕ) → matching (rowsAt X ℓₚ) o ≡ x
+                → _≡_ {A = Option ℕ} (elim (atAlarm X ℓₚ) as (λ _. Option ℕ) [ true ↦ none | false ↦ matching (rowsAt X ℓₚ) o ]) none
             go true a x e = rw a
             go false a none e = rw (a, e)
-            go false a (some k) e = absurd (n (operation (rowsAt old ℓₚ) k) (oldTo (rowsAt old ℓₚ) k) (matches-at k e a))
+            go false a (some k) e = absurd (n (operation (rowsAt X ℓₚ) k) (oldTo (rowsAt X ℓₚ) k) (matches-at k e a))
 
         picks : (m : Bool) (h : Spot) → m ≡ true → when (not m) h ≡ none
         picks true h e = refl
@@ -253,36 +254,36 @@ module _ (old : Chart) (F : FaultlessChart old) (words : Words (old .table)) whe
         picks-on false h e = refl
 
         -- line 16
-        by-meeting : (op : Operation) (q : OldPlace) → Line15 old ℓ₁ Vδ o ℓₚ op q → Line16 old ℓ₁ Vδ o Vdiff op → none ≡ moved old (at ℓ₁ Vδ) o
+        by-meeting : (op : Operation) (q : OldPlace) → Line15 X ℓ₁ Vδ o ℓₚ op q → Line16 X ℓ₁ Vδ o Vdiff op → none ≡ moved X (at ℓ₁ Vδ) o
         unfolding assumed matched
         by-meeting op q M m =
             let K = finds op q M in
             let s : ℕ → Bool = λ t. meets Vdiff t in
-            on (sym (ap (assumed old (at ℓₚ Vdiff) o) (K .is)
-            ∙ picks (s (readSet o) || s (readSet (operation (rowsAt old ℓₚ) (K .row)))) (at (oldTo (rowsAt old ℓₚ) (K .row)) Vdiff)
+            on (sym (ap (assumed X (at ℓₚ Vdiff) o) (K .is)
+            ∙ picks (s (readSet o) || s (readSet (operation (rowsAt X ℓₚ) (K .row)))) (at (oldTo (rowsAt X ℓₚ) (K .row)) Vdiff)
             (⊎-elim (λ h. in-second (s (readSet o)) _ (rw (K .operation) (does-meet Vdiff (readSet op) h))) (λ h. in-first (s (readSet o)) _ (does-meet Vdiff (readSet o) h)) m)))
 
         -- line 17
-        by-match : (op : Operation) (q : OldPlace) → Line15 old ℓ₁ Vδ o ℓₚ op q → (Line16 old ℓ₁ Vδ o Vdiff op → ⊥) → some (at q Vdiff) ≡ moved old (at ℓ₁ Vδ) o
+        by-match : (op : Operation) (q : OldPlace) → Line15 X ℓ₁ Vδ o ℓₚ op q → (Line16 X ℓ₁ Vδ o Vdiff op → ⊥) → some (at q Vdiff) ≡ moved X (at ℓ₁ Vδ) o
         unfolding assumed matched
         by-match op q M n =
             let K = finds op q M in
             let x = does-not Vdiff (readSet o) small (λ h. n (inr h)) in
             let y = does-not Vdiff (readSet op) small (λ h. n (inl h)) in
-            on (sym (ap (assumed old (at ℓₚ Vdiff) o) (K .is)
-            ∙ picks-on (meets Vdiff (readSet o) || meets Vdiff (readSet (operation (rowsAt old ℓₚ) (K .row)))) (at (oldTo (rowsAt old ℓₚ) (K .row)) Vdiff) (rw (x, K .operation, y))
+            on (sym (ap (assumed X (at ℓₚ Vdiff) o) (K .is)
+            ∙ picks-on (meets Vdiff (readSet o) || meets Vdiff (readSet (operation (rowsAt X ℓₚ) (K .row)))) (at (oldTo (rowsAt X ℓₚ) (K .row)) Vdiff) (rw (x, K .operation, y))
             ∙ ap (λ (p : OldPlace). some (at p Vdiff)) (K .to)))
 
         -- line 18
-        by-no-match : ((op : Operation) (q : OldPlace) → Line15 old ℓ₁ Vδ o ℓₚ op q → ⊥) → some (at ℓₚ Vdiff) ≡ moved old (at ℓ₁ Vδ) o
+        by-no-match : ((op : Operation) (q : OldPlace) → Line15 X ℓ₁ Vδ o ℓₚ op q → ⊥) → some (at ℓₚ Vdiff) ≡ moved X (at ℓ₁ Vδ) o
         unfolding assumed
-        by-no-match n = on (sym (ap (assumed old (at ℓₚ Vdiff) o) (finds-none n)))
+        by-no-match n = on (sym (ap (assumed X (at ℓₚ Vdiff) o) (finds-none n)))
 
-      pub one-outcome : {x : Option Spot} → Lines5to18 old ℓ₁ Vδ o x → x ≡ moved old (at ℓ₁ Vδ) o
+      pub one-outcome : {x : Option Spot} → Lines5to18 X ℓ₁ Vδ o x → x ≡ moved X (at ℓ₁ Vδ) o
       one-outcome (line7 {ℓ₂} {Vdiff} L m w) = by-equal ℓ₂ Vdiff L (with-is Vδ (o .a) Vdiff w ∙ sym (rewrites true (does-meet Vδ (readSet o) m)))
       one-outcome (line8 {ℓ₂} {Vdiff} L n w) = by-equal ℓ₂ Vdiff L (without-is Vδ (o .a) Vdiff b (fits .a) w ∙ sym (rewrites false (does-not Vδ (readSet o) b n)))
       one-outcome (line10 {Vdiff} t n w) = by-none Vdiff t n (with-is Vδ (o .a) Vdiff w)
       one-outcome (line16 {ℓₚ} {ℓ₂} {Vdiff} {op} E M m) = by-meeting ℓₚ Vdiff E op ℓ₂ M m
       one-outcome (line17 {ℓₚ} {ℓ₂} {Vdiff} {op} E M n) = by-match ℓₚ Vdiff E op ℓ₂ M n
       one-outcome (line18 {ℓₚ} {Vdiff} E n) = by-no-match ℓₚ Vdiff E n
-      one-outcome (line13-cut t L i) = moved-twice old (at ℓ₁ Vδ) o t refl (cut (looped L) i)
+      one-outcome (line13-cut t L i) = moved-twice X (at ℓ₁ Vδ) o t refl (cut (looped L) i)

@@ -14,7 +14,6 @@ use lib.Seq.{getD-set-same, getD-set-other}
 use Rattle.base.proofs.Tests.{and-true, and-false, or-false}
 use Rattle.chart.specs.declared.places.NewPlace.{NewPlace}
 use Rattle.chart.specs.Places.{keptNumber, newOf}
-use Rattle.chart.specs.Charts.{Chart}
 use Rattle.sets.specs.Sets.{joined}
 use Rattle.graph.specs.Buffers.{Buffers, marked, keep, due, join, unwait}
 use Rattle.graph.specs.inner.Sized.{Sized}
@@ -22,6 +21,7 @@ use Rattle.graph.proofs.Graphs.{setAt, marked-yes, marked-no, marked-same, keep
 use Rattle.paper.specs.Nodes.{SetOf, _isIn_, _isNotIn_, _plus_, Pair, onlyPlace, onlyPair, withPlace, pairOf, Numbered}
 use Rattle.paper.specs.Algorithm2.{State, toPlace, line29, toPair, popped}
 use Rattle.paper.proofs.Members.{in-either, only-pair, numbered, same-pair, other-pair}
+use Rattle.chart.specs.Compared.{Compared}
 
 -- ---- waitlist, N_l, Δ and V_δ
 -- the buffers clear the sets of pairs that leave the graph, and V_δ does not: they are the same where the new place is
@@ -35,7 +35,7 @@ pub record Sets (s : State) (g : Buffers) : Type 0 where
   pub waits-numbered : (n : Pair) → n isIn s .waitlist → Numbered n
   pub Vδ : (i : ℕ) → i < 4096 → newOf i isNotIn s .Δ → s .Vδ (pairOf i) ≡ setAt g i
 
-module _ (old new : Chart) where
+module _ (X : Compared) where
   -- ---- a new place becomes kept
   module _ (s : State) (g : Buffers) (pred : Pair) (r : ℕ) (q : NewPlace) (S : Sized g) (l : q .0 < 64) (R : Sets s g) where
     leaves : (m m′ : List ℕ) (i : ℕ) (b : Bool) → (i % 64 ≡ q .0 → getD m′ i 0 ≡ 0) → ((i % 64 ≡ q .0 → ⊥) → getD m′ i 0 ≡ getD m i 0)
@@ -69,7 +69,7 @@ module _ (old new : Chart) where
         }
 
   -- ---- the place of the successor is kept already
-  pub kept-sets : (s : State) (g : Buffers) (pred : Pair) (r : ℕ) (succ : Pair) (v : ℕ) → succ .new isIn s .Δ → Sets s g → Sets (toPair old new s pred r succ v) g
+  pub kept-sets : (s : State) (g : Buffers) (pred : Pair) (r : ℕ) (succ : Pair) (v : ℕ) → succ .new isIn s .Δ → Sets s g → Sets (toPair X s pred r succ v) g
   unfolding toPair line29
   kept-sets s g pred r succ v k R =
       record {
@@ -84,7 +84,7 @@ module _ (old new : Chart) where
 
   -- ---- pair t joins
   module _ (s : State) (g : Buffers) (pred : Pair) (r t v : ℕ) (S : Sized g) (l : t < 4096) (free : newOf t isNotIn s .Δ) (R : Sets s g) where
-    due-same : line29 old new s (pairOf t) v ≡ due (old .alarm) (g .marks) (g .sets) t v
+    due-same : line29 X s (pairOf t) v ≡ due (X .old .head .alarm) (g .marks) (g .sets) t v
     unfolding line29 due
     due-same = rw (free, R .N t l, R .Vδ t l free)
 
@@ -98,17 +98,17 @@ module _ (old new : Chart) where
     joins-numbered b n f e = ⊎-elim f (λ h. subst Numbered (only-pair (pairOf t) n h) (numbered t l)) (in-either b _ e)
 
     abbrev after : Buffers
-    after = join (old .alarm) g t v
+    after = join (X .old .head .alarm) g t v
 
-    waits-now : (d : Bool) → due (old .alarm) (g .marks) (g .sets) t v ≡ d → (i : ℕ) → i < 4096
+    waits-now : (d : Bool) → due (X .old .head .alarm) (g .marks) (g .sets) t v ≡ d → (i : ℕ) → i < 4096
         → (elim d as (λ _. SetOf Pair) [ true ↦ s .waitlist plus onlyPair (pairOf t) | false ↦ s .waitlist ]) (pairOf i) ≡ marked (after .waiting) i
     waits-now true e i b =
-        joins (g .waiting) (after .waiting) i (s .waitlist (pairOf i)) (omega (arith, join-due (old .alarm) g t v S l e)) (λ z. join-wait-other (old .alarm) g t v S l i z) (R .waits i b)
+        joins (g .waiting) (after .waiting) i (s .waitlist (pairOf i)) (omega (arith, join-due (X .old .head .alarm) g t v S l e)) (λ z. join-wait-other (X .old .head .alarm) g t v S l i z) (R .waits i b)
     waits-now false e i b =
         R .waits i b
         ∙ sym
         (marked-same (after .waiting) (g .waiting) i
-        (dite (ℕ-discrete i t) (λ z. rw z (join-not-due (old .alarm) g t v S l e)) (λ z. join-wait-other (old .alarm) g t v S l i z)))
+        (dite (ℕ-discrete i t) (λ z. rw z (join-not-due (X .old .head .alarm) g t v S l e)) (λ z. join-wait-other (X .old .head .alarm) g t v S l i z)))
 
     waits-numbered-now : (d : Bool) (n : Pair) → (elim d as (λ _. SetOf Pair) [ true ↦ s .waitlist plus onlyPair (pairOf t) | false ↦ s .waitlist ]) n ≡ true → Numbered n
     waits-numbered-now true n e = joins-numbered (s .waitlist n) n (R .waits-numbered n) e
@@ -117,19 +117,19 @@ module _ (old new : Chart) where
     gains : (i : ℕ) → i < 4096 → newOf i isNotIn s .Δ → (elim (onlyPair (pairOf t) (pairOf i)) as (λ _. ℕ) [ true ↦ joined (s .Vδ (pairOf i)) v | false ↦ s .Vδ (pairOf i) ]) ≡ setAt after i
     gains i b e =
         dite (ℕ-discrete i t)
-        (λ z. rw (same-pair t i z) (rw z (ap (λ (x : ℕ). joined x v) (R .Vδ t l free) ∙ sym (join-set (old .alarm) g t v S l))))
-        (λ z. rw (other-pair t i z) (R .Vδ i b e ∙ sym (join-set-other (old .alarm) g t v S l i z)))
+        (λ z. rw (same-pair t i z) (rw z (ap (λ (x : ℕ). joined x v) (R .Vδ t l free) ∙ sym (join-set (X .old .head .alarm) g t v S l))))
+        (λ z. rw (other-pair t i z) (R .Vδ i b e ∙ sym (join-set-other (X .old .head .alarm) g t v S l i z)))
 
-    pub join-sets : Sets (toPair old new s pred r (pairOf t) v) after
+    pub join-sets : Sets (toPair X s pred r (pairOf t) v) after
     unfolding toPair
     join-sets =
         record {
-          N = λ i b. rw free (joins (g .marks) (after .marks) i (s .Nₗ (pairOf i)) (omega (arith, join-mark (old .alarm) g t v S l)) (λ z. join-mark-other (old .alarm) g t v S l i z) (R .N i b));
+          N = λ i b. rw free (joins (g .marks) (after .marks) i (s .Nₗ (pairOf i)) (omega (arith, join-mark (X .old .head .alarm) g t v S l)) (λ z. join-mark-other (X .old .head .alarm) g t v S l i z) (R .N i b));
           N-numbered = λ n. rw free (joins-numbered (s .Nₗ n) n (R .N-numbered n));
-          Δ = λ q b. R .Δ q b ∙ sym (marked-same (after .marks) (g .marks) (keptNumber q) (join-mark-other (old .alarm) g t v S l (keptNumber q) (λ h. omega arith)));
+          Δ = λ q b. R .Δ q b ∙ sym (marked-same (after .marks) (g .marks) (keptNumber q) (join-mark-other (X .old .head .alarm) g t v S l (keptNumber q) (λ h. omega arith)));
           Δ-numbered = R .Δ-numbered;
-          waits = λ i b. rw (due-same, toPair) (waits-now (due (old .alarm) (g .marks) (g .sets) t v) refl i b);
-          waits-numbered = λ n. rw (due-same, toPair) (waits-numbered-now (due (old .alarm) (g .marks) (g .sets) t v) n);
+          waits = λ i b. rw (due-same, toPair) (waits-now (due (X .old .head .alarm) (g .marks) (g .sets) t v) refl i b);
+          waits-numbered = λ n. rw (due-same, toPair) (waits-numbered-now (due (X .old .head .alarm) (g .marks) (g .sets) t v) n);
           Vδ = λ i b e. rw (free, toPair) (gains i b e);
         }
 

@@ -13,8 +13,8 @@ use lib.ListN.{getD, List·getD-map}
 use Rattle.base.proofs.Tests.{T-true, or-false}
 use Rattle.chart.specs.declared.places.NewPlace.{NewPlace}
 use Rattle.chart.specs.declared.places.OldPlace.{OldPlace}
-use Rattle.chart.specs.Places.{keptNumber, newOf, headOf}
-use Rattle.chart.specs.Charts.{Chart, size}
+use Rattle.chart.specs.Places.{keptNumber, newOf}
+use Rattle.chart.specs.Charts.{size}
 use Rattle.chart.proofs.Words.{Words}
 use Rattle.chart.specs.Faultless.{FaultlessChart}
 use Rattle.chart.proofs.Parts.{two-at-most}
@@ -34,6 +34,7 @@ use Rattle.paper.proofs.Members.{not-in, pair-is, number-is, number-bel
 use Rattle.paper.proofs.Edges as reading
 use Rattle.paper.proofs.Rows.{Reads}
 use Rattle.paper.proofs.Searching.{node-below, nodeOf, nodeOf-numbered}
+use Rattle.chart.specs.Compared.{Compared, headsOf}
 
 -- ---- "At the end a target whose new place is kept becomes that kept node."
 record Turned (m : List ℕ) (t : ℕ) : Type 0 where
@@ -55,81 +56,81 @@ redirection m t = go (ltb t 4096) refl (marked m (keptNumber (newOf t))) refl
     go false d b e = inr (record { is = rw (d, redirected); free = λ l. absurd (let z = ltb-false t 4096 d in omega arith) })
 
 -- any state that is read in what the build explores, as the end of a run is
-module _ (old new : Chart) (F : FaultlessChart old) (H : FaultlessChart new) (wn : Words (new .table)) (last : State) (reads : Reads old new last (explored old new)) where
-  abbrev I : Inv old new Every (explored old new)
-  I = explored-inv old new F H
+module _ (X : Compared) (F : FaultlessChart (X .old)) (H : FaultlessChart (X .new)) (wn : Words (X .new .table)) (last : State) (reads : Reads X last (explored X)) where
+  abbrev I : Inv X Every (explored X)
+  I = explored-inv X F H
 
   -- ---- N_l and Δ where the loop has ended
-  in-N : (i : ℕ) → i < 4096 → 0 < markAt (explored old new) i → pairOf i isIn last .Nₗ
-  in-N i l p = reads .sets .N i l ∙ marked-yes (explored old new .marks) i p
+  in-N : (i : ℕ) → i < 4096 → 0 < markAt (explored X) i → pairOf i isIn last .Nₗ
+  in-N i l p = reads .sets .N i l ∙ marked-yes (explored X .marks) i p
 
-  N-in : (n : Pair) → n isIn last .Nₗ → Numbered n × (0 < markAt (explored old new) (number n))
+  N-in : (n : Pair) → n isIn last .Nₗ → Numbered n × (0 < markAt (explored X) (number n))
   N-in n e =
       let B = reads .sets .N-numbered n e in
       let l = number-below n B in
-      (B, is-marked (explored old new .marks) (number n) (sym (reads .sets .N (number n) l) ∙ ap (last .Nₗ) (pair-is n B) ∙ e))
+      (B, is-marked (explored X .marks) (number n) (sym (reads .sets .N (number n) l) ∙ ap (last .Nₗ) (pair-is n B) ∙ e))
 
-  in-Δ : (q : NewPlace) → q .0 < 64 → 0 < markAt (explored old new) (keptNumber q) → q isIn last .Δ
-  in-Δ q l p = reads .sets .Δ q l ∙ marked-yes (explored old new .marks) (keptNumber q) p
+  in-Δ : (q : NewPlace) → q .0 < 64 → 0 < markAt (explored X) (keptNumber q) → q isIn last .Δ
+  in-Δ q l p = reads .sets .Δ q l ∙ marked-yes (explored X .marks) (keptNumber q) p
 
-  Δ-in : (q : NewPlace) → q isIn last .Δ → (q .0 < 64) × (0 < markAt (explored old new) (keptNumber q))
+  Δ-in : (q : NewPlace) → q isIn last .Δ → (q .0 < 64) × (0 < markAt (explored X) (keptNumber q))
   Δ-in q e =
       let l = reads .sets .Δ-numbered q e in
-      (l, is-marked (explored old new .marks) (keptNumber q) (sym (reads .sets .Δ q l) ∙ e))
+      (l, is-marked (explored X .marks) (keptNumber q) (sym (reads .sets .Δ q l) ∙ e))
 
-  free : (i : ℕ) → i < 4096 → 0 < markAt (explored old new) i → newOf i isNotIn last .Δ
-  free i l p = reads .sets .Δ (newOf i) (omega arith) ∙ marked-no (explored old new .marks) (keptNumber (newOf i)) (I .apart i l p)
+  free : (i : ℕ) → i < 4096 → 0 < markAt (explored X) i → newOf i isNotIn last .Δ
+  free i l p = reads .sets .Δ (newOf i) (omega arith) ∙ marked-no (explored X .marks) (keptNumber (newOf i)) (I .apart i l p)
 
-  module _ (joint : alone (headOf old) (headOf new) (explored old new .marks) ≡ false) where
+  module _ (joint : alone (headsOf X) (explored X .marks) ≡ false) where
     abbrev pub built-graph : Record
-    built-graph = recordOf (firstPair old new) (marks old new F H joint) (finalTargets (explored old new)) (explored old new .sets)
+    built-graph = recordOf (firstPair X) (marks X F H joint) (finalTargets (explored X)) (explored X .sets)
 
-    zero-stays : redirected (explored old new .marks) 0 ≡ 0
+    zero-stays : redirected (explored X .marks) 0 ≡ 0
     unfolding redirected alone
-    zero-stays = let z = or-false (marked (explored old new .marks) (firstKept new)) _ joint in rw (z .0, redirected)
+    zero-stays = let z = or-false (marked (explored X .marks) (firstKept X)) _ joint in rw (z .0, redirected)
 
-    target-now : (i r : ℕ) → target (left old new F H joint) i r ≡ redirected (explored old new .marks) (targetAt (explored old new) i r)
+    target-now : (i r : ℕ) → target (left X F H joint) i r ≡ redirected (explored X .marks) (targetAt (explored X) i r)
     unfolding finalTargets
     target-now i r =
-        let f = redirected (explored old new .marks) in
-        subst (λ (d : ℕ). getD (finalTargets (explored old new)) (index i r) d ≡ f (targetAt (explored old new) i r)) zero-stays (List·getD-map f (explored old new .targets) (index i r) 0)
+        let f = redirected (explored X .marks) in
+        subst (λ (d : ℕ). getD (finalTargets (explored X)) (index i r) d ≡ f (targetAt (explored X) i r)) zero-stays (List·getD-map f (explored X .targets) (index i r) 0)
 
-    target-fits : (i r : ℕ) → i < 4096 → r < 2 → (target (left old new F H joint) i r < 4160) ⊎ (target (left old new F H joint) i r ≡ 65535)
+    target-fits : (i r : ℕ) → i < 4096 → r < 2 → (target (left X F H joint) i r < 4160) ⊎ (target (left X F H joint) i r ≡ 65535)
     target-fits i r b c =
         rw (target-now i r)
-        (⊎-elim (λ T. inl (omega (arith, T .is))) (λ S. ⊎-elim (λ a. inl (omega (arith, S .is))) (λ a. inr (S .is ∙ a)) (I .aims i r b c)) (redirection (explored old new .marks) (targetAt (explored old new) i r)))
+        (⊎-elim (λ T. inl (omega (arith, T .is))) (λ S. ⊎-elim (λ a. inl (omega (arith, S .is))) (λ a. inr (S .is ∙ a)) (I .aims i r b c)) (redirection (explored X .marks) (targetAt (explored X) i r)))
 
     -- ---- where a target that is used leads in the end
     record GoesKept (i r : ℕ) : Type 0 where
-      kept : 0 < markAt (explored old new) (keptNumber (leadsTo new i r))
-      is : target (left old new F H joint) i r ≡ keptNumber (leadsTo new i r)
+      kept : 0 < markAt (explored X) (keptNumber (leadsTo (X .new) i r))
+      is : target (left X F H joint) i r ≡ keptNumber (leadsTo (X .new) i r)
 
     record GoesPair (i r : ℕ) : Type 0 where
-      not-kept : markAt (explored old new) (keptNumber (leadsTo new i r)) ≡ 0
-      is : target (left old new F H joint) i r ≡ targetAt (explored old new) i r
-      below : targetAt (explored old new) i r < 4096
-      there : 0 < markAt (explored old new) (targetAt (explored old new) i r)
+      not-kept : markAt (explored X) (keptNumber (leadsTo (X .new) i r)) ≡ 0
+      is : target (left X F H joint) i r ≡ targetAt (explored X) i r
+      below : targetAt (explored X) i r < 4096
+      there : 0 < markAt (explored X) (targetAt (explored X) i r)
 
-    module _ (i r : ℕ) (l : i < 4096) (p : 0 < markAt (explored old new) i) (c : r < 2) (a : r < size (rowsOf new i)) where
-      goes : (targetAt (explored old new) i r ≡ 65535 → ⊥) → GoesKept i r ⊎ GoesPair i r
-      goes u = go (I .led i r l p c a) (redirection (explored old new .marks) (targetAt (explored old new) i r))
+    module _ (i r : ℕ) (l : i < 4096) (p : 0 < markAt (explored X) i) (c : r < 2) (a : r < size (rowsOf (X .new) i)) where
+      goes : (targetAt (explored X) i r ≡ 65535 → ⊥) → GoesKept i r ⊎ GoesPair i r
+      goes u = go (I .led i r l p c a) (redirection (explored X .marks) (targetAt (explored X) i r))
         where
           t : ℕ
-          t = targetAt (explored old new) i r
+          t = targetAt (explored X) i r
 
-          same : t % 64 ≡ leadsTo new i r .0 → keptNumber (newOf t) ≡ keptNumber (leadsTo new i r)
+          same : t % 64 ≡ leadsTo (X .new) i r .0 → keptNumber (newOf t) ≡ keptNumber (leadsTo (X .new) i r)
           same e = omega arith
 
-          go : (t ≡ 65535) ⊎ (ToKept old new (explored old new .marks) i r t ⊎ ToPair old new (explored old new .marks) i r t) → Turned (explored old new .marks) t ⊎ Stays (explored old new .marks) t → GoesKept i r ⊎ GoesPair i r
+          go : (t ≡ 65535) ⊎ (ToKept X (explored X .marks) i r t ⊎ ToPair X (explored X .marks) i r t) → Turned (explored X .marks) t ⊎ Stays (explored X .marks) t → GoesKept i r ⊎ GoesPair i r
           go (inl e) d = absurd (u e)
           go (inr (inl K)) (inl T) = ⊎-elim (λ e. absurd (omega (arith, T .below))) (λ e. inl (record { kept = K .kept; is = target-now i r ∙ T .is ∙ same (e .1) })) (K .leads)
           go (inr (inl K)) (inr S) =
-              ⊎-elim (λ e. inl (record { kept = K .kept; is = target-now i r ∙ S .is ∙ e })) (λ e. absurd (omega (arith, subst (λ (k : ℕ). getD (explored old new .marks) k 0 ≡ 0) (same (e .1)) (S .free (e .0)), K .kept))) (K .leads)
+              ⊎-elim (λ e. inl (record { kept = K .kept; is = target-now i r ∙ S .is ∙ e })) (λ e. absurd (omega (arith, subst (λ (k : ℕ). getD (explored X .marks) k 0 ≡ 0) (same (e .1)) (S .free (e .0)), K .kept))) (K .leads)
           go (inr (inr P)) (inl T) = absurd (omega (arith, T .kept, I .apart t (P .below) (P .there)))
           go (inr (inr P)) (inr S) =
               inr
               (record {
-                not-kept = subst (λ (k : ℕ). markAt (explored old new) k ≡ 0) (same (P .place)) (I .apart t (P .below) (P .there));
+                not-kept = subst (λ (k : ℕ). markAt (explored X) k ≡ 0) (same (P .place)) (I .apart t (P .below) (P .there));
                 is = target-now i r ∙ S .is;
                 below = P .below;
                 there = P .there;
@@ -140,38 +141,38 @@ module _ (old new : Chart) (F : FaultlessChart old) (H : FaultlessChart new) (wn
     Kind n r x = (edge n r x isIn last .Eₗ) ⊎ Replaced last n r x
 
     -- the edge to y shows that the target of this row is used
-    module _ (i r : ℕ) (l : i < 4096) (p : 0 < markAt (explored old new) i) (y : Node) (h : edge (pairOf i) r y isIn last .Eₗ) where
-      sound : reading.Sound old new (last .Δ) (edge (pairOf i) r y)
+    module _ (i r : ℕ) (l : i < 4096) (p : 0 < markAt (explored X) i) (y : Node) (h : edge (pairOf i) r y isIn last .Eₗ) where
+      sound : reading.Sound X (last .Δ) (edge (pairOf i) r y)
       sound = reads .edges .sound (edge (pairOf i) r y) h
 
       two : r < 2
-      two = omega (arith, sound .row, two-at-most new H (wn .small) (i % 64))
+      two = omega (arith, sound .row, two-at-most (X .new) H (wn .small) (i % 64))
 
-      used : targetAt (explored old new) i r ≡ 65535 → ⊥
+      used : targetAt (explored X) i r ≡ 65535 → ⊥
       used e = not-in h (reads .edges .unused i r l two (free i l p) e y)
 
       leads : GoesKept i r ⊎ GoesPair i r
       leads = goes i r l p two (sound .row) used
 
       -- to a place of Δ
-      kept-target : (q : NewPlace) → q .0 ≡ leadsTo new i r .0 → q isIn last .Δ → target (left old new F H joint) i r ≡ keptNumber q
+      kept-target : (q : NewPlace) → q .0 ≡ leadsTo (X .new) i r .0 → q isIn last .Δ → target (left X F H joint) i r ≡ keptNumber q
       kept-target q e k =
-          let z : keptNumber (leadsTo new i r) ≡ keptNumber q = omega arith in
+          let z : keptNumber (leadsTo (X .new) i r) ≡ keptNumber q = omega arith in
           ⊎-elim (λ K. K .is ∙ z) (λ P. absurd (omega (arith, Δ-in q k .1, rw z at (P .not-kept)))) leads
 
     -- to a pair
-    pair-target : (i r : ℕ) → i < 4096 → 0 < markAt (explored old new) i → (m : Pair) → m isIn last .Nₗ → edge (pairOf i) r (aligned m) isIn last .Eₗ → target (left old new F H joint) i r ≡ number m
+    pair-target : (i r : ℕ) → i < 4096 → 0 < markAt (explored X) i → (m : Pair) → m isIn last .Nₗ → edge (pairOf i) r (aligned m) isIn last .Eₗ → target (left X F H joint) i r ≡ number m
     pair-target i r l p m v h =
         let S = sound i r l p (aligned m) h in
         let M = N-in m v in
-        let z : keptNumber (newOf (number m)) ≡ keptNumber (leadsTo new i r) = omega (arith, S .onto .0, M .0 .new) in
-        ⊎-elim (λ K. absurd (omega (arith, K .kept, subst (λ (k : ℕ). markAt (explored old new) k ≡ 0) z (I .apart (number m) (number-below m (M .0)) (M .1)))))
+        let z : keptNumber (newOf (number m)) ≡ keptNumber (leadsTo (X .new) i r) = omega (arith, S .onto .0, M .0 .new) in
+        ⊎-elim (λ K. absurd (omega (arith, K .kept, subst (λ (k : ℕ). markAt (explored X) k ≡ 0) z (I .apart (number m) (number-below m (M .0)) (M .1)))))
         (λ P. P .is ∙ same P S (reads .edges .aims i r l (two i r l p (aligned m) h) (free i l p) (used i r l p (aligned m) h))) (leads i r l p (aligned m) h)
       where
-        same : GoesPair i r → reading.Sound old new (last .Δ) (edge (pairOf i) r (aligned m)) → reading.Aims old new (last .Eₗ) i r (targetAt (explored old new) i r) → targetAt (explored old new) i r ≡ number m
+        same : GoesPair i r → reading.Sound X (last .Δ) (edge (pairOf i) r (aligned m)) → reading.Aims X (last .Eₗ) i r (targetAt (explored X) i r) → targetAt (explored X) i r ≡ number m
         same P S (inl K) = absurd (omega (arith, K .is, P .below))
         same P S (inr T) =
-            let U = reads .edges .sound (edge (pairOf i) r (aligned (pairOf (targetAt (explored old new) i r)))) (T .edge) in
+            let U = reads .edges .sound (edge (pairOf i) r (aligned (pairOf (targetAt (explored X) i r)))) (T .edge) in
             let o = ap (λ (x : OldPlace). x .0) (U .onto .1 ∙ sym (S .onto .1)) in
             omega (arith, o, U .onto .0, S .onto .0)
 
@@ -179,9 +180,9 @@ module _ (old new : Chart) (F : FaultlessChart old) (H : FaultlessChart new) (wn
     record Leads (i r : ℕ) (x : Node) : Type 0 where
       row : r < 2
       succ : NodeNumbered x
-      is : target (left old new F H joint) i r ≡ nodeNumber x
+      is : target (left X F H joint) i r ≡ nodeNumber x
 
-    to-target : (i r : ℕ) → i < 4096 → 0 < markAt (explored old new) i → (x : Node) → x isIn nodes last → Kind (pairOf i) r x → Leads i r x
+    to-target : (i r : ℕ) → i < 4096 → 0 < markAt (explored X) i → (x : Node) → x isIn nodes last → Kind (pairOf i) r x → Leads i r x
     unfolding nodes
     to-target i r l p (aligned m) v (inl h) = record { row = two i r l p (aligned m) h; succ = N-in m v .0; is = pair-target i r l p m v h }
     to-target i r l p (aligned m) v (inr b) = absurd b
@@ -200,19 +201,19 @@ module _ (old new : Chart) (F : FaultlessChart old) (H : FaultlessChart new) (wn
 
     -- ---- and from a target to an edge
     module _ (i r : ℕ) (l : i < 4096) (c : r < 2) where
-      used-target : target (left old new F H joint) i r < 4160 → targetAt (explored old new) i r ≡ 65535 → ⊥
+      used-target : target (left X F H joint) i r < 4160 → targetAt (explored X) i r ≡ 65535 → ⊥
       used-target b e =
-          ⊎-elim (λ T. omega (arith, T .below)) (λ S. omega (arith, target-now i r, S .is)) (redirection (explored old new .marks) (targetAt (explored old new) i r))
+          ⊎-elim (λ T. omega (arith, T .below)) (λ S. omega (arith, target-now i r, S .is)) (redirection (explored X .marks) (targetAt (explored X) i r))
 
-      module _ (u : targetAt (explored old new) i r ≡ 65535 → ⊥) where
-        there : 0 < markAt (explored old new) i
-        there = dite (ℕ-discrete (markAt (explored old new) i) 0) (λ z. absurd (u (I .unused i r l c (inl z)))) (λ z. omega arith)
+      module _ (u : targetAt (explored X) i r ≡ 65535 → ⊥) where
+        there : 0 < markAt (explored X) i
+        there = dite (ℕ-discrete (markAt (explored X) i) 0) (λ z. absurd (u (I .unused i r l c (inl z)))) (λ z. omega arith)
 
-        a-row : r < size (rowsOf new i)
-        a-row = dite (decLt r (size (rowsOf new i))) (λ z. z) (λ z. absurd (u (I .unused i r l c (inr (omega arith)))))
+        a-row : r < size (rowsOf (X .new) i)
+        a-row = dite (decLt r (size (rowsOf (X .new) i))) (λ z. z) (λ z. absurd (u (I .unused i r l c (inr (omega arith)))))
 
         -- some edge that leads to a place of Δ
-        to-place : (y : Node) → edge (pairOf i) r y isIn last .Eₗ → (q : NewPlace) → q .0 ≡ leadsTo new i r .0 → q isIn last .Δ → Kind (pairOf i) r (indicator q)
+        to-place : (y : Node) → edge (pairOf i) r y isIn last .Eₗ → (q : NewPlace) → q .0 ≡ leadsTo (X .new) i r .0 → q isIn last .Δ → Kind (pairOf i) r (indicator q)
         to-place (aligned m) h q e k =
             let z : m ≡ pair (m .old) q = ap (λ (x : ℕ). pair (m .old) (record { 0 = x })) (sound i r l there (aligned m) h .onto .0 ∙ sym e) in
             inr (k, (m .old, subst (λ (n : Pair). edge (pairOf i) r (aligned n) isIn last .Eₗ) z h))
@@ -220,23 +221,23 @@ module _ (old new : Chart) (F : FaultlessChart old) (H : FaultlessChart new) (wn
             let z : p ≡ q = ap (λ (x : ℕ). record { 0 = x }) (sound i r l there (indicator p) h .onto .0 ∙ sym e) in
             inl (subst (λ (x : NewPlace). edge (pairOf i) r (indicator x) isIn last .Eₗ) z h)
 
-        aims : reading.Aims old new (last .Eₗ) i r (targetAt (explored old new) i r)
+        aims : reading.Aims X (last .Eₗ) i r (targetAt (explored X) i r)
         aims = reads .edges .aims i r l c (free i l there) u
 
-        to-edge : (x : Node) → NodeNumbered x → target (left old new F H joint) i r ≡ nodeNumber x → (x isIn nodes last) × Kind (pairOf i) r x
+        to-edge : (x : Node) → NodeNumbered x → target (left X F H joint) i r ≡ nodeNumber x → (x isIn nodes last) × Kind (pairOf i) r x
         unfolding nodes
         to-edge (aligned n) B e =
             ⊎-elim (λ K. absurd (omega (arith, K .is, number-below n B)))
-            (λ P. let z : pairOf (targetAt (explored old new) i r) ≡ n = ap pairOf (sym (P .is) ∙ e) ∙ pair-is n B in (
-              subst (λ (m : Pair). m isIn last .Nₗ) z (in-N (targetAt (explored old new) i r) (P .below) (P .there)),
+            (λ P. let z : pairOf (targetAt (explored X) i r) ≡ n = ap pairOf (sym (P .is) ∙ e) ∙ pair-is n B in (
+              subst (λ (m : Pair). m isIn last .Nₗ) z (in-N (targetAt (explored X) i r) (P .below) (P .there)),
               ⊎-elim (λ K. absurd (omega (arith, K .is, P .below))) (λ T. inl (subst (λ (m : Pair). edge (pairOf i) r (aligned m) isIn last .Eₗ) z (T .edge))) aims,
             )) (goes i r l there c a-row u)
         to-edge (indicator q) b e =
             ⊎-elim
-            (λ K. let z : q .0 ≡ leadsTo new i r .0 = omega (arith, K .is) in
-            let w : keptNumber (leadsTo new i r) ≡ keptNumber q = omega arith in
+            (λ K. let z : q .0 ≡ leadsTo (X .new) i r .0 = omega (arith, K .is) in
+            let w : keptNumber (leadsTo (X .new) i r) ≡ keptNumber q = omega arith in
             let k = in-Δ q b (rw w at (K .kept)) in
-            (k, ⊎-elim (λ T. to-place (T .succ) (T .edge) q z k) (λ T. to-place (aligned (pairOf (targetAt (explored old new) i r))) (T .edge) q z k) aims))
+            (k, ⊎-elim (λ T. to-place (T .succ) (T .edge) q z k) (λ T. to-place (aligned (pairOf (targetAt (explored X) i r))) (T .edge) q z k) aims))
             (λ P. absurd (omega (arith, P .is, P .below))) (goes i r l there c a-row u)
 
     targets-line20 : (e : Edge) → Targeted built-graph e → Line20 last e
@@ -252,35 +253,35 @@ module _ (old new : Chart) (F : FaultlessChart old) (H : FaultlessChart new) (wn
         }
 
     -- a target is unused, or there is an edge to it
-    each-target : (i r : ℕ) → i < 4096 → r < 2 → (target (left old new F H joint) i r ≡ 65535) ⊎ Aimed built-graph (whole old new last) i r
+    each-target : (i r : ℕ) → i < 4096 → r < 2 → (target (left X F H joint) i r ≡ 65535) ⊎ Aimed built-graph (whole X last) i r
     each-target i r l c = ⊎-elim (λ b. inr (by b)) inl (target-fits i r l c)
       where
-        by : target (left old new F H joint) i r < 4160 → Aimed built-graph (whole old new last) i r
+        by : target (left X F H joint) i r < 4160 → Aimed built-graph (whole X last) i r
         by b =
-            let (B, z) = nodeOf-numbered (target (left old new F H joint) i r) b in
-            let x = nodeOf (target (left old new F H joint) i r) in
-            (x, z, targets-line20 (edge (pairOf i) r x) (record { pred = numbered i l; two = c; succ = B; is = ap (λ (j : ℕ). target (left old new F H joint) j r) (number-is i) ∙ sym z }))
+            let (B, z) = nodeOf-numbered (target (left X F H joint) i r) b in
+            let x = nodeOf (target (left X F H joint) i r) in
+            (x, z, targets-line20 (edge (pairOf i) r x) (record { pred = numbered i l; two = c; succ = B; is = ap (λ (j : ℕ). target (left X F H joint) j r) (number-is i) ∙ sym z }))
 
     -- ---- line 21
     module _ (k : ℕ) where
-      pub left-mark : mark (left old new F H joint) k ≢ 0 → (k < 4160) × (0 < markAt (explored old new) k)
-      left-mark n = rank-there (explored old new .marks) (marks old new F H joint) (final old new F H joint .ranks) k (omega arith)
+      pub left-mark : mark (left X F H joint) k ≢ 0 → (k < 4160) × (0 < markAt (explored X) k)
+      left-mark n = rank-there (explored X .marks) (marks X F H joint) (final X F H joint .ranks) k (omega arith)
 
-      pub pair-marks : k < 4096 → 0 < markAt (explored old new) k → (mark (left old new F H joint) k ≡ 1) ⊎ ((mark (left old new F H joint) k ≡ 3) ⊎ (mark (left old new F H joint) k ≡ 4))
-      pair-marks l p = final old new F H joint .ranks .pair k l p
+      pub pair-marks : k < 4096 → 0 < markAt (explored X) k → (mark (left X F H joint) k ≡ 1) ⊎ ((mark (left X F H joint) k ≡ 3) ⊎ (mark (left X F H joint) k ≡ 4))
+      pair-marks l p = final X F H joint .ranks .pair k l p
 
-    node-mark : (q : NewPlace) → q .0 < 64 → 0 < markAt (explored old new) (keptNumber q) → mark (left old new F H joint) (keptNumber q) ≡ 2
-    node-mark q l p = final old new F H joint .ranks .node (keptNumber q) (omega arith) (omega arith) p
+    node-mark : (q : NewPlace) → q .0 < 64 → 0 < markAt (explored X) (keptNumber q) → mark (left X F H joint) (keptNumber q) ≡ 2
+    node-mark q l p = final X F H joint .ranks .node (keptNumber q) (omega arith) (omega arith) p
 
-    not-two : (k : ℕ) → k < 4096 → mark (left old new F H joint) k ≡ 2 → ⊥
+    not-two : (k : ℕ) → k < 4096 → mark (left X F H joint) k ≡ 2 → ⊥
     not-two k l e = ⊎-elim (λ a. omega arith) (λ a. ⊎-elim (λ b. omega arith) (λ b. omega arith) a) (pair-marks k l (left-mark k (λ z. omega arith) .1))
 
-    pub mark-most : (k : ℕ) → mark (left old new F H joint) k ≤ 4
+    pub mark-most : (k : ℕ) → mark (left X F H joint) k ≤ 4
     mark-most k =
-        dite (ℕ-discrete (mark (left old new F H joint) k) 0) (λ e. omega arith)
+        dite (ℕ-discrete (mark (left X F H joint) k) 0) (λ e. omega arith)
         (λ e. let z = left-mark k e in dite (decLt k 4096)
         (λ l. ⊎-elim (λ a. omega arith) (λ a. ⊎-elim (λ b. omega arith) (λ b. omega arith) a) (pair-marks k l (z .1)))
-        (λ l. omega (arith, final old new F H joint .ranks .node k (omega arith) (z .0) (z .1))))
+        (λ l. omega (arith, final X F H joint .ranks .node k (omega arith) (z .0) (z .1))))
 
     in-nodes : (x : Node) → x isIn nodes last → Marked built-graph (λ m. m ≢ 0) x
     unfolding nodes
@@ -304,7 +305,7 @@ module _ (old new : Chart) (F : FaultlessChart old) (H : FaultlessChart new) (wn
     kept-in (aligned n) M = absurd (not-two (number n) (number-below n (M .0)) (M .1))
     kept-in (indicator q) M = in-Δ q (M .0) (left-mark (keptNumber q) (λ z. omega (arith, M .1)) .1)
 
-    pub whole-graph : IsGraph built-graph (whole old new last) (last .Vδ)
+    pub whole-graph : IsGraph built-graph (whole X last) (last .Vδ)
     unfolding nodes
     whole-graph =
         record {
@@ -319,5 +320,5 @@ module _ (old new : Chart) (F : FaultlessChart old) (H : FaultlessChart new) (wn
               sym (reads .sets .Vδ (number n) l (free (number n) l (N .1))) ∙ ap (last .Vδ) (pair-is n (N .0)));
           bare = λ n B e.
               (let l = number-below n B in
-              I .bare (number n) l (not-marked (explored old new .marks) (number n) (sym (reads .sets .N (number n) l) ∙ ap (last .Nₗ) (pair-is n B) ∙ e)));
+              I .bare (number n) l (not-marked (explored X .marks) (number n) (sym (reads .sets .N (number n) l) ∙ ap (last .Nₗ) (pair-is n B) ∙ e)));
         }

@@ -15,7 +15,7 @@ use Rattle.base.proofs.Tests.{T-true}
 use Rattle.base.proofs.Repeat.{Going, repeated-keeps, again-by, done-by}
 use Rattle.base.proofs.Walks.{zeros-at, same-at, first-is}
 use Rattle.chart.specs.Places.{keptNumber, oldOf, newOf}
-use Rattle.chart.specs.Charts.{Chart, size, operation}
+use Rattle.chart.specs.Charts.{size, operation}
 use Rattle.chart.proofs.Words.{Words}
 use Rattle.chart.specs.Faultless.{FaultlessChart}
 use Rattle.align.specs.declared.spots.Spot.{Spot}
@@ -34,54 +34,55 @@ use Rattle.paper.specs.Algorithm2 as algorithm2
 use Rattle.paper.proofs.Members.{not-in, only-pair, numbered, same-pair, other-pair, pair-is, number-below}
 use Rattle.paper.proofs.Reading.{pop-sets}
 use Rattle.paper.proofs.Rows.{Reads, InHand, unwait-hand, Row, stepped, any-read, cameTo}
+use Rattle.chart.specs.Compared.{Compared, headsOf}
 
-module _ (old new : Chart) (F : FaultlessChart old) (G : FaultlessChart new) where
+module _ (X : Compared) (F : FaultlessChart (X .old)) (G : FaultlessChart (X .new)) where
   -- ---- the loop of line 4 by its last edge
   record Last (s : State) (n : Pair) (k : ℕ) (t : State) : Type 0 where
     before : State
     spot : Option Spot
-    loop : ForEach old new (Lines5to18 old) s n k before
-    lines : Lines5to18 old (n .old) (before .Vδ n) (operation (edges old new (n .new)) k) spot
-    is : t ≡ called old new before n k spot
+    loop : ForEach X (Lines5to18 X) s n k before
+    lines : Lines5to18 X (n .old) (before .Vδ n) (operation (edges X (n .new)) k) spot
+    is : t ≡ called X before n k spot
 
   abbrev ByLast : State → Pair → ℕ → State → Type 0
   ByLast s n zero t = t ≡ s
   ByLast s n (suc k) t = Last s n k t
 
-  by-last : {s : State} {n : Pair} {k : ℕ} {t : State} → ForEach old new (Lines5to18 old) s n k t → ByLast s n k t
+  by-last : {s : State} {n : Pair} {k : ℕ} {t : State} → ForEach X (Lines5to18 X) s n k t → ByLast s n k t
   by-last none-yet = refl
   by-last (one-more {k} {t} o f L) = record { before = t; spot = o; loop = f; lines = L; is = refl }
 
   -- ---- a round
-  module _ (wo : Words (old .table)) (wn : Words (new .table)) (s : State) (g : Buffers) (n : ℕ) (l : n < 4096) (S : Shaped g) (R : Reads old new s g) (H : InHand (unwait g n) n) (free : newOf n isNotIn s .Δ) where
+  module _ (wo : Words (X .old .table)) (wn : Words (X .new .table)) (s : State) (g : Buffers) (n : ℕ) (l : n < 4096) (S : Shaped g) (R : Reads X s g) (H : InHand (unwait g n) n) (free : newOf n isNotIn s .Δ) where
     v : ℕ
     v = setAt g n
 
     s₀ : State
     s₀ = popped s (pairOf n)
 
-    start : Row old new n v s₀ (unwait g n)
+    start : Row X n v s₀ (unwait g n)
     unfolding s₀ v popped unwait
     start =
         record {
-          reads = record { sets = pop-sets old new s g n (S .sized) l (R .sets); edges = R .edges };
+          reads = record { sets = pop-sets X s g n (S .sized) l (R .sets); edges = R .edges };
           hand = H;
           held = λ z. R .sets .Vδ n l free;
         }
 
     first : Buffers
-    first = rowDone old new (unwait g n) n v 0
+    first = rowDone X (unwait g n) n v 0
 
     -- the set of the pair in hand, as the next row finds it
-    own : (f : State) (h : Buffers) → Row old new n v f h → f .Vδ (pairOf n) ≡ setNow (h .marks) (h .sets) n v
+    own : (f : State) (h : Buffers) → Row X n v f h → f .Vδ (pairOf n) ≡ setNow (h .marks) (h .sets) n v
     own f h Z =
         dite (ℕ-discrete (markAt h n) 0) (λ e. Z .held e ∙ sym (set-had h n v e))
         (λ e. Z .reads .sets .Vδ n l (Z .reads .sets .Δ (newOf n) (omega arith) ∙ marked-no (h .marks) (keptNumber (newOf n)) (Z .hand .free (omega arith)))
         ∙ sym (set-now h n v (omega arith)))
 
-    no-row : (h : Buffers) (u r : ℕ) → size (rowsOf new n) ≤ r → rowDone old new h n u r ≡ h
+    no-row : (h : Buffers) (u r : ℕ) → size (rowsOf (X .new) n) ≤ r → rowDone X h n u r ≡ h
     unfolding rowDone
-    no-row h u r b = rw (le-ltb r (size (rowsOf new n)) b, rowDone)
+    no-row h u r b = rw (le-ltb r (size (rowsOf (X .new) n)) b, rowDone)
 
     first-own : s₀ .Vδ (pairOf n) ≡ v
     unfolding s₀ popped v
@@ -92,84 +93,84 @@ module _ (old new : Chart) (F : FaultlessChart old) (G : FaultlessChart new) whe
 
     first-shaped : Shaped first
     unfolding first v
-    first-shaped = row-lighter old new F G (unwait g n) n v 0 l (S .small n) (unwait-shaped g n S) .shaped
+    first-shaped = row-lighter X F G (unwait g n) n v 0 l (S .small n) (unwait-shaped g n S) .shaped
 
     later-small : v₁ < 2 ^ 64
     unfolding v v₁
     later-small = set-now-small first n v (S .small n) first-shaped
 
     -- what is read after one edge, and after both
-    module _ (a : 0 < size (rowsOf new n)) where
-      one-read : (f : State) → f ≡ s₀ → (o : Option Spot) → Lines5to18 old (oldOf n) (f .Vδ (pairOf n)) (operation (rowsOf new n) 0) o
-          → Row old new n v (called old new f (pairOf n) 0 o) first
+    module _ (a : 0 < size (rowsOf (X .new) n)) where
+      one-read : (f : State) → f ≡ s₀ → (o : Option Spot) → Lines5to18 X (oldOf n) (f .Vδ (pairOf n)) (operation (rowsOf (X .new) n) 0) o
+          → Row X n v (called X f (pairOf n) 0 o) first
       unfolding first v
       one-read f e =
           subst
-          (λ (x : State). (o : Option Spot) → Lines5to18 old (oldOf n) (x .Vδ (pairOf n)) (operation (rowsOf new n) 0) o → Row old new n v (called old new x (pairOf n) 0 o) first)
-          (sym e) (any-read old new F G s₀ (unwait g n) n v 0 l (S .small n) (omega arith) a (unwait-shaped g n S) (start .reads) H first-own wo wn)
+          (λ (x : State). (o : Option Spot) → Lines5to18 X (oldOf n) (x .Vδ (pairOf n)) (operation (rowsOf (X .new) n) 0) o → Row X n v (called X x (pairOf n) 0 o) first)
+          (sym e) (any-read X F G s₀ (unwait g n) n v 0 l (S .small n) (omega arith) a (unwait-shaped g n S) (start .reads) H first-own wo wn)
 
-      after-one : (t : State) → ForEach old new (Lines5to18 old) s₀ (pairOf n) 1 t → Row old new n v t first
+      after-one : (t : State) → ForEach X (Lines5to18 X) s₀ (pairOf n) 1 t → Row X n v t first
       after-one t f =
           let K = by-last f in
-          subst (λ (x : State). Row old new n v x first) (sym (K .is)) (one-read (K .before) (by-last (K .loop)) (K .spot) (K .lines))
+          subst (λ (x : State). Row X n v x first) (sym (K .is)) (one-read (K .before) (by-last (K .loop)) (K .spot) (K .lines))
 
-      after-two : 1 < size (rowsOf new n) → (t : State) → ForEach old new (Lines5to18 old) s₀ (pairOf n) 2 t → Reads old new t (rowDone old new first n v₁ 1)
+      after-two : 1 < size (rowsOf (X .new) n) → (t : State) → ForEach X (Lines5to18 X) s₀ (pairOf n) 2 t → Reads X t (rowDone X first n v₁ 1)
       unfolding v₁
       after-two c t f =
           let K = by-last f in
           let one = after-one (K .before) (K .loop) in
-          subst (λ (x : State). Reads old new x (rowDone old new first n v₁ 1)) (sym (K .is))
-          (any-read old new F G (K .before) first n v₁ 1 l later-small (omega arith) c first-shaped (one .reads) (one .hand) (own (K .before) first one) wo wn (K .spot) (K .lines) .reads)
+          subst (λ (x : State). Reads X x (rowDone X first n v₁ 1)) (sym (K .is))
+          (any-read X F G (K .before) first n v₁ 1 l later-small (omega arith) c first-shaped (one .reads) (one .hand) (own (K .before) first one) wo wn (K .spot) (K .lines) .reads)
 
     -- lines 4 to 18 for as many edges as there are: whatever they come to is read in what the turn leaves
-    reads-after : (k : ℕ) → size (rowsOf new n) ≡ k → (t : State) → ForEach old new (Lines5to18 old) s₀ (pairOf n) k t → Reads old new t (rowDone old new first n v₁ 1)
+    reads-after : (k : ℕ) → size (rowsOf (X .new) n) ≡ k → (t : State) → ForEach X (Lines5to18 X) s₀ (pairOf n) k t → Reads X t (rowDone X first n v₁ 1)
     unfolding first v v₁
     reads-after zero e t f =
-        subst (λ (h : Buffers). Reads old new t h) (sym (no-row first v₁ 1 (omega arith) ∙ no-row (unwait g n) v 0 (omega arith)))
-        (subst (λ (x : State). Reads old new x (unwait g n)) (sym (by-last f)) (start .reads))
-    reads-after (suc zero) e t f = subst (λ (h : Buffers). Reads old new t h) (sym (no-row first v₁ 1 (omega arith))) (after-one (omega arith) t f .reads)
+        subst (λ (h : Buffers). Reads X t h) (sym (no-row first v₁ 1 (omega arith) ∙ no-row (unwait g n) v 0 (omega arith)))
+        (subst (λ (x : State). Reads X x (unwait g n)) (sym (by-last f)) (start .reads))
+    reads-after (suc zero) e t f = subst (λ (h : Buffers). Reads X t h) (sym (no-row first v₁ 1 (omega arith))) (after-one (omega arith) t f .reads)
     reads-after (suc (suc zero)) e t f = after-two (omega arith) (omega arith) t f
-    reads-after (suc (suc (suc k))) e t f = absurd (omega (arith, two-at-most new G (wn .small) (n % 64)))
+    reads-after (suc (suc (suc k))) e t f = absurd (omega (arith, two-at-most (X .new) G (wn .small) (n % 64)))
 
-    pub round-read : (t : State) → ForEach old new (Lines5to18 old) (popped s (pairOf n)) (pairOf n) (size (rowsOf new n)) t → Reads old new t (taken old new g n)
+    pub round-read : (t : State) → ForEach X (Lines5to18 X) (popped s (pairOf n)) (pairOf n) (size (rowsOf (X .new) n)) t → Reads X t (taken X g n)
     unfolding taken secondDone first v v₁ s₀
-    round-read t f = reads-after (size (rowsOf new n)) refl t f
+    round-read t f = reads-after (size (rowsOf (X .new) n)) refl t f
 
     -- and they come to something
     first-state : State
-    first-state = called old new s₀ (pairOf n) 0 (cameTo old new n v 0)
+    first-state = called X s₀ (pairOf n) 0 (cameTo X n v 0)
 
-    loop-one : 0 < size (rowsOf new n) → ForEach old new (Lines5to18 old) s₀ (pairOf n) 1 first-state
+    loop-one : 0 < size (rowsOf (X .new) n) → ForEach X (Lines5to18 X) s₀ (pairOf n) 1 first-state
     unfolding v first-state
-    loop-one a = one-more (cameTo old new n v 0) none-yet
-        (stepped old new F G s₀ (unwait g n) n v 0 l (S .small n) (omega arith) a (unwait-shaped g n S) (start .reads) H first-own wo wn)
+    loop-one a = one-more (cameTo X n v 0) none-yet
+        (stepped X F G s₀ (unwait g n) n v 0 l (S .small n) (omega arith) a (unwait-shaped g n S) (start .reads) H first-own wo wn)
 
-    loops : (k : ℕ) → size (rowsOf new n) ≡ k → (t : State) × ForEach old new (Lines5to18 old) s₀ (pairOf n) k t
+    loops : (k : ℕ) → size (rowsOf (X .new) n) ≡ k → (t : State) × ForEach X (Lines5to18 X) s₀ (pairOf n) k t
     unfolding v₁
     loops zero e = (s₀, none-yet)
     loops (suc zero) e = (first-state, loop-one (omega arith))
     loops (suc (suc zero)) e =
         let f = loop-one (omega arith) in
         let one = after-one (omega arith) first-state f in (
-          called old new first-state (pairOf n) 1 (cameTo old new n v₁ 1),
-          one-more (cameTo old new n v₁ 1) f
-              (stepped old new F G first-state first n v₁ 1 l later-small (omega arith) (omega arith) first-shaped (one .reads) (one .hand) (own first-state first one) wo wn),
+          called X first-state (pairOf n) 1 (cameTo X n v₁ 1),
+          one-more (cameTo X n v₁ 1) f
+              (stepped X F G first-state first n v₁ 1 l later-small (omega arith) (omega arith) first-shaped (one .reads) (one .hand) (own first-state first one) wo wn),
         )
-    loops (suc (suc (suc k))) e = absurd (omega (arith, two-at-most new G (wn .small) (n % 64)))
+    loops (suc (suc (suc k))) e = absurd (omega (arith, two-at-most (X .new) G (wn .small) (n % 64)))
 
-    pub round : (t : State) × ForEach old new (Lines5to18 old) (popped s (pairOf n)) (pairOf n) (size (rowsOf new n)) t
+    pub round : (t : State) × ForEach X (Lines5to18 X) (popped s (pairOf n)) (pairOf n) (size (rowsOf (X .new) n)) t
     unfolding s₀
-    round = loops (size (rowsOf new n)) refl
+    round = loops (size (rowsOf (X .new) n)) refl
 
   -- ---- the run
   pub record Ran (g : Buffers) : Type 0 where
     pub state : State
-    pub run : Run old new (Lines5to18 old) Lowest state
-    pub reads : Reads old new state g
-    pub inv : Inv old new Every g
+    pub run : Run X (Lines5to18 X) Lowest state
+    pub reads : Reads X state g
+    pub inv : Inv X Every g
 
   -- the pair that a turn takes is the lowest of the waitlist
-  pops-lowest : (s : State) (g : Buffers) (n : ℕ) → Reads old new s g → length (g .waiting) ≡ 4096 → next g ≡ some n → Lowest s (pairOf n)
+  pops-lowest : (s : State) (g : Buffers) (n : ℕ) → Reads X s g → length (g .waiting) ≡ 4096 → next g ≡ some n → Lowest s (pairOf n)
   unfolding next lowest
   pops-lowest s g n R z e m w =
       let f = first-is (λ i x. not (eqb x 0)) (g .waiting) n e in
@@ -181,7 +182,7 @@ module _ (old new : Chart) (F : FaultlessChart old) (G : FaultlessChart new) whe
       (λ l. omega arith)
 
   -- the pair that a turn takes, in hand
-  module _ (s : State) (g : Buffers) (n : ℕ) (R : Reads old new s g) (I : Inv old new Every g) (e : next g ≡ some n) where
+  module _ (s : State) (g : Buffers) (n : ℕ) (R : Reads X s g) (I : Inv X Every g) (e : next g ≡ some n) where
     waiter : Waiter g n
     waiter = next-waits g n e
 
@@ -203,7 +204,7 @@ module _ (old new : Chart) (F : FaultlessChart old) (G : FaultlessChart new) whe
     taken-waits : pairOf n isIn s .waitlist
     taken-waits = R .sets .waits n below ∙ marked-yes (g .waiting) n (waiter .waits)
 
-  turn-ran : Words (old .table) → Words (new .table) → (g : Buffers) (n : ℕ) → Ran g → next g ≡ some n → Ran (taken old new g n)
+  turn-ran : Words (X .old .table) → Words (X .new .table) → (g : Buffers) (n : ℕ) → Ran g → next g ≡ some n → Ran (taken X g n)
   turn-ran wo wn g n A e =
       let s = A .state in
       let R = A .reads in
@@ -213,10 +214,10 @@ module _ (old new : Chart) (F : FaultlessChart old) (G : FaultlessChart new) whe
         state = f .0;
         run = lines3to18 (pairOf n) (A .run) (taken-waits s g n R I e) (pops-lowest s g n R (I .shaped .sized .waiting) e) (f .1);
         reads = round-read wo wn s g n (below s g n R I e) (I .shaped) R (in-hand s g n R I e) (free s g n R I e) (f .0) (f .1);
-        inv = turn-inv old new F G g n I e;
+        inv = turn-inv X F G g n I e;
       }
 
-  begun-read : Reads old new (algorithm2.begun old new) (begun old new)
+  begun-read : Reads X (algorithm2.begun X) (begun (headsOf X))
   unfolding begun algorithm2.begun
   begun-read =
       record {
@@ -244,21 +245,21 @@ module _ (old new : Chart) (F : FaultlessChart old) (G : FaultlessChart new) whe
           (λ z. other-pair 0 i z ∙ sym (marked-no (set (replicate m 0) 0 1) i (one-other m 0 1 i z)))
 
   -- where nothing waits any more, the build stands at the end of a run
-  pub explored-ran : Words (old .table) → Words (new .table) → Ran (explored old new)
+  pub explored-ran : Words (X .old .table) → Words (X .new .table) → Ran (explored X)
   unfolding explored
   explored-ran wo wn =
-      repeated-keeps next (taken old new) Ran (turn-ran wo wn) (2 ^ 80) (begun old new)
-      (record { state = algorithm2.begun old new; run = line1; reads = begun-read; inv = begun-inv old new F G })
+      repeated-keeps next (taken X) Ran (turn-ran wo wn) (2 ^ 80) (begun (headsOf X))
+      (record { state = algorithm2.begun X; run = line1; reads = begun-read; inv = begun-inv X F G })
 
   -- ---- any run: the build, after some of its turns, reads what it has come to
   record Come (s : State) : Type 0 where
     graph : Buffers
-    reads : Reads old new s graph
-    inv : Inv old new Every graph
-    going : Going next (taken old new) weight Shaped (explored old new) graph
+    reads : Reads X s graph
+    inv : Inv X Every graph
+    going : Going next (taken X) weight Shaped (explored X) graph
 
   -- the lowest waiting pair is the one that the turn takes
-  takes-it : (s : State) (g : Buffers) (i : ℕ) → Reads old new s g → Inv old new Every g → i < 4096 → pairOf i isIn s .waitlist → Lowest s (pairOf i) → next g ≡ some i
+  takes-it : (s : State) (g : Buffers) (i : ℕ) → Reads X s g → Inv X Every g → i < 4096 → pairOf i isIn s .waitlist → Lowest s (pairOf i) → next g ≡ some i
   takes-it s g i R I l w c = go (next g) refl
     where
       go : (x : Option ℕ) → next g ≡ x → next g ≡ some i
@@ -272,42 +273,42 @@ module _ (old new : Chart) (F : FaultlessChart old) (G : FaultlessChart new) whe
           let z : k ≡ i = omega (arith, a, b) in
           e ∙ ap some z
 
-  turn-come : Words (old .table) → Words (new .table) → (s t : State) → Come s → (i : ℕ) → i < 4096 → pairOf i isIn s .waitlist → Lowest s (pairOf i)
-      → ForEach old new (Lines5to18 old) (popped s (pairOf i)) (pairOf i) (size (rowsOf new i)) t → Come t
+  turn-come : Words (X .old .table) → Words (X .new .table) → (s t : State) → Come s → (i : ℕ) → i < 4096 → pairOf i isIn s .waitlist → Lowest s (pairOf i)
+      → ForEach X (Lines5to18 X) (popped s (pairOf i)) (pairOf i) (size (rowsOf (X .new) i)) t → Come t
   turn-come wo wn s t A i l w c f =
       let g = A .graph in
       let R = A .reads in
       let I = A .inv in
       let e = takes-it s g i R I l w c in
       record {
-        graph = taken old new g i;
+        graph = taken X g i;
         reads = round-read wo wn s g i l (I .shaped) R (in-hand s g i R I e) (free s g i R I e) t f;
-        inv = turn-inv old new F G g i I e;
-        going = again-by next (taken old new) weight Shaped (turns old new F G) (A .going) e refl;
+        inv = turn-inv X F G g i I e;
+        going = again-by next (taken X) weight Shaped (turns X F G) (A .going) e refl;
       }
 
-  come : Words (old .table) → Words (new .table) → {s : State} → Run old new (Lines5to18 old) Lowest s → Come s
+  come : Words (X .old .table) → Words (X .new .table) → {s : State} → Run X (Lines5to18 X) Lowest s → Come s
   unfolding explored
   come wo wn line1 =
       record {
-        graph = begun old new;
+        graph = begun (headsOf X);
         reads = begun-read;
-        inv = begun-inv old new F G;
-        going = record { good = begun-shaped old new F G; turns = 2 ^ 80; enough = begun-weight old new F G; same = refl };
+        inv = begun-inv X F G;
+        going = record { good = begun-shaped X F G; turns = 2 ^ 80; enough = begun-weight X F G; same = refl };
       }
   come wo wn (lines3to18 {s} {t} n r w c f) =
       let A = come wo wn r in
       let B = A .reads .sets .waits-numbered n w in
       subst
-      (λ (m : Pair). m isIn s .waitlist → Lowest s m → ForEach old new (Lines5to18 old) (popped s m) m (size (edges old new (m .new))) t → Come t)
+      (λ (m : Pair). m isIn s .waitlist → Lowest s m → ForEach X (Lines5to18 X) (popped s m) m (size (edges X (m .new))) t → Come t)
       (pair-is n B) (turn-come wo wn s t A (number n) (number-below n B)) w c f
 
   -- a run that has ended is read in what the build explores
-  pub ended-read : Words (old .table) → Words (new .table) → {s : State} → Run old new (Lines5to18 old) Lowest s → Ended s → Reads old new s (explored old new)
+  pub ended-read : Words (X .old .table) → Words (X .new .table) → {s : State} → Run X (Lines5to18 X) Lowest s → Ended s → Reads X s (explored X)
   ended-read wo wn {s} r d = go (come wo wn r)
     where
-      go : Come s → Reads old new s (explored old new)
-      go A = subst (λ (h : Buffers). Reads old new s h) (done-by next (taken old new) weight Shaped (turns old new F G) (A .going) (rests (next (A .graph)) refl)) (A .reads)
+      go : Come s → Reads X s (explored X)
+      go A = subst (λ (h : Buffers). Reads X s h) (done-by next (taken X) weight Shaped (turns X F G) (A .going) (rests (next (A .graph)) refl)) (A .reads)
         where
           rests : (x : Option ℕ) → next (A .graph) ≡ x → next (A .graph) ≡ none
           rests none e = e

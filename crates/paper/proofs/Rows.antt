@@ -15,7 +15,7 @@ use Rattle.base.proofs.OnSome.{on-at}
 use Rattle.operations.specs.Assumptions.{Operands}
 use Rattle.chart.specs.declared.places.NewPlace.{NewPlace}
 use Rattle.chart.specs.Places.{pairNumber, keptNumber, oldOf, newOf}
-use Rattle.chart.specs.Charts.{Chart, size, operation}
+use Rattle.chart.specs.Charts.{size, operation}
 use Rattle.chart.proofs.Words.{Words}
 use Rattle.chart.specs.Faultless.{FaultlessChart}
 use Rattle.align.specs.declared.spots.Spot.{Spot}
@@ -37,6 +37,7 @@ use Rattle.paper.proofs.Stepping.{step-lines}
 use Rattle.paper.proofs.Outcomes.{one-outcome}
 use Rattle.paper.proofs.Reading.{Sets, keep-sets, kept-sets, join-sets}
 use Rattle.paper.proofs.Edges.{Sound, Edges, keep-edges, aim-edges, added}
+use Rattle.chart.specs.Compared.{Compared, headsOf}
 
 -- a store of a target changes nothing else
 module _ (g : Buffers) (n r t : ℕ) where
@@ -47,46 +48,46 @@ module _ (g : Buffers) (n r t : ℕ) where
   aim-marks = by-aim g n r t (λ h. h .marks ≡ g .marks) (λ p. refl) (λ z. refl)
 
 -- lines 5 to 18, for pair n, the set v and row r
-abbrev pub cameTo : Chart → Chart → ℕ → ℕ → ℕ → Option Spot
-cameTo old new n v r = moved old (record { place = oldOf n; set = v }) (operation (rowsOf new n) r)
+abbrev pub cameTo : Compared → ℕ → ℕ → ℕ → Option Spot
+cameTo X n v r = moved X (record { place = oldOf n; set = v }) (operation (rowsOf (X .new) n) r)
 
 -- ---- lines 5 to 18 and 27 are the aligned step
-module _ (old new : Chart) (s : State) (n r : ℕ) where
+module _ (X : Compared) (s : State) (n r : ℕ) where
   abbrev q₂ : NewPlace
-  q₂ = leadsTo new n r
+  q₂ = leadsTo (X .new) n r
 
-  fails : (o : Option Spot) → arrived (old .alarm) (new .alarm) q₂ o ≡ none → called old new s (pairOf n) r o ≡ toPlace s (pairOf n) r q₂
+  fails : (o : Option Spot) → arrived (headsOf X) q₂ o ≡ none → called X s (pairOf n) r o ≡ toPlace s (pairOf n) r q₂
   unfolding arrived called process line27
   fails none e = refl
-  fails (some h) e = go (eqb (q₂ .0) (new .alarm)) (eqb (h .place .0) (old .alarm)) e
+  fails (some h) e = go (eqb (q₂ .0) (X .new .head .alarm)) (eqb (h .place .0) (X .old .head .alarm)) e
     where
       go : (a b : Bool) → when (not a || b) h ≡ none
-          → (elim (not b && a) as (λ _. State) [ true ↦ toPlace s (pairOf n) r q₂ | false ↦ toPair old new s (pairOf n) r (pair (h .place) q₂) (h .set) ]) ≡ toPlace s (pairOf n) r q₂
+          → (elim (not b && a) as (λ _. State) [ true ↦ toPlace s (pairOf n) r q₂ | false ↦ toPair X s (pairOf n) r (pair (h .place) q₂) (h .set) ]) ≡ toPlace s (pairOf n) r q₂
       go true true e = absurd (Option·none-ne-some h (sym e))
       go true false e = refl
       go false b e = absurd (Option·none-ne-some h (sym e))
 
-  arrives : (o : Option Spot) (h : Spot) → arrived (old .alarm) (new .alarm) q₂ o ≡ some h
-      → (o ≡ some h) × (called old new s (pairOf n) r o ≡ toPair old new s (pairOf n) r (pair (h .place) q₂) (h .set))
+  arrives : (o : Option Spot) (h : Spot) → arrived (headsOf X) q₂ o ≡ some h
+      → (o ≡ some h) × (called X s (pairOf n) r o ≡ toPair X s (pairOf n) r (pair (h .place) q₂) (h .set))
   unfolding arrived called process line27
   arrives none h e = absurd (Option·none-ne-some h e)
-  arrives (some h′) h e = go (eqb (q₂ .0) (new .alarm)) (eqb (h′ .place .0) (old .alarm)) e
+  arrives (some h′) h e = go (eqb (q₂ .0) (X .new .head .alarm)) (eqb (h′ .place .0) (X .old .head .alarm)) e
     where
-      same : h′ ≡ h → toPair old new s (pairOf n) r (pair (h′ .place) q₂) (h′ .set) ≡ toPair old new s (pairOf n) r (pair (h .place) q₂) (h .set)
-      same z = ap (λ (k : Spot). toPair old new s (pairOf n) r (pair (k .place) q₂) (k .set)) z
+      same : h′ ≡ h → toPair X s (pairOf n) r (pair (h′ .place) q₂) (h′ .set) ≡ toPair X s (pairOf n) r (pair (h .place) q₂) (h .set)
+      same z = ap (λ (k : Spot). toPair X s (pairOf n) r (pair (k .place) q₂) (k .set)) z
 
       go : (a b : Bool) → when (not a || b) h′ ≡ some h
-          → (some h′ ≡ some h) × ((elim (not b && a) as (λ _. State) [ true ↦ toPlace s (pairOf n) r q₂ | false ↦ toPair old new s (pairOf n) r (pair (h′ .place) q₂) (h′ .set) ]) ≡ toPair old new s (pairOf n) r (pair (h .place) q₂) (h .set))
+          → (some h′ ≡ some h) × ((elim (not b && a) as (λ _. State) [ true ↦ toPlace s (pairOf n) r q₂ | false ↦ toPair X s (pairOf n) r (pair (h′ .place) q₂) (h′ .set) ]) ≡ toPair X s (pairOf n) r (pair (h .place) q₂) (h .set))
       go true true e = (e, same (Option·some-injective h′ h e))
       go true false e = absurd (Option·none-ne-some h e)
       go false true e = (e, same (Option·some-injective h′ h e))
       go false false e = (e, same (Option·some-injective h′ h e))
 
 -- ---- one edge
-module _ (old new : Chart) where
+module _ (X : Compared) where
   pub record Reads (s : State) (g : Buffers) : Type 0 where
     pub sets : Sets s g
-    pub edges : Edges old new (s .Eₗ) (s .Δ) (g .targets)
+    pub edges : Edges X (s .Eₗ) (s .Δ) (g .targets)
 
 -- the pair in hand is in the graph unless its place is kept
 pub record InHand (g : Buffers) (n : ℕ) : Type 0 where
@@ -94,8 +95,8 @@ pub record InHand (g : Buffers) (n : ℕ) : Type 0 where
   pub free : 0 < markAt g n → markAt g (keptNumber (newOf n)) ≡ 0
 
 -- what holds after an edge of the pair n, taken under the set v: "under the set it had, even if it left the graph"
-pub record Row (old new : Chart) (n v : ℕ) (s : State) (g : Buffers) : Type 0 where
-  pub reads : Reads old new s g
+pub record Row (X : Compared) (n v : ℕ) (s : State) (g : Buffers) : Type 0 where
+  pub reads : Reads X s g
   pub hand : InHand g n
   pub held : markAt g n ≡ 0 → s .Vδ (pairOf n) ≡ v
 
@@ -103,129 +104,129 @@ pub unwait-hand : (g : Buffers) (n : ℕ) → InHand g n → InHand (unwait g n)
 unfolding unwait
 unwait-hand g n J = record { there = J .there; free = J .free }
 
-module _ (old new : Chart) (F : FaultlessChart old) (G : FaultlessChart new) where
-  module _ (s : State) (g : Buffers) (n v r : ℕ) (l : n < 4096) (w : v < 2 ^ 64) (c : r < 2) (a : r < size (rowsOf new n)) (S : Shaped g) (R : Reads old new s g) (H : InHand g n) (own : s .Vδ (pairOf n) ≡ v) where
-    q-below : leadsTo new n r .0 < 64
-    q-below = omega (arith, leads-below old new F G n v r a, G .few-places)
+module _ (X : Compared) (F : FaultlessChart (X .old)) (G : FaultlessChart (X .new)) where
+  module _ (s : State) (g : Buffers) (n v r : ℕ) (l : n < 4096) (w : v < 2 ^ 64) (c : r < 2) (a : r < size (rowsOf (X .new) n)) (S : Shaped g) (R : Reads X s g) (H : InHand g n) (own : s .Vδ (pairOf n) ≡ v) where
+    q-below : leadsTo (X .new) n r .0 < 64
+    q-below = omega (arith, leads-below X F G n v r a, G .few-places)
 
     not-kept : newOf n isNotIn s .Δ → markAt g (keptNumber (newOf n)) ≡ 0
     not-kept e = not-marked (g .marks) (keptNumber (newOf n)) (sym (R .sets .Δ (newOf n) (omega arith)) ∙ e)
 
     -- lines 23 to 25
-    hand-kept : InHand (keep g (leadsTo new n r)) n
+    hand-kept : InHand (keep g (leadsTo (X .new) n r)) n
     hand-kept =
         record {
-          there = λ e. (let z = away e in let y = H .there (sym (others z) ∙ e) in omega (arith, keep-mark-other g (leadsTo new n r) (S .sized) q-below n l z));
-          free = λ p. (let z : n % 64 ≡ leadsTo new n r .0 → ⊥ = λ h. omega (arith, keep-mark g (leadsTo new n r) (S .sized) q-below n l h) in
-              others z ∙ H .free (omega (arith, keep-mark-other g (leadsTo new n r) (S .sized) q-below n l z)));
+          there = λ e. (let z = away e in let y = H .there (sym (others z) ∙ e) in omega (arith, keep-mark-other g (leadsTo (X .new) n r) (S .sized) q-below n l z));
+          free = λ p. (let z : n % 64 ≡ leadsTo (X .new) n r .0 → ⊥ = λ h. omega (arith, keep-mark g (leadsTo (X .new) n r) (S .sized) q-below n l h) in
+              others z ∙ H .free (omega (arith, keep-mark-other g (leadsTo (X .new) n r) (S .sized) q-below n l z)));
         }
       where
-        away : markAt (keep g (leadsTo new n r)) (keptNumber (newOf n)) ≡ 0 → n % 64 ≡ leadsTo new n r .0 → ⊥
-        away e h = let y : keptNumber (newOf n) ≡ keptNumber (leadsTo new n r) = omega arith in omega (arith, rw y at e, keep-node g (leadsTo new n r) (S .sized) q-below)
+        away : markAt (keep g (leadsTo (X .new) n r)) (keptNumber (newOf n)) ≡ 0 → n % 64 ≡ leadsTo (X .new) n r .0 → ⊥
+        away e h = let y : keptNumber (newOf n) ≡ keptNumber (leadsTo (X .new) n r) = omega arith in omega (arith, rw y at e, keep-node g (leadsTo (X .new) n r) (S .sized) q-below)
 
-        others : (n % 64 ≡ leadsTo new n r .0 → ⊥) → markAt (keep g (leadsTo new n r)) (keptNumber (newOf n)) ≡ markAt g (keptNumber (newOf n))
-        others z = keep-nodes g (leadsTo new n r) (S .sized) q-below (keptNumber (newOf n)) (omega arith) (omega arith) (λ h. z (omega arith))
+        others : (n % 64 ≡ leadsTo (X .new) n r .0 → ⊥) → markAt (keep g (leadsTo (X .new) n r)) (keptNumber (newOf n)) ≡ markAt g (keptNumber (newOf n))
+        others z = keep-nodes g (leadsTo (X .new) n r) (S .sized) q-below (keptNumber (newOf n)) (omega arith) (omega arith) (λ h. z (omega arith))
 
     hand-aim : (f : Buffers) (t : ℕ) → InHand f n → InHand (aim f n r t) n
     hand-aim f t J = by-aim f n r t (λ h. InHand h n) (λ p. record { there = J .there; free = J .free }) (λ z. J)
 
-    fails-row : Row old new n v (toPlace s (pairOf n) r (leadsTo new n r)) (aim (keep g (leadsTo new n r)) n r (keptNumber (leadsTo new n r)))
+    fails-row : Row X n v (toPlace s (pairOf n) r (leadsTo (X .new) n r)) (aim (keep g (leadsTo (X .new) n r)) n r (keptNumber (leadsTo (X .new) n r)))
     unfolding toPlace
     fails-row =
-        let q = leadsTo new n r in
-        let K = keep-sets old new s g (pairOf n) r q (S .sized) q-below (R .sets) in
+        let q = leadsTo (X .new) n r in
+        let K = keep-sets X s g (pairOf n) r q (S .sized) q-below (R .sets) in
         let there : newOf n isNotIn (s .Δ plus onlyPlace q) → 0 < markAt (keep g q) n =
         λ e. hand-kept .there (not-marked (keep g q .marks) (keptNumber (newOf n)) (sym (K .Δ (newOf n) (omega arith)) ∙ e)) in
-        let fits : Sound old new (s .Δ plus onlyPlace q) (edge (pairOf n) r (indicator q)) = record { row = a; onto = (refl, rw (the-place q) (or-true (s .Δ q))) } in
+        let fits : Sound X (s .Δ plus onlyPlace q) (edge (pairOf n) r (indicator q)) = record { row = a; onto = (refl, rw (the-place q) (or-true (s .Δ q))) } in
         let Z = keep-shaped g q S .sized in
         record {
           reads =
               record {
                 sets = aim-sets (keep g q) n r (keptNumber q) (toPlace s (pairOf n) r q) K;
                 edges =
-                    aim-edges old new (s .Eₗ) (s .Δ plus onlyPlace q) (keep g q) n r (keptNumber q) (indicator q) Z l c there fits (λ e. omega (arith, q-below))
-                    (keep-edges old new (s .Eₗ) (s .Δ) g q (S .sized) q-below (R .edges))
+                    aim-edges X (s .Eₗ) (s .Δ plus onlyPlace q) (keep g q) n r (keptNumber q) (indicator q) Z l c there fits (λ e. omega (arith, q-below))
+                    (keep-edges X (s .Eₗ) (s .Δ) g q (S .sized) q-below (R .edges))
                     (inl
                     (record {
                       is = refl;
                       succ = indicator q;
-                      edge = added old new (s .Eₗ) (s .Δ plus onlyPlace q) (keep g q) n r (keptNumber q) (indicator q) Z l c there fits (λ e. omega (arith, q-below));
+                      edge = added X (s .Eₗ) (s .Δ plus onlyPlace q) (keep g q) n r (keptNumber q) (indicator q) Z l c there fits (λ e. omega (arith, q-below));
                     }));
               };
           hand = hand-aim (keep g q) (keptNumber q) hand-kept;
           held = λ z. own;
         }
 
-    module _ (h : Spot) (came : cameTo old new n v r ≡ some h) where
-      place : h .place ≡ successor old (oldOf n) (operation (rowsOf new n) r)
-      place = on-at _ (one-successor old (oldOf n) v (operation (rowsOf new n) r)) came
+    module _ (h : Spot) (came : cameTo X n v r ≡ some h) where
+      place : h .place ≡ successor X (oldOf n) (operation (rowsOf (X .new) n) r)
+      place = on-at _ (one-successor X (oldOf n) v (operation (rowsOf (X .new) n) r)) came
 
-      kept-row : leadsTo new n r isIn s .Δ → Row old new n v (toPair old new s (pairOf n) r (pair (h .place) (leadsTo new n r)) (h .set)) (aim g n r (keptNumber (leadsTo new n r)))
+      kept-row : leadsTo (X .new) n r isIn s .Δ → Row X n v (toPair X s (pairOf n) r (pair (h .place) (leadsTo (X .new) n r)) (h .set)) (aim g n r (keptNumber (leadsTo (X .new) n r)))
       unfolding toPair
       kept-row k =
-          let q = leadsTo new n r in
+          let q = leadsTo (X .new) n r in
           let x = aligned (pair (h .place) q) in
           let there : newOf n isNotIn s .Δ → 0 < markAt g n = λ e. H .there (not-kept e) in
-          let fits : Sound old new (s .Δ) (edge (pairOf n) r x) = record { row = a; onto = (refl, place) } in
+          let fits : Sound X (s .Δ) (edge (pairOf n) r x) = record { row = a; onto = (refl, place) } in
           record {
             reads =
                 record {
-                  sets = aim-sets g n r (keptNumber q) (toPair old new s (pairOf n) r (pair (h .place) q) (h .set)) (kept-sets old new s g (pairOf n) r (pair (h .place) q) (h .set) k (R .sets));
+                  sets = aim-sets g n r (keptNumber q) (toPair X s (pairOf n) r (pair (h .place) q) (h .set)) (kept-sets X s g (pairOf n) r (pair (h .place) q) (h .set) k (R .sets));
                   edges =
-                      aim-edges old new (s .Eₗ) (s .Δ) g n r (keptNumber q) x (S .sized) l c there fits (λ e. omega (arith, q-below)) (R .edges)
+                      aim-edges X (s .Eₗ) (s .Δ) g n r (keptNumber q) x (S .sized) l c there fits (λ e. omega (arith, q-below)) (R .edges)
                       (inl
                       (record {
                         is = refl;
                         succ = x;
-                        edge = added old new (s .Eₗ) (s .Δ) g n r (keptNumber q) x (S .sized) l c there fits (λ e. omega (arith, q-below));
+                        edge = added X (s .Eₗ) (s .Δ) g n r (keptNumber q) x (S .sized) l c there fits (λ e. omega (arith, q-below));
                       }));
                 };
             hand = hand-aim g (keptNumber q) H;
             held = λ z. rw (k, toPair) own;
           }
 
-      module _ (t : ℕ) (is : t ≡ pairNumber (h .place) (leadsTo new n r)) (T : Fits 64 h) (f : leadsTo new n r isNotIn s .Δ) where
+      module _ (t : ℕ) (is : t ≡ pairNumber (h .place) (leadsTo (X .new) n r)) (T : Fits 64 h) (f : leadsTo (X .new) n r isNotIn s .Δ) where
         below : t < 4096
         below = omega (arith, T .place, q-below)
 
-        new-place : newOf t ≡ leadsTo new n r
+        new-place : newOf t ≡ leadsTo (X .new) n r
         new-place = ap (λ (y : ℕ). record { 0 = y }) (omega (arith, q-below))
 
         free : newOf t isNotIn s .Δ
         free = ap (s .Δ) new-place ∙ f
 
         abbrev j : Buffers
-        j = join (old .alarm) g t (h .set)
+        j = join (X .old .head .alarm) g t (h .set)
 
         hand-joined : InHand j n
         hand-joined =
             record {
-              there = λ e. dite (ℕ-discrete n t) (λ z. rw z (omega (arith, join-mark (old .alarm) g t (h .set) (S .sized) below)))
-                  (λ z. omega (arith, join-mark-other (old .alarm) g t (h .set) (S .sized) below n z, H .there (sym others ∙ e)));
+              there = λ e. dite (ℕ-discrete n t) (λ z. rw z (omega (arith, join-mark (X .old .head .alarm) g t (h .set) (S .sized) below)))
+                  (λ z. omega (arith, join-mark-other (X .old .head .alarm) g t (h .set) (S .sized) below n z, H .there (sym others ∙ e)));
               free = λ p. others
                   ∙ dite (ℕ-discrete n t) (λ z. rw z (not-marked (g .marks) (keptNumber (newOf t)) (sym (R .sets .Δ (newOf t) (omega arith)) ∙ free)))
-                  (λ z. H .free (omega (arith, join-mark-other (old .alarm) g t (h .set) (S .sized) below n z)));
+                  (λ z. H .free (omega (arith, join-mark-other (X .old .head .alarm) g t (h .set) (S .sized) below n z)));
             }
           where
             others : markAt j (keptNumber (newOf n)) ≡ markAt g (keptNumber (newOf n))
-            others = join-mark-other (old .alarm) g t (h .set) (S .sized) below (keptNumber (newOf n)) (λ e. omega (arith, below))
+            others = join-mark-other (X .old .head .alarm) g t (h .set) (S .sized) below (keptNumber (newOf n)) (λ e. omega (arith, below))
 
-        joins-row : Row old new n v (toPair old new s (pairOf n) r (pairOf t) (h .set)) (aim j n r t)
+        joins-row : Row X n v (toPair X s (pairOf n) r (pairOf t) (h .set)) (aim j n r t)
         unfolding toPair
         joins-row =
             let x = aligned (pairOf t) in
-            let there : newOf n isNotIn s .Δ → 0 < markAt j n = λ e. hand-joined .there (join-mark-other (old .alarm) g t (h .set) (S .sized) below (keptNumber (newOf n)) (λ z. omega (arith, below)) ∙ not-kept e) in
-            let fits : Sound old new (s .Δ) (edge (pairOf n) r x) =
+            let there : newOf n isNotIn s .Δ → 0 < markAt j n = λ e. hand-joined .there (join-mark-other (X .old .head .alarm) g t (h .set) (S .sized) below (keptNumber (newOf n)) (λ z. omega (arith, below)) ∙ not-kept e) in
+            let fits : Sound X (s .Δ) (edge (pairOf n) r x) =
             record { row = a; onto = (omega (arith, q-below), ap (λ (y : ℕ). record { 0 = y }) (omega (arith, q-below)) ∙ place) } in
-            let Z = join-shaped (old .alarm) g t (h .set) (T .set) S .sized in
-            let E : Edges old new (s .Eₗ) (s .Δ) (j .targets) = rw (join-target (old .alarm) g t (h .set)) (R .edges) in
+            let Z = join-shaped (X .old .head .alarm) g t (h .set) (T .set) S .sized in
+            let E : Edges X (s .Eₗ) (s .Δ) (j .targets) = rw (join-target (X .old .head .alarm) g t (h .set)) (R .edges) in
             record {
               reads =
                   record {
-                    sets = aim-sets j n r t (toPair old new s (pairOf n) r (pairOf t) (h .set)) (join-sets old new s g (pairOf n) r t (h .set) (S .sized) below free (R .sets));
+                    sets = aim-sets j n r t (toPair X s (pairOf n) r (pairOf t) (h .set)) (join-sets X s g (pairOf n) r t (h .set) (S .sized) below free (R .sets));
                     edges =
-                        aim-edges old new (s .Eₗ) (s .Δ) j n r t x Z l c there fits (λ e. omega (arith, below)) E
-                        (inr (record { below = below; edge = added old new (s .Eₗ) (s .Δ) j n r t x Z l c there fits (λ e. omega (arith, below)) }));
+                        aim-edges X (s .Eₗ) (s .Δ) j n r t x Z l c there fits (λ e. omega (arith, below)) E
+                        (inr (record { below = below; edge = added X (s .Eₗ) (s .Δ) j n r t x Z l c there fits (λ e. omega (arith, below)) }));
                   };
               hand = hand-aim j t hand-joined;
               held = λ z. (let y : n ≡ t → ⊥ = λ e. omega (arith, rw (aim-marks j n r t) at z, join-mark-same e) in
@@ -233,55 +234,55 @@ module _ (old new : Chart) (F : FaultlessChart old) (G : FaultlessChart new) whe
             }
           where
             join-mark-same : n ≡ t → markAt j n ≡ 1
-            join-mark-same e = rw e (join-mark (old .alarm) g t (h .set) (S .sized) below)
+            join-mark-same e = rw e (join-mark (X .old .head .alarm) g t (h .set) (S .sized) below)
 
-    some-row : (h : Spot) → (cameTo old new n v r) ≡ some h → Fits 64 h → (k : Bool) → marked (g .marks) (keptNumber (leadsTo new n r)) ≡ k
-        → Row old new n v (toPair old new s (pairOf n) r (pair (h .place) (leadsTo new n r)) (h .set))
+    some-row : (h : Spot) → (cameTo X n v r) ≡ some h → Fits 64 h → (k : Bool) → marked (g .marks) (keptNumber (leadsTo (X .new) n r)) ≡ k
+        → Row X n v (toPair X s (pairOf n) r (pair (h .place) (leadsTo (X .new) n r)) (h .set))
         (elim k as (λ _. Buffers) [
-          | true ↦ aim g n r (keptNumber (leadsTo new n r))
-          | false ↦ aim (join (old .alarm) g (pairNumber (h .place) (leadsTo new n r)) (h .set)) n r (pairNumber (h .place) (leadsTo new n r))
+          | true ↦ aim g n r (keptNumber (leadsTo (X .new) n r))
+          | false ↦ aim (join (X .old .head .alarm) g (pairNumber (h .place) (leadsTo (X .new) n r)) (h .set)) n r (pairNumber (h .place) (leadsTo (X .new) n r))
         ])
-    some-row h e T true k = kept-row h e (R .sets .Δ (leadsTo new n r) q-below ∙ k)
+    some-row h e T true k = kept-row h e (R .sets .Δ (leadsTo (X .new) n r) q-below ∙ k)
     some-row h e T false k =
-        let t = pairNumber (h .place) (leadsTo new n r) in
-        subst (λ (m : Pair). Row old new n v (toPair old new s (pairOf n) r m (h .set)) (aim (join (old .alarm) g t (h .set)) n r t))
-        (pair-is (pair (h .place) (leadsTo new n r)) (record { old = T .place; new = q-below }))
-        (joins-row h e t refl T (R .sets .Δ (leadsTo new n r) q-below ∙ k))
+        let t = pairNumber (h .place) (leadsTo (X .new) n r) in
+        subst (λ (m : Pair). Row X n v (toPair X s (pairOf n) r m (h .set)) (aim (join (X .old .head .alarm) g t (h .set)) n r t))
+        (pair-is (pair (h .place) (leadsTo (X .new) n r)) (record { old = T .place; new = q-below }))
+        (joins-row h e t refl T (R .sets .Δ (leadsTo (X .new) n r) q-below ∙ k))
 
-    row-done : rowDone old new g n v r ≡ processed (old .alarm) g n r (leadsTo new n r) (stepOf old new n v r)
+    row-done : rowDone X g n v r ≡ processed (X .old .head .alarm) g n r (leadsTo (X .new) n r) (stepOf X n v r)
     unfolding rowDone
-    row-done = rw (lt-ltb r (size (rowsOf new n)) a, rowDone)
+    row-done = rw (lt-ltb r (size (rowsOf (X .new) n)) a, rowDone)
 
-    edge-done : (o : Option Spot) → stepOf old new n v r ≡ o → Row old new n v (called old new s (pairOf n) r (cameTo old new n v r)) (processed (old .alarm) g n r (leadsTo new n r) o)
+    edge-done : (o : Option Spot) → stepOf X n v r ≡ o → Row X n v (called X s (pairOf n) r (cameTo X n v r)) (processed (X .old .head .alarm) g n r (leadsTo (X .new) n r) o)
     unfolding stepOf step processed turns.arrived
     edge-done none e =
-        subst (λ (f : State). Row old new n v f (aim (keep g (leadsTo new n r)) n r (keptNumber (leadsTo new n r)))) (sym (fails old new s n r (cameTo old new n v r) e)) fails-row
+        subst (λ (f : State). Row X n v f (aim (keep g (leadsTo (X .new) n r)) n r (keptNumber (leadsTo (X .new) n r)))) (sym (fails X s n r (cameTo X n v r) e)) fails-row
     edge-done (some h) e =
-        let z = arrives old new s n r (cameTo old new n v r) h e in
-        let T = step-of-fits old new F G n v r a 64 (F .few-places) (omega arith) w h e in
-        subst (λ (f : State). Row old new n v f (turns.arrived (old .alarm) g n r (leadsTo new n r) h)) (sym (z .1))
-        (some-row h (z .0) T (marked (g .marks) (keptNumber (leadsTo new n r))) refl)
+        let z = arrives X s n r (cameTo X n v r) h e in
+        let T = step-of-fits X F G n v r a 64 (F .few-places) (omega arith) w h e in
+        subst (λ (f : State). Row X n v f (turns.arrived (X .old .head .alarm) g n r (leadsTo (X .new) n r) h)) (sym (z .1))
+        (some-row h (z .0) T (marked (g .marks) (keptNumber (leadsTo (X .new) n r))) refl)
 
-    row-read : Row old new n v (called old new s (pairOf n) r (cameTo old new n v r)) (rowDone old new g n v r)
-    row-read = subst (λ (f : Buffers). Row old new n v (called old new s (pairOf n) r (cameTo old new n v r)) f) (sym row-done) (edge-done (stepOf old new n v r) refl)
+    row-read : Row X n v (called X s (pairOf n) r (cameTo X n v r)) (rowDone X g n v r)
+    row-read = subst (λ (f : Buffers). Row X n v (called X s (pairOf n) r (cameTo X n v r)) f) (sym row-done) (edge-done (stepOf X n v r) refl)
 
-    module _ (wo : Words (old .table)) (wn : Words (new .table)) where
-      fits : Operands (operation (rowsOf new n) r)
+    module _ (wo : Words (X .old .table)) (wn : Words (X .new .table)) where
+      fits : Operands (operation (rowsOf (X .new) n) r)
       fits =
-          let (i, k) = row-of (new .table) (n % 64) r a in
-          subst Operands (sym (row-same (new .table) (n % 64) k .operation-same)) (operands new G (wn .small) i (k .inside))
+          let (i, k) = row-of (X .new .table) (n % 64) r a in
+          subst Operands (sym (row-same (X .new .table) (n % 64) k .operation-same)) (operands (X .new) G (wn .small) i (k .inside))
 
       -- lines 5 to 18 can come to what the step comes to
-      pub stepped : Lines5to18 old (oldOf n) (s .Vδ (pairOf n)) (operation (rowsOf new n) r) (cameTo old new n v r)
+      pub stepped : Lines5to18 X (oldOf n) (s .Vδ (pairOf n)) (operation (rowsOf (X .new) n) r) (cameTo X n v r)
       stepped =
-          subst (λ (u : ℕ). Lines5to18 old (oldOf n) u (operation (rowsOf new n) r) (cameTo old new n v r)) (sym own)
-          (step-lines old F wo (oldOf n) v (operation (rowsOf new n) r) (omega arith) w fits)
+          subst (λ (u : ℕ). Lines5to18 X (oldOf n) u (operation (rowsOf (X .new) n) r) (cameTo X n v r)) (sym own)
+          (step-lines X F wo (oldOf n) v (operation (rowsOf (X .new) n) r) (omega arith) w fits)
 
       -- and to nothing else: whatever they come to, the row is read
-      pub any-read : (o : Option Spot) → Lines5to18 old (oldOf n) (s .Vδ (pairOf n)) (operation (rowsOf new n) r) o
-          → Row old new n v (called old new s (pairOf n) r o) (rowDone old new g n v r)
+      pub any-read : (o : Option Spot) → Lines5to18 X (oldOf n) (s .Vδ (pairOf n)) (operation (rowsOf (X .new) n) r) o
+          → Row X n v (called X s (pairOf n) r o) (rowDone X g n v r)
       any-read o L =
-          subst (λ (x : Option Spot). Row old new n v (called old new s (pairOf n) r x) (rowDone old new g n v r))
+          subst (λ (x : Option Spot). Row X n v (called X s (pairOf n) r x) (rowDone X g n v r))
           (sym
-          (one-outcome old F wo (oldOf n) v (omega arith) w (operation (rowsOf new n) r) fits
-          (subst (λ (u : ℕ). Lines5to18 old (oldOf n) u (operation (rowsOf new n) r) o) own L))) row-read
+          (one-outcome X F wo (oldOf n) v (omega arith) w (operation (rowsOf (X .new) n) r) fits
+          (subst (λ (u : ℕ). Lines5to18 X (oldOf n) u (operation (rowsOf (X .new) n) r) o) own L))) row-read

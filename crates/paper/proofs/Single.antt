@@ -16,7 +16,7 @@ use Rattle.operations.specs.declared.Operation.{Operation}
 use Rattle.operations.specs.Assumptions.{NeverHolds, Implies, Meets}
 use Rattle.operations.specs.Operations.{isAssignment}
 use Rattle.chart.specs.declared.places.OldPlace.{OldPlace}
-use Rattle.chart.specs.Charts.{Chart, operation}
+use Rattle.chart.specs.Charts.{operation}
 use Rattle.chart.proofs.Words.{Words}
 use Rattle.chart.specs.Charts as charts
 use Rattle.chart.specs.Conflicts.{Opposite}
@@ -30,6 +30,7 @@ use Rattle.chart.proofs.Taken.{not-assignment}
 use Rattle.paper.specs.Lines5to18.{Has, Meet, IsWith, IsWithout, InG, Line13, Line15}
 use Rattle.paper.proofs.Members.{in-or-not}
 use Rattle.paper.proofs.Stepping.{is-with, is-without, meeting, not-meeting, row-edge, no-edge, an-edge}
+use Rattle.chart.specs.Compared.{Compared}
 
 abbrev pub at : OldPlace → ℕ → Spot
 at p s = record { place = p; set = s }
@@ -59,23 +60,23 @@ does-meet s t m = ⊎-elim (λ e. e) (λ e. absurd (not-meeting s t e m)) (in-or
 pub does-not : (s t : ℕ) → s < 2 ^ 64 → (Meet s t → ⊥) → meets s t ≡ false
 does-not s t b n = ⊎-elim (λ e. absurd (n (meeting s t b e))) (λ e. e) (in-or-not (meets s t))
 
-module _ (old : Chart) (F : FaultlessChart old) (words : Words (old .table)) where
+module _ (X : Compared) (F : FaultlessChart (X .old)) (words : Words (X .old .table)) where
   -- ---- two edges of a place: they are one, or exactly one of them can be taken
-  two-edges : {ℓ : OldPlace} {op op₂ : Operation} {q q₂ : OldPlace} → InG old ℓ op q → InG old ℓ op₂ q₂
+  two-edges : {ℓ : OldPlace} {op op₂ : Operation} {q q₂ : OldPlace} → InG X ℓ op q → InG X ℓ op₂ q₂
       → ((op ≡ op₂) × (q ≡ q₂)) ⊎ Opposite op op₂
   two-edges {ℓ} {op} {op₂} {q} {q₂} D E =
       dite (ℕ-discrete (D .row) (E .row))
       (λ z. inl (
-        sym (D .operation) ∙ ap (operation (old .table)) z ∙ E .operation,
-        ap (λ (x : ℕ). record { 0 = x }) (sym (D .to) ∙ ap (charts.to (old .table)) z ∙ E .to),
+        sym (D .operation) ∙ ap (operation (X .old .table)) z ∙ E .operation,
+        ap (λ (x : ℕ). record { 0 = x }) (sym (D .to) ∙ ap (charts.to (X .old .table)) z ∙ E .to),
       ))
       (λ n. inr
       (subst (λ (o : Operation). Opposite o op₂) (D .operation)
-      (subst (λ (o : Operation). Opposite (operation (old .table) (D .row)) o) (E .operation)
-      (two-rows old F (words .small) (D .row) (E .row) (D .there) (E .there) n (D .from ∙ sym (E .from))))))
+      (subst (λ (o : Operation). Opposite (operation (X .old .table) (D .row)) o) (E .operation)
+      (two-rows (X .old) F (words .small) (D .row) (E .row) (D .there) (E .there) n (D .from ∙ sym (E .from))))))
 
   -- an assignment stands alone at its place
-  pub one-assignment : {ℓ : OldPlace} {op op₂ : Operation} {q q₂ : OldPlace} → InG old ℓ op q → InG old ℓ op₂ q₂ → isAssignment op ≡ true
+  pub one-assignment : {ℓ : OldPlace} {op op₂ : Operation} {q q₂ : OldPlace} → InG X ℓ op q → InG X ℓ op₂ q₂ → isAssignment op ≡ true
       → (op ≡ op₂) × (q ≡ q₂)
   one-assignment {op = op} D E a = ⊎-elim (λ e. e) (λ d. absurd (T-true (sym (not-assignment op (d .first)) ∙ a))) (two-edges D E)
 
@@ -99,34 +100,34 @@ module _ (old : Chart) (F : FaultlessChart old) (words : Words (old .table)) whe
     both-match op op₂ d (inl e) (inr j) = j .1 (never op op₂ d (implied op (inl e)) (j .0))
     both-match op op₂ d (inl e) (inl f) = not-opposite op op₂ (e ∙ sym f) d
 
-  pub one-match : {ℓ₁ ℓₚ : OldPlace} {Vδ : ℕ} {o op op₂ : Operation} {q q₂ : OldPlace} → Line15 old ℓ₁ Vδ o ℓₚ op q → Line15 old ℓ₁ Vδ o ℓₚ op₂ q₂
+  pub one-match : {ℓ₁ ℓₚ : OldPlace} {Vδ : ℕ} {o op op₂ : Operation} {q q₂ : OldPlace} → Line15 X ℓ₁ Vδ o ℓₚ op q → Line15 X ℓ₁ Vδ o ℓₚ op₂ q₂
       → (op ≡ op₂) × (q ≡ q₂)
   one-match {o = o} {op = op} {op₂ = op₂} D E = ⊎-elim (λ e. e) (λ d. absurd (both-match o op op₂ d (D .matches) (E .matches))) (two-edges (D .edge) (E .edge))
 
   -- ---- line 13: the loop goes one way
-  pub onward-is : (ℓₚ : OldPlace) (Vδ : ℕ) (op : Operation) (q : OldPlace) → Line13 old ℓₚ op q → onward old (at ℓₚ Vδ) ≡ some (at q (with Vδ (op .a)))
+  pub onward-is : (ℓₚ : OldPlace) (Vδ : ℕ) (op : Operation) (q : OldPlace) → Line13 X ℓₚ op q → onward X (at ℓₚ Vδ) ≡ some (at q (with Vδ (op .a)))
   unfolding onward along
-  onward-is ℓₚ Vδ op q M = go (atAlarm old ℓₚ) refl (find (rowsAt old ℓₚ) isAssignment) refl
+  onward-is ℓₚ Vδ op q M = go (atAlarm X ℓₚ) refl (find (rowsAt X ℓₚ) isAssignment) refl
     where
-      go : (b : Bool) → atAlarm old ℓₚ ≡ b → (x : Option ℕ) → find (rowsAt old ℓₚ) isAssignment ≡ x
-          → (elim b as (λ _. Option Spot) [ true ↦ none | false ↦ along Vδ (rowsAt old ℓₚ) x ]) ≡ some (at q (with Vδ (op .a)))
-      go true d x f = absurd (M .not-err (eqb-true (ℓₚ .0) (old .alarm) d))
-      go false d none f = absurd (T-true (sym (no-edge old ℓₚ isAssignment f op q (M .edge)) ∙ M .assignment))
+      go : (b : Bool) → atAlarm X ℓₚ ≡ b → (x : Option ℕ) → find (rowsAt X ℓₚ) isAssignment ≡ x
+          → (elim b as (λ _. Option Spot) [ true ↦ none | false ↦ along Vδ (rowsAt X ℓₚ) x ]) ≡ some (at q (with Vδ (op .a)))
+      go true d x f = absurd (M .not-err (eqb-true (ℓₚ .0) (X .old .head .alarm) d))
+      go false d none f = absurd (T-true (sym (no-edge X ℓₚ isAssignment f op q (M .edge)) ∙ M .assignment))
       go false d (some k) f =
-          let r = an-edge old ℓₚ isAssignment k f in
-          let z = one-assignment (row-edge old ℓₚ k (r .0)) (M .edge) (r .1) in
+          let r = an-edge X ℓₚ isAssignment k f in
+          let z = one-assignment (row-edge X ℓₚ k (r .0)) (M .edge) (r .1) in
           ap₂ (λ (x : OldPlace) (o : Operation). some (at x (with Vδ (o .a)))) (z .1) (z .0)
 
-  pub onward-none : (ℓₚ : OldPlace) (Vδ : ℕ) → ((op : Operation) (q : OldPlace) → Line13 old ℓₚ op q → ⊥) → onward old (at ℓₚ Vδ) ≡ none
+  pub onward-none : (ℓₚ : OldPlace) (Vδ : ℕ) → ((op : Operation) (q : OldPlace) → Line13 X ℓₚ op q → ⊥) → onward X (at ℓₚ Vδ) ≡ none
   unfolding onward along
-  onward-none ℓₚ Vδ n = go (atAlarm old ℓₚ) refl (find (rowsAt old ℓₚ) isAssignment) refl
+  onward-none ℓₚ Vδ n = go (atAlarm X ℓₚ) refl (find (rowsAt X ℓₚ) isAssignment) refl
     where
-      go : (b : Bool) → atAlarm old ℓₚ ≡ b → (x : Option ℕ) → find (rowsAt old ℓₚ) isAssignment ≡ x
-          → _≡_ {A = Option Spot} (elim b as (λ _. Option Spot) [ true ↦ none | false ↦ along Vδ (rowsAt old ℓₚ) x ]) none
+      go : (b : Bool) → atAlarm X ℓₚ ≡ b → (x : Option ℕ) → find (rowsAt X ℓₚ) isAssignment ≡ x
+          → _≡_ {A = Option Spot} (elim b as (λ _. Option Spot) [ true ↦ none | false ↦ along Vδ (rowsAt X ℓₚ) x ]) none
       go true d x f = refl
       go false d none f = refl
       go false d (some k) f =
-          let r = an-edge old ℓₚ isAssignment k f in
+          let r = an-edge X ℓₚ isAssignment k f in
           absurd
-          (n (operation (rowsAt old ℓₚ) k) (oldTo (rowsAt old ℓₚ) k)
-          (record { not-err = eqb-false (ℓₚ .0) (old .alarm) d; edge = row-edge old ℓₚ k (r .0); assignment = r .1 }))
+          (n (operation (rowsAt X ℓₚ) k) (oldTo (rowsAt X ℓₚ) k)
+          (record { not-err = eqb-false (ℓₚ .0) (X .old .head .alarm) d; edge = row-edge X ℓₚ k (r .0); assignment = r .1 }))

@@ -26,7 +26,7 @@ use Rattle.operations.specs.Operations.{kind, byKind, isKnown, isAssignment, is
 use Rattle.operations.specs.Trials.{implication}
 use Rattle.operations.proofs.Exact.{implication-means}
 use Rattle.chart.specs.declared.places.OldPlace.{OldPlace}
-use Rattle.chart.specs.Charts.{Chart, size, from, to, operation}
+use Rattle.chart.specs.Charts.{size, from, to, operation}
 use Rattle.chart.proofs.Words.{Words}
 use Rattle.chart.specs.Faultless.{FaultlessChart}
 use Rattle.align.specs.declared.spots.Spot.{Spot}
@@ -41,6 +41,7 @@ use Rattle.chart.proofs.Parts.{before, stands, same-row, row-of, row-same, row-
 use Rattle.paper.specs.Nodes.{SetOf, _isIn_, emptySet, _plus_}
 use Rattle.paper.specs.Lines5to18.{Meet, IsWith, IsWithout, onlyOld, InG, Line13, Loop, line12, line14, Lines11to14, Line15, Lines5to18, line7, line8, line10, line16, line17, line18, line13-cut}
 use Rattle.paper.proofs.Members.{in-first, in-second}
+use Rattle.chart.specs.Compared.{Compared}
 
 -- ---- sets
 pub is-with : (s v : ℕ) → IsWith s v (with s v)
@@ -97,82 +98,82 @@ not-found : (rows : List ℕ) (f : Operation → Bool) → find rows f ≡ none 
 unfolding find
 not-found rows f e k l = not-due (f (operation rows k)) k (none-of (λ j. when (f (operation rows j)) j) (size rows) k e l)
 
-module _ (old : Chart) where
-  pub row-edge : (p : OldPlace) (k : ℕ) → k < size (rowsAt old p) → InG old p (operation (rowsAt old p) k) (oldTo (rowsAt old p) k)
+module _ (X : Compared) where
+  pub row-edge : (p : OldPlace) (k : ℕ) → k < size (rowsAt X p) → InG X p (operation (rowsAt X p) k) (oldTo (rowsAt X p) k)
   row-edge p k l =
-      let (i, r) = row-of (old .table) (p .0) k l in
-      let z = row-same (old .table) (p .0) r in
+      let (i, r) = row-of (X .old .table) (p .0) k l in
+      let z = row-same (X .old .table) (p .0) r in
       record { row = i; there = r .inside; from = r .from-here; operation = sym (z .operation-same); to = sym (z .to-same) }
 
   -- an edge is a row of the place
-  edge-row : (p : OldPlace) (o : Operation) (q : OldPlace) → InG old p o q → (k : ℕ) × (k < size (rowsAt old p)) × (operation (rowsAt old p) k ≡ o)
+  edge-row : (p : OldPlace) (o : Operation) (q : OldPlace) → InG X p o q → (k : ℕ) × (k < size (rowsAt X p)) × (operation (rowsAt X p) k ≡ o)
   edge-row p o q E =
-      (before (old .table) (p .0) (E .row), stands (old .table) (p .0) (E .row) (E .there) (E .from), same-row (old .table) (p .0) (E .row) (E .there) (E .from) .operation-same ∙ E .operation)
+      (before (X .old .table) (p .0) (E .row), stands (X .old .table) (p .0) (E .row) (E .there) (E .from), same-row (X .old .table) (p .0) (E .row) (E .there) (E .from) .operation-same ∙ E .operation)
 
   -- no edge passes where no row was found
-  pub no-edge : (p : OldPlace) (f : Operation → Bool) → find (rowsAt old p) f ≡ none → (o : Operation) (q : OldPlace) → InG old p o q → f o ≡ false
+  pub no-edge : (p : OldPlace) (f : Operation → Bool) → find (rowsAt X p) f ≡ none → (o : Operation) (q : OldPlace) → InG X p o q → f o ≡ false
   no-edge p f e o q E =
       let r = edge-row p o q E in
-      ap f (sym (r .2)) ∙ not-found (rowsAt old p) f e (r .0) (r .1)
+      ap f (sym (r .2)) ∙ not-found (rowsAt X p) f e (r .0) (r .1)
 
-  pub an-edge : (p : OldPlace) (f : Operation → Bool) (k : ℕ) → find (rowsAt old p) f ≡ some k → (k < size (rowsAt old p)) × (f (operation (rowsAt old p) k) ≡ true)
-  an-edge p f k e = let r = on-at _ (found (rowsAt old p) f {P = λ o. f o ≡ true} (λ o h. h)) e in (r .inside, r .fits)
+  pub an-edge : (p : OldPlace) (f : Operation → Bool) (k : ℕ) → find (rowsAt X p) f ≡ some k → (k < size (rowsAt X p)) × (f (operation (rowsAt X p) k) ≡ true)
+  an-edge p f k e = let r = on-at _ (found (rowsAt X p) f {P = λ o. f o ≡ true} (λ o h. h)) e in (r .inside, r .fits)
 
   -- ---- lines 5 to 10
   module _ (p : OldPlace) (s : ℕ) (o : Operation) (b : s < 2 ^ 64) (a : o .a < 64) (t : isAssignment o ≡ true) where
-    lines5to10 : (x : Option ℕ) → find (rowsAt old p) (λ o′. same o′ o) ≡ x → Lines5to18 old p s o (some (assigned old (record { place = p; set = s }) o x))
+    lines5to10 : (x : Option ℕ) → find (rowsAt X p) (λ o′. same o′ o) ≡ x → Lines5to18 X p s o (some (assigned X (record { place = p; set = s }) o x))
     unfolding assigned rewritten
     lines5to10 none e = line10 t (λ q E. T-true (sym (no-edge p (λ o′. same o′ o) e o q (E .edge)) ∙ same-self o)) (is-with s (o .a))
     lines5to10 (some k) e = go (meets s (readSet o)) refl
       where
-        edge : InG old p o (oldTo (rowsAt old p) k)
+        edge : InG X p o (oldTo (rowsAt X p) k)
         edge =
             let r = an-edge p (λ o′. same o′ o) k e in
-            subst (λ (o′ : Operation). InG old p o′ (oldTo (rowsAt old p) k)) (same→eq (operation (rowsAt old p) k) o (r .1)) (row-edge p k (r .0))
+            subst (λ (o′ : Operation). InG X p o′ (oldTo (rowsAt X p) k)) (same→eq (operation (rowsAt X p) k) o (r .1)) (row-edge p k (r .0))
 
         go : (m : Bool) → meets s (readSet o) ≡ m
-            → Lines5to18 old p s o (some (record { place = oldTo (rowsAt old p) k; set = elim m as (λ _. ℕ) [ true ↦ with s (o .a) | false ↦ without s (o .a) ] }))
+            → Lines5to18 X p s o (some (record { place = oldTo (rowsAt X p) k; set = elim m as (λ _. ℕ) [ true ↦ with s (o .a) | false ↦ without s (o .a) ] }))
         go true m = line7 (record { assignment = t; edge = edge }) (meeting s (readSet o) b m) (is-with s (o .a))
         go false m = line8 (record { assignment = t; edge = edge }) (not-meeting s (readSet o) m) (is-without s (o .a) b a)
 
   -- ---- lines 12 to 14
   -- nothing is followed: the test of line 13 fails
-  onward-ends : (h : Spot) → onward old h ≡ none → (o : Operation) (q : OldPlace) → Line13 old (h .place) o q → ⊥
+  onward-ends : (h : Spot) → onward X h ≡ none → (o : Operation) (q : OldPlace) → Line13 X (h .place) o q → ⊥
   unfolding onward along
-  onward-ends h e o q M = go (atAlarm old (h .place)) refl (find (rowsAt old (h .place)) isAssignment) refl e
+  onward-ends h e o q M = go (atAlarm X (h .place)) refl (find (rowsAt X (h .place)) isAssignment) refl e
     where
-      go : (b : Bool) → atAlarm old (h .place) ≡ b → (x : Option ℕ) → find (rowsAt old (h .place)) isAssignment ≡ x
-          → _≡_ {A = Option Spot} (elim b as (λ _. Option Spot) [ true ↦ none | false ↦ along (h .set) (rowsAt old (h .place)) x ]) none → ⊥
-      go true d x f e = M .not-err (eqb-true (h .place .0) (old .alarm) d)
+      go : (b : Bool) → atAlarm X (h .place) ≡ b → (x : Option ℕ) → find (rowsAt X (h .place)) isAssignment ≡ x
+          → _≡_ {A = Option Spot} (elim b as (λ _. Option Spot) [ true ↦ none | false ↦ along (h .set) (rowsAt X (h .place)) x ]) none → ⊥
+      go true d x f e = M .not-err (eqb-true (h .place .0) (X .old .head .alarm) d)
       go false d none f e = T-true (sym (no-edge (h .place) isAssignment f o q (M .edge)) ∙ M .assignment)
       go false d (some k) f e = Option·none-ne-some _ (sym e)
 
-module _ (old : Chart) (F : FaultlessChart old) where
+module _ (X : Compared) (F : FaultlessChart (X .old)) where
   -- one row is followed
   record Goes (h h′ : Spot) : Type 0 where
     op : Operation
-    line : Line13 old (h .place) op (h′ .place)
+    line : Line13 X (h .place) op (h′ .place)
     sets : IsWith (h .set) (op .a) (h′ .set)
     small : h′ .set < 2 ^ 64
 
-  onward-goes : (h h′ : Spot) → h .set < 2 ^ 64 → onward old h ≡ some h′ → Goes h h′
+  onward-goes : (h h′ : Spot) → h .set < 2 ^ 64 → onward X h ≡ some h′ → Goes h h′
   unfolding onward along
-  onward-goes h h′ b e = go (atAlarm old (h .place)) refl (find (rowsAt old (h .place)) isAssignment) refl e
+  onward-goes h h′ b e = go (atAlarm X (h .place)) refl (find (rowsAt X (h .place)) isAssignment) refl e
     where
       rows : List ℕ
-      rows = rowsAt old (h .place)
+      rows = rowsAt X (h .place)
 
-      by : (k : ℕ) → atAlarm old (h .place) ≡ false → find rows isAssignment ≡ some k → Goes h (record { place = oldTo rows k; set = with (h .set) (operation rows k .a) })
+      by : (k : ℕ) → atAlarm X (h .place) ≡ false → find rows isAssignment ≡ some k → Goes h (record { place = oldTo rows k; set = with (h .set) (operation rows k .a) })
       by k d f =
-          let r = an-edge old (h .place) isAssignment k f in
+          let r = an-edge X (h .place) isAssignment k f in
           record {
             op = operation rows k;
-            line = record { not-err = eqb-false (h .place .0) (old .alarm) d; edge = row-edge old (h .place) k (r .0); assignment = r .1 };
+            line = record { not-err = eqb-false (h .place .0) (X .old .head .alarm) d; edge = row-edge X (h .place) k (r .0); assignment = r .1 };
             sets = is-with (h .set) (operation rows k .a);
-            small = with-small (h .set) (operation rows k .a) b (row-a old F (h .place .0) k (r .0));
+            small = with-small (h .set) (operation rows k .a) b (row-a (X .old) F (h .place .0) k (r .0));
           }
 
-      go : (b : Bool) → atAlarm old (h .place) ≡ b → (x : Option ℕ) → find rows isAssignment ≡ x
+      go : (b : Bool) → atAlarm X (h .place) ≡ b → (x : Option ℕ) → find rows isAssignment ≡ x
           → (elim b as (λ _. Option Spot) [ true ↦ none | false ↦ along (h .set) rows x ]) ≡ some h′ → Goes h h′
       go true d x f e = absurd (Option·none-ne-some h′ e)
       go false d none f e = absurd (Option·none-ne-some h′ e)
@@ -181,19 +182,19 @@ module _ (old : Chart) (F : FaultlessChart old) where
   module _ (ℓ₁ : OldPlace) (start : ℕ) where
     -- the loop has ended, or has come to a place twice
     data Walked : Option Spot → Type 0 where
-      came : {h : Spot} {been : SetOf OldPlace} → Loop old ℓ₁ start been (h .place) (h .set) → onward old h ≡ none → h .set < 2 ^ 64 → Walked (some h)
-      twice : {been : SetOf OldPlace} {p : OldPlace} {s : ℕ} → Loop old ℓ₁ start been p s → p isIn been → Walked none
+      came : {h : Spot} {been : SetOf OldPlace} → Loop X ℓ₁ start been (h .place) (h .set) → onward X h ≡ none → h .set < 2 ^ 64 → Walked (some h)
+      twice : {been : SetOf OldPlace} {p : OldPlace} {s : ℕ} → Loop X ℓ₁ start been p s → p isIn been → Walked none
 
-    walk : (n met : ℕ) (h : Spot) (been : SetOf OldPlace) → Loop old ℓ₁ start been (h .place) (h .set) → h .set < 2 ^ 64 → met < 2 ^ 64
-        → ((i : ℕ) → In i met → record { 0 = i } isIn (been plus onlyOld (h .place))) → unmet met < n → Walked (follow old n met h)
+    walk : (n met : ℕ) (h : Spot) (been : SetOf OldPlace) → Loop X ℓ₁ start been (h .place) (h .set) → h .set < 2 ^ 64 → met < 2 ^ 64
+        → ((i : ℕ) → In i met → record { 0 = i } isIn (been plus onlyOld (h .place))) → unmet met < n → Walked (follow X n met h)
     unfolding follow
     walk zero met h been L b c m u = absurd (omega arith)
-    walk (suc n) met h been L b c m u = go (λ met′ h′ been′ L′ b′ c′ m′ u′. walk n met′ h′ been′ L′ b′ c′ m′ u′) (onward old h) refl
+    walk (suc n) met h been L b c m u = go (λ met′ h′ been′ L′ b′ c′ m′ u′. walk n met′ h′ been′ L′ b′ c′ m′ u′) (onward X h) refl
       where
-        go : ((met′ : ℕ) (h′ : Spot) (been′ : SetOf OldPlace) → Loop old ℓ₁ start been′ (h′ .place) (h′ .set) → h′ .set < 2 ^ 64 → met′ < 2 ^ 64
-            → ((i : ℕ) → In i met′ → record { 0 = i } isIn (been′ plus onlyOld (h′ .place))) → unmet met′ < n → Walked (follow old n met′ h′))
-            → (o : Option Spot) → onward old h ≡ o
-            → Walked (elim o as (λ _. Option Spot) [ none ↦ some h | some h′ ↦ elim (meets met (alone (h′ .place .0))) as (λ _. Option Spot) [ true ↦ none | false ↦ follow old n (with met (h′ .place .0)) h′ ] ])
+        go : ((met′ : ℕ) (h′ : Spot) (been′ : SetOf OldPlace) → Loop X ℓ₁ start been′ (h′ .place) (h′ .set) → h′ .set < 2 ^ 64 → met′ < 2 ^ 64
+            → ((i : ℕ) → In i met′ → record { 0 = i } isIn (been′ plus onlyOld (h′ .place))) → unmet met′ < n → Walked (follow X n met′ h′))
+            → (o : Option Spot) → onward X h ≡ o
+            → Walked (elim o as (λ _. Option Spot) [ none ↦ some h | some h′ ↦ elim (meets met (alone (h′ .place .0))) as (λ _. Option Spot) [ true ↦ none | false ↦ follow X n (with met (h′ .place .0)) h′ ] ])
         go ih none e = came L e b
         go ih (some h′) e = pick (meets met (alone (h′ .place .0))) refl
           where
@@ -203,10 +204,10 @@ module _ (old : Chart) (F : FaultlessChart old) where
             more : SetOf OldPlace
             more = been plus onlyOld (h .place)
 
-            L′ : Loop old ℓ₁ start more (h′ .place) (h′ .set)
+            L′ : Loop X ℓ₁ start more (h′ .place) (h′ .set)
             L′ = line14 L (G .line) (G .sets)
 
-            pick : (k : Bool) → meets met (alone (h′ .place .0)) ≡ k → Walked (elim k as (λ _. Option Spot) [ true ↦ none | false ↦ follow old n (with met (h′ .place .0)) h′ ])
+            pick : (k : Bool) → meets met (alone (h′ .place .0)) ≡ k → Walked (elim k as (λ _. Option Spot) [ true ↦ none | false ↦ follow X n (with met (h′ .place .0)) h′ ])
             pick true t = twice L′ (let r = meet-some met (alone (h′ .place .0)) c t in m (h′ .place .0) (subst (λ (i : ℕ). In i met) (alone-only (r .0) (h′ .place .0) (r .3)) (r .2)))
             pick false t =
                 ih (with met (h′ .place .0)) h′ more L′ (G .small) (with-small met (h′ .place .0) c below)
@@ -214,18 +215,18 @@ module _ (old : Chart) (F : FaultlessChart old) where
                 (omega (arith, unmet-less met (h′ .place .0) below (λ z. meet-none met (alone (h′ .place .0)) (h′ .place .0) t z (alone-here (h′ .place .0)))))
               where
                 below : h′ .place .0 < 64
-                below = on-at _ (onward-below old F h) e
+                below = on-at _ (onward-below X F h) e
 
   -- ---- lines 15 to 18
-  pub edge-operands : Words (old .table) → (p : OldPlace) (op : Operation) (q : OldPlace) → InG old p op q → Operands op
-  edge-operands words p op q e = subst Operands (e .operation) (operands old F (words .small) (e .row) (e .there))
+  pub edge-operands : Words (X .old .table) → (p : OldPlace) (op : Operation) (q : OldPlace) → InG X p op q → Operands op
+  edge-operands words p op q e = subst Operands (e .operation) (operands (X .old) F (words .small) (e .row) (e .there))
 
-  module _ (words : Words (old .table)) (ℓ₁ : OldPlace) (start : ℕ) (o : Operation) (fits : Operands o) (h : Spot) (E : Lines11to14 old ℓ₁ start o (h .place) (h .set)) (b : h .set < 2 ^ 64) where
+  module _ (words : Words (X .old .table)) (ℓ₁ : OldPlace) (start : ℕ) (o : Operation) (fits : Operands o) (h : Spot) (E : Lines11to14 X ℓ₁ start o (h .place) (h .set)) (b : h .set < 2 ^ 64) where
     abbrev pub rows : List ℕ
-    rows = rowsAt old (h .place)
+    rows = rowsAt X (h .place)
 
     -- an edge that leaves ℓ_p has an assumption: else the loop would not have ended
-    edge-assumes : (op : Operation) (q : OldPlace) → h .place .0 ≢ old .alarm → InG old (h .place) op q → isAssumption op ≡ true
+    edge-assumes : (op : Operation) (q : OldPlace) → h .place .0 ≢ X .old .head .alarm → InG X (h .place) op q → isAssumption op ≡ true
     edge-assumes op q n e = known (kind (op .code)) (subst (λ (f : Operation). isKnown f ≡ true) (e .operation) (F .rows (e .row) (e .there) .known)) (λ a. E .ends op q (record { not-err = n; edge = e; assignment = a }))
       where
         known : (k : Kind) → byKind k true true true false ≡ true → (byKind k true false false false ≡ true → ⊥) → byKind k false true true false ≡ true
@@ -254,60 +255,60 @@ module _ (old : Chart) (F : FaultlessChart old) where
     passes : Operation → Bool
     passes op = isAssumption op && isImplied (implication o op)
 
-    pub no-match : matching rows o ≡ none → h .place .0 ≢ old .alarm → (op : Operation) (q : OldPlace) → Line15 old ℓ₁ start o (h .place) op q → ⊥
+    pub no-match : matching rows o ≡ none → h .place .0 ≢ X .old .head .alarm → (op : Operation) (q : OldPlace) → Line15 X ℓ₁ start o (h .place) op q → ⊥
     unfolding matching passes
     no-match e n op q M =
         let z = both-missing (find rows (λ o′. same o′ o)) (find rows passes) e in
-        ⊎-elim (λ i. T-true (sym (no-edge old (h .place) (λ o′. same o′ o) (z .0) op q (M .edge)) ∙ rw i (same-self o)))
-        (λ i. T-true (sym (no-edge old (h .place) passes (z .1) op q (M .edge)) ∙ rw (edge-assumes op q n (M .edge), so-implied op (edge-operands words (h .place) op q (M .edge)) (i .0) (i .1)))) (M .matches)
+        ⊎-elim (λ i. T-true (sym (no-edge X (h .place) (λ o′. same o′ o) (z .0) op q (M .edge)) ∙ rw i (same-self o)))
+        (λ i. T-true (sym (no-edge X (h .place) passes (z .1) op q (M .edge)) ∙ rw (edge-assumes op q n (M .edge), so-implied op (edge-operands words (h .place) op q (M .edge)) (i .0) (i .1)))) (M .matches)
 
-    pub a-match : (k : ℕ) → matching rows o ≡ some k → h .place .0 ≢ old .alarm → Line15 old ℓ₁ start o (h .place) (operation rows k) (oldTo rows k)
+    pub a-match : (k : ℕ) → matching rows o ≡ some k → h .place .0 ≢ X .old .head .alarm → Line15 X ℓ₁ start o (h .place) (operation rows k) (oldTo rows k)
     unfolding matching passes
     a-match k e n = go (find rows (λ o′. same o′ o)) refl e
       where
-        go : (x : Option ℕ) → find rows (λ o′. same o′ o) ≡ x → orElse x (find rows passes) ≡ some k → Line15 old ℓ₁ start o (h .place) (operation rows k) (oldTo rows k)
+        go : (x : Option ℕ) → find rows (λ o′. same o′ o) ≡ x → orElse x (find rows passes) ≡ some k → Line15 X ℓ₁ start o (h .place) (operation rows k) (oldTo rows k)
         go none f e =
-            let r = an-edge old (h .place) passes k e in
-            let g = row-edge old (h .place) k (r .0) in
+            let r = an-edge X (h .place) passes k e in
+            let g = row-edge X (h .place) k (r .0) in
             record { not-err = n; edge = g; matches = inr (implied-so (operation rows k) (edge-operands words (h .place) (operation rows k) (oldTo rows k) g) (and-true (isAssumption (operation rows k)) _ (r .1) .1)) }
         go (some j) f e =
-            let r = an-edge old (h .place) (λ o′. same o′ o) k (f ∙ e) in
-            record { not-err = n; edge = row-edge old (h .place) k (r .0); matches = inl (same→eq (operation rows k) o (r .1)) }
+            let r = an-edge X (h .place) (λ o′. same o′ o) k (f ∙ e) in
+            record { not-err = n; edge = row-edge X (h .place) k (r .0); matches = inl (same→eq (operation rows k) o (r .1)) }
 
-    lines15to18 : (x : Option ℕ) → counterpart old (h .place) o ≡ x → Lines5to18 old ℓ₁ start o (assumed old h o x)
+    lines15to18 : (x : Option ℕ) → counterpart X (h .place) o ≡ x → Lines5to18 X ℓ₁ start o (assumed X h o x)
     unfolding counterpart assumed matched
-    lines15to18 x e = go (atAlarm old (h .place)) refl x e
+    lines15to18 x e = go (atAlarm X (h .place)) refl x e
       where
-        meets-either : (k : ℕ) → (m m′ : Bool) → meets (h .set) (readSet o) ≡ m → meets (h .set) (readSet (operation rows k)) ≡ m′ → Line15 old ℓ₁ start o (h .place) (operation rows k) (oldTo rows k)
-            → Lines5to18 old ℓ₁ start o (when (not (m || m′)) (record { place = oldTo rows k; set = h .set }))
+        meets-either : (k : ℕ) → (m m′ : Bool) → meets (h .set) (readSet o) ≡ m → meets (h .set) (readSet (operation rows k)) ≡ m′ → Line15 X ℓ₁ start o (h .place) (operation rows k) (oldTo rows k)
+            → Lines5to18 X ℓ₁ start o (when (not (m || m′)) (record { place = oldTo rows k; set = h .set }))
         meets-either k true m′ d f M = line16 E M (inr (meeting (h .set) (readSet o) b d))
         meets-either k false true d f M = line16 E M (inl (meeting (h .set) (readSet (operation rows k)) b f))
         meets-either k false false d f M =
             line17 E M (λ z. ⊎-elim (λ y. not-meeting (h .set) (readSet (operation rows k)) f y) (λ y. not-meeting (h .set) (readSet o) d y) z)
 
-        go : (a : Bool) → atAlarm old (h .place) ≡ a → (x : Option ℕ) → _≡_ {A = Option ℕ} (elim a as (λ _. Option ℕ) [ true ↦ none | false ↦ matching rows o ]) x → Lines5to18 old ℓ₁ start o (assumed old h o x)
-        go true a none e = line18 E (λ op q M. M .not-err (eqb-true (h .place .0) (old .alarm) a))
+        go : (a : Bool) → atAlarm X (h .place) ≡ a → (x : Option ℕ) → _≡_ {A = Option ℕ} (elim a as (λ _. Option ℕ) [ true ↦ none | false ↦ matching rows o ]) x → Lines5to18 X ℓ₁ start o (assumed X h o x)
+        go true a none e = line18 E (λ op q M. M .not-err (eqb-true (h .place .0) (X .old .head .alarm) a))
         go true a (some k) e = absurd (Option·none-ne-some k e)
-        go false a none e = line18 E (no-match e (eqb-false (h .place .0) (old .alarm) a))
-        go false a (some k) e = meets-either k (meets (h .set) (readSet o)) (meets (h .set) (readSet (operation rows k))) refl refl (a-match k e (eqb-false (h .place .0) (old .alarm) a))
+        go false a none e = line18 E (no-match e (eqb-false (h .place .0) (X .old .head .alarm) a))
+        go false a (some k) e = meets-either k (meets (h .set) (readSet o)) (meets (h .set) (readSet (operation rows k))) refl refl (a-match k e (eqb-false (h .place .0) (X .old .head .alarm) a))
 
   -- ---- all of them
-  pub step-lines : Words (old .table) → (p : OldPlace) (s : ℕ) (o : Operation) → p .0 < 64 → s < 2 ^ 64 → Operands o → Lines5to18 old p s o (moved old (record { place = p; set = s }) o)
+  pub step-lines : Words (X .old .table) → (p : OldPlace) (s : ℕ) (o : Operation) → p .0 < 64 → s < 2 ^ 64 → Operands o → Lines5to18 X p s o (moved X (record { place = p; set = s }) o)
   unfolding moved followed
   step-lines words p s o l b fits = go (isAssignment o) refl
     where
       h : Spot
       h = record { place = p; set = s }
 
-      on : isAssignment o ≡ false → {x : Option Spot} → Walked p s x → Lines5to18 old p s o (elim x [ none ↦ none | some h′ ↦ assumed old h′ o (counterpart old (h′ .place) o) ])
-      on t (came {h = h′} {been = been} L e c) = lines15to18 words p s o fits h′ (record { assumption = t; been = been; loop = L; ends = onward-ends old h′ e }) c (counterpart old (h′ .place) o) refl
+      on : isAssignment o ≡ false → {x : Option Spot} → Walked p s x → Lines5to18 X p s o (elim x [ none ↦ none | some h′ ↦ assumed X h′ o (counterpart X (h′ .place) o) ])
+      on t (came {h = h′} {been = been} L e c) = lines15to18 words p s o fits h′ (record { assumption = t; been = been; loop = L; ends = onward-ends X h′ e }) c (counterpart X (h′ .place) o) refl
       on t (twice L i) = line13-cut t L i
 
       go : (a : Bool) → isAssignment o ≡ a
-          → Lines5to18 old p s o (elim a as (λ _. Option Spot) [
-            | true ↦ some (assigned old h o (find (rowsAt old p) (λ o′. same o′ o)))
-            | false ↦ elim (followed old h) as (λ _. Option Spot) [ none ↦ none | some h′ ↦ assumed old h′ o (counterpart old (h′ .place) o) ]
+          → Lines5to18 X p s o (elim a as (λ _. Option Spot) [
+            | true ↦ some (assigned X h o (find (rowsAt X p) (λ o′. same o′ o)))
+            | false ↦ elim (followed X h) as (λ _. Option Spot) [ none ↦ none | some h′ ↦ assumed X h′ o (counterpart X (h′ .place) o) ]
           ])
-      go true t = lines5to10 old p s o b (fits .a) t (find (rowsAt old p) (λ o′. same o′ o)) refl
+      go true t = lines5to10 X p s o b (fits .a) t (find (rowsAt X p) (λ o′. same o′ o)) refl
       go false t =
           on t (walk p s 64 (alone (p .0)) h emptySet line12 b (alone-small (p .0) l) (λ i k. onlyOld-is p i (alone-only i (p .0) k)) (unmet-few (p .0) l))

@@ -10,11 +10,9 @@ use Prim.Native.Nat.{ℕ}
 use native.Mathlib.Omega.{arith}
 use lib.Dec.{eqb}
 use lib.ListN.{length-map}
-use Rattle.chart.specs.Charts.{Chart}
 use Rattle.chart.proofs.Words.{Words}
 use Rattle.chart.specs.Faultless.{FaultlessChart}
 use Rattle.records.specs.Records.{Record, recordOf}
-use Rattle.chart.specs.Places.{headOf}
 use Rattle.graph.specs.Buffers.{Buffers, buffers, marked}
 use Rattle.chart.proofs.Starts.{firstPair, firstKept}
 use Rattle.detector.specs.Turns.{explored}
@@ -37,6 +35,7 @@ use Rattle.paper.proofs.Rounds.{explored-ran}
 use Rattle.paper.proofs.Returning.{whole-graph}
 use Rattle.paper.proofs.Conditions.{whole-condition}
 use Rattle.paper.proofs.Alone.{lone-graph, lone-condition}
+use Rattle.chart.specs.Compared.{Compared, headsOf}
 
 -- the graph that is returned, and one run of Algorithm 1 on it
 pub record Ends (R : Record) (G : DifferenceGraph) (Vδ : Pair → ℕ) : Type 0 where
@@ -48,22 +47,22 @@ pub record Ends (R : Record) (G : DifferenceGraph) (Vδ : Pair → ℕ) : Type 0
 searched : {R : Record} {G : DifferenceGraph} {Vδ : Pair → ℕ} → IsGraph R G Vδ → NodeNumbered (G .n₀) → Found G
 searched {R} {G} g a = search-ends R G (g .edges) a (λ x e. g .kept x .0 e .0)
 
-module _ (old new : Chart) (F : FaultlessChart old) (H : FaultlessChart new) (wn : Words (new .table)) (s : State) (reads : Reads old new s (explored old new)) where
+module _ (X : Compared) (F : FaultlessChart (X .old)) (H : FaultlessChart (X .new)) (wn : Words (X .new .table)) (s : State) (reads : Reads X s (explored X)) where
   -- nothing waits
   ended : Ended s
   ended n =
       ⊎-elim
       (λ e. let B = reads .sets .waits-numbered n e in
       let l = number-below n B in
-      sym (ap (s .waitlist) (pair-is n B)) ∙ reads .sets .waits (number n) l ∙ marked-no (explored old new .waiting) (number n) (nothing-waits old new F H (number n) l))
+      sym (ap (s .waitlist) (pair-is n B)) ∙ reads .sets .waits (number n) l ∙ marked-no (explored X .waiting) (number n) (nothing-waits X F H (number n) l))
       (λ e. e) (in-or-not (s .waitlist n))
 
   -- line 19
-  line19-is : line19 old new s ≡ alone (headOf old) (headOf new) (explored old new .marks)
+  line19-is : line19 X s ≡ alone (headsOf X) (explored X .marks)
   unfolding line19 alone
   line19-is =
       rw (reads .sets .Δ (record { 0 = 0 }) (omega arith))
-      (go (marked (explored old new .marks) (firstKept new)) (eqb 0 (new .alarm)) (eqb 0 (old .alarm)))
+      (go (marked (explored X .marks) (firstKept X)) (eqb 0 (X .new .head .alarm)) (eqb 0 (X .old .head .alarm)))
     where
       go : (k a b : Bool) → k || (a && not b) ≡ k || not (not a || b)
       go true a b = refl
@@ -75,54 +74,54 @@ module _ (old new : Chart) (F : FaultlessChart old) (H : FaultlessChart new) (wn
   left : Bool → Buffers
   left b =
       elim b [
-        | true ↦ builds.lone (headOf new)
+        | true ↦ builds.lone (headsOf X)
         | false ↦
-            buffers (finalMarks (firstPair old new) (finalTargets (explored old new)) (explored old new .marks)) (finalTargets (explored old new))
-            (explored old new .sets) (explored old new .waiting)
+            buffers (finalMarks (firstPair X) (finalTargets (explored X)) (explored X .marks)) (finalTargets (explored X))
+            (explored X .sets) (explored X .waiting)
       ]
 
   -- lines 20 and 21, or line 19; b tells whether the start is the lone kept node
-  ends : (b : Bool) → alone (headOf old) (headOf new) (explored old new .marks) ≡ b
+  ends : (b : Bool) → alone (headsOf X) (explored X .marks) ≡ b
       → Ends
-      (recordOf (elim b [ true ↦ firstKept new | false ↦ firstPair old new ]) (left b .marks) (left b .targets) (left b .sets))
-      (elim b as (λ _. DifferenceGraph) [ true ↦ lone old new | false ↦ whole old new s ]) (s .Vδ)
+      (recordOf (elim b [ true ↦ firstKept X | false ↦ firstPair X ]) (left b .marks) (left b .targets) (left b .sets))
+      (elim b as (λ _. DifferenceGraph) [ true ↦ lone X | false ↦ whole X s ]) (s .Vδ)
   unfolding left builds.lone finalTargets
   ends true e =
-      let g = lone-graph old new (s .Vδ) in
-      record { lengths = record { marks = refl; targets = refl; sets = refl }; graph = g; found = searched g (omega arith); condition = λ f e. lone-condition old new f }
+      let g = lone-graph X (s .Vδ) in
+      record { lengths = record { marks = refl; targets = refl; sets = refl }; graph = g; found = searched g (omega arith); condition = λ f e. lone-condition X f }
   ends false e =
-      let g = whole-graph old new F H wn s reads e in
-      let S = explored-inv old new F H .shaped .sized in
+      let g = whole-graph X F H wn s reads e in
+      let S = explored-inv X F H .shaped .sized in
       record {
         lengths =
             record {
-              marks = final old new F H e .ranks .long;
-              targets = length-map (explored old new .targets) (redirected (explored old new .marks)) ∙ S .targets;
+              marks = final X F H e .ranks .long;
+              targets = length-map (explored X .targets) (redirected (explored X .marks)) ∙ S .targets;
               sets = S .sets;
             };
         graph = g;
         found = searched g (numbered 0 (omega arith));
-        condition = λ f z. whole-condition old new F H wn s reads e f z;
+        condition = λ f z. whole-condition X F H wn s reads e f z;
       }
 
   -- whichever state reads what the build explores: the build's record is the graph that is returned there, with its
   -- condition
-  pub read-ends : Ends (recorded old new) (returned old new s) (s .Vδ)
+  pub read-ends : Ends (recorded X) (returned X s) (s .Vδ)
   unfolding recorded built finished startOf returned left
   read-ends =
-      subst (λ (b : Bool). Ends (recorded old new) (elim b as (λ _. DifferenceGraph) [ true ↦ lone old new | false ↦ whole old new s ]) (s .Vδ))
-      (sym line19-is) (ends (alone (headOf old) (headOf new) (explored old new .marks)) refl)
+      subst (λ (b : Bool). Ends (recorded X) (elim b as (λ _. DifferenceGraph) [ true ↦ lone X | false ↦ whole X s ]) (s .Vδ))
+      (sym line19-is) (ends (alone (headsOf X) (explored X .marks)) refl)
 
 -- every build is one run of the source's algorithms
-pub demand-2 : (old new : Chart) → FaultlessChart old → FaultlessChart new → Words (old .table) → Words (new .table)
-    → Returned old new (recorded old new)
-demand-2 old new F H wo wn =
-    let A = explored-ran old new F H wo wn in
-    let E = read-ends old new F H wn (A .state) (A .reads) in
+pub demand-2 : (X : Compared) → FaultlessChart (X .old) → FaultlessChart (X .new) → Words (X .old .table) → Words (X .new .table)
+    → Returned X (recorded X)
+demand-2 X F H wo wn =
+    let A = explored-ran X F H wo wn in
+    let E = read-ends X F H wn (A .state) (A .reads) in
     record {
       state = A .state;
       ran = A .run;
-      ended = ended old new F H wn (A .state) (A .reads);
+      ended = ended X F H wn (A .state) (A .reads);
       graph = E .graph;
       Q = E .found .Q;
       waitlist = E .found .W;

@@ -11,7 +11,8 @@ use lib.Dec.{eqb}
 use Rattle.operations.specs.declared.Operation.{Operation}
 use Rattle.chart.specs.declared.places.OldPlace.{OldPlace}
 use Rattle.chart.specs.declared.places.NewPlace.{NewPlace}
-use Rattle.chart.specs.Charts.{Chart, start, size, to, operation, leaving}
+use Rattle.chart.specs.Compared.{Compared}
+use Rattle.chart.specs.Charts.{start, size, to, operation, leaving}
 use Rattle.align.specs.declared.spots.Spot.{Spot}
 use Rattle.sets.specs.Sets.{joined, holdsAll}
 use Rattle.paper.specs.Nodes.{SetOf, _isIn_, _isNotIn_, emptySet, _plus_, _minus_, Pair, pair, Node, aligned, indicator, Edge, edge, onlyPlace, onlyPair, onlyEdge, onlyNode, withPlace, number}
@@ -56,22 +57,22 @@ toPlace s pred g succ =
       Vδ = s .Vδ;
     }
 
-module _ (old new : Chart) where
+module _ (X : Compared) where
   -- ℓ_0, as in lines 1, 19 and 21
   abbrev pub ℓ₀ : OldPlace
-  ℓ₀ = record { 0 = start old }
+  ℓ₀ = record { 0 = start (X .old .head) }
 
   -- ℓ'_0, as in lines 1, 19 and 21
   abbrev pub ℓ₀′ : NewPlace
-  ℓ₀′ = record { 0 = start new }
+  ℓ₀′ = record { 0 = start (X .new .head) }
 
   -- ℓ_err by its test, as in lines 19, 27 and 29
   abbrev pub isErr : OldPlace → Bool
-  isErr p = eqb (p .0) (old .alarm)
+  isErr p = eqb (p .0) (X .old .head .alarm)
 
   -- ℓ'_err by its test, as in lines 19 and 27
   abbrev pub isErr′ : NewPlace → Bool
-  isErr′ q = eqb (q .0) (new .alarm)
+  isErr′ q = eqb (q .0) (X .new .head .alarm)
 
   -- line 1. Document 01: "Waiting: node 0, set empty, in the graph, even where place 0 is the old alarm."
   unfoldable pub begun : State
@@ -116,7 +117,7 @@ module _ (old new : Chart) where
   -- ---- lines 1 to 18
   -- line 4: the edges g' = (ℓ'_1, op', ℓ'_2) that leave ℓ'_1
   abbrev pub edges : NewPlace → List ℕ
-  edges q = leaving (new .table) (q .0)
+  edges q = leaving (X .new .table) (q .0)
 
   -- line 4: ℓ'_2 of edge r of these
   abbrev pub ℓ₂′ : NewPlace → ℕ → NewPlace
@@ -176,25 +177,25 @@ pub record Line20 (s : State) (e : Edge) : Type 0 where
   pub to : e .succ isIn nodes s
   pub edge : (e isIn s .Eₗ) ⊎ Replaced s (e .pred) (e .row) (e .succ)
 
-module _ (old new : Chart) where
+module _ (X : Compared) where
   -- the test of line 19: ℓ'_0 ∈ Δ ∨ (ℓ'_0 = ℓ'_err ∧ ℓ_0 ≠ ℓ_err)
   unfoldable pub line19 : State → Bool
-  line19 s = s .Δ (ℓ₀′ old new) || (isErr′ old new (ℓ₀′ old new) && not (isErr old new (ℓ₀ old new)))
+  line19 s = s .Δ (ℓ₀′ X) || (isErr′ X (ℓ₀′ X) && not (isErr X (ℓ₀ X)))
 
   -- line 19. Document 01: "If place 0 is kept, or is the new alarm without being the old one, the graph is node 4,096
   -- alone, kept"
   abbrev pub lone : DifferenceGraph
   lone =
       record {
-        N = onlyNode (indicator (ℓ₀′ old new));
+        N = onlyNode (indicator (ℓ₀′ X));
         E = λ e. ⊥;
-        n₀ = indicator (ℓ₀′ old new);
-        Δ = onlyNode (indicator (ℓ₀′ old new));
+        n₀ = indicator (ℓ₀′ X);
+        Δ = onlyNode (indicator (ℓ₀′ X));
       }
 
   -- line 21
   abbrev pub whole : State → DifferenceGraph
-  whole s = record { N = nodes s; E = Line20 s; n₀ = aligned (pair (ℓ₀ old new) (ℓ₀′ old new)); Δ = indicators s }
+  whole s = record { N = nodes s; E = Line20 s; n₀ = aligned (pair (ℓ₀ X) (ℓ₀′ X)); Δ = indicators s }
 
   -- lines 19 and 21: what is returned, by the test of line 19
   unfoldable pub returned : State → DifferenceGraph

@@ -14,7 +14,8 @@ use Rattle.operations.specs.declared.Operation.{Operation}
 use Rattle.operations.specs.Assumptions.{NeverHolds, Implies}
 use Rattle.operations.specs.Operations.{isAssignment}
 use Rattle.chart.specs.declared.places.OldPlace.{OldPlace}
-use Rattle.chart.specs.Charts.{Chart, size, from, operation}
+use Rattle.chart.specs.Compared.{Compared}
+use Rattle.chart.specs.Charts.{size, from, operation}
 use Rattle.chart.specs.Charts as charts
 use Rattle.align.specs.declared.spots.Spot.{Spot}
 use Rattle.sets.specs.Sets.{bit}
@@ -44,18 +45,18 @@ IsWithout s v t = (i : ℕ) → Has t i ↔ (Has s i × (i ≢ v))
 unfoldable pub onlyOld : OldPlace → SetOf OldPlace
 onlyOld p q = eqb (p .0) (q .0)
 
-module _ (old : Chart) where
+module _ (X : Compared) where
   -- (ℓ, op, ℓ_2) ∈ G: a row of the old chart
   pub record InG (ℓ : OldPlace) (op : Operation) (ℓ₂ : OldPlace) : Type 0 where
     pub row : ℕ
-    pub there : row < size (old .table)
-    pub from : from (old .table) row ≡ ℓ .0
-    pub operation : operation (old .table) row ≡ op
-    pub to : charts.to (old .table) row ≡ ℓ₂ .0
+    pub there : row < size (X .old .table)
+    pub from : from (X .old .table) row ≡ ℓ .0
+    pub operation : operation (X .old .table) row ≡ op
+    pub to : charts.to (X .old .table) row ≡ ℓ₂ .0
 
   -- the test of line 13: ℓ_p ≠ ℓ_err ∧ ∃ (ℓ_p, op_a, ℓ_s) ∈ G : op_a is assignment
   pub record Line13 (ℓₚ : OldPlace) (opₐ : Operation) (ℓₛ : OldPlace) : Type 0 where
-    pub not-err : ℓₚ .0 ≢ old .alarm
+    pub not-err : ℓₚ .0 ≢ X .old .head .alarm
     pub edge : InG ℓₚ opₐ ℓₛ
     pub assignment : isAssignment opₐ ≡ true
 
@@ -81,7 +82,7 @@ module _ (old : Chart) where
 
     -- the test of line 15; that op' ≢ false is that some values meet it
     pub record Line15 (ℓₚ : OldPlace) (op : Operation) (ℓ₂ : OldPlace) : Type 0 where
-      pub not-err : ℓₚ .0 ≢ old .alarm
+      pub not-err : ℓₚ .0 ≢ X .old .head .alarm
       pub edge : InG ℓₚ op ℓ₂
       pub matches : (op ≡ op′) ⊎ (Implies op′ op × (NeverHolds op′ → ⊥))
 

@@ -4,7 +4,7 @@
 use mathlib.Core.Path.{_≡_}
 use mathlib.Core.Logic.{_⊎_, _≢_, _↔_}
 use Prim.Native.Nat.{ℕ, _≤_, _<_}
-use Rattle.chart.specs.Charts.{Chart}
+use Rattle.chart.specs.Compared.{Compared}
 use Rattle.records.specs.Records.{Record, mark, setAt, target}
 use Rattle.paper.specs.Nodes.{SetOf, _isIn_, _isNotIn_, Pair, Node, aligned, Edge, edge, number, nodeNumber, pairOf, Numbered, NodeNumbered}
 use Rattle.paper.specs.Lines5to18.{Lines5to18}
@@ -54,14 +54,14 @@ module _ (R : Record) where
 
 -- the run of Algorithm 2 that always pops the lowest waiting pair, to its end, and the graph that it returns; and of
 -- Algorithm 1 on that graph some search that ends, while every one that ends finds the same condition
-pub record Returned (old new : Chart) (R : Record) : Type 0 where
+pub record Returned (X : Compared) (R : Record) : Type 0 where
   pub state : State
-  pub ran : Run old new (Lines5to18 old) Lowest state
+  pub ran : Run X (Lines5to18 X) Lowest state
   pub ended : Ended state
-  pub graph : IsGraph R (returned old new state) (state .Vδ)
+  pub graph : IsGraph R (returned X state) (state .Vδ)
   pub Q : SetOf Node
   pub waitlist : SetOf Node
-  pub searched : Search (returned old new state) Q waitlist
+  pub searched : Search (returned X state) Q waitlist
   pub emptied : (n : Node) → n isNotIn waitlist
-  pub condition : {Q W : SetOf Node} → Search (returned old new state) Q W → ((n : Node) → n isNotIn W)
-      → IsCondition R (returned old new state) Q
+  pub condition : {Q W : SetOf Node} → Search (returned X state) Q W → ((n : Node) → n isNotIn W)
+      → IsCondition R (returned X state) Q

@@ -16,12 +16,14 @@ use Rattle.text.specs.declared.answers.Read.{Read}
 use Rattle.text.specs.declared.answers.Read.the-variants as read
 use Rattle.text.specs.Texts.{heading, toldRead, readInto, filled}
 use Rattle.text.proofs.Bounds.{read-fits}
-use Rattle.text.proofs.Headings.{first, second, third}
+use Rattle.text.proofs.Headings.{headOr, rowsTold}
 use Rattle.pick.specs.declared.Both.{Both}
 use Rattle.pick.specs.declared.Both.the-variants as both
 use Rattle.report.specs.Printed.{inNew, bothOf}
 use Rattle.pick.specs.Both.{toldBoth, BothAs}
 use Rattle.pick.specs.inner.Small.{Few}
+use Rattle.chart.specs.declared.charts.Heads.{Heads}
+use Rattle.chart.specs.Compared.{bothHeads}
 
 -- all that the call says
 abbrev Told : Answer Chart → Answer Chart → Both → List ℕ → List ℕ → List ℕ → List ℕ → Type 0
@@ -49,19 +51,17 @@ module _ (old old′ new : List ℕ) where
         (record { told = ap (λ (x : Refusal). refused (inNew x)) i; old-table = f; new-table = f′ }, rw i (s .position))
 
     -- both are charts
-    two-charts : (a b : Answer Chart) (h : Head) (m : ℕ) (g : Head) (n : ℕ) → FitsOr FaultlessChart a → FitsOr FaultlessChart b → toldRead (read.Chart h m) ≡ mapped heading a → old′ ≡ filled a old
-        → toldRead (read.Chart g n) ≡ mapped heading b → new′ ≡ filled b new → Told a b (both.Charts h m g n) old old′ new new′
+    two-charts : (a b : Answer Chart) (h : Head) (m : ℕ) (g : Head) (n : ℕ) {x : Heads} → x ≡ bothHeads h g → FitsOr FaultlessChart a → FitsOr FaultlessChart b → toldRead (read.Chart h m) ≡ mapped heading a → old′ ≡ filled a old
+        → toldRead (read.Chart g n) ≡ mapped heading b → new′ ≡ filled b new → Told a b (both.Charts x m n) old old′ new new′
     unfolding toldRead bothOf toldBoth
-    two-charts (refused q) b h m g n s s′ e f e′ f′ = absurd (different e)
-    two-charts (given C) (refused q) h m g n s s′ e f e′ f′ = absurd (different e′)
-    two-charts (given C) (given D) h m g n s s′ e f e′ f′ =
-        let i : h .places ≡ C .places = ap first e in
-        let j : h .alarm ≡ C .alarm = ap second e in
-        let k : m ≡ size (C .table) = ap third e in
-        let i′ : g .places ≡ D .places = ap first e′ in
-        let j′ : g .alarm ≡ D .alarm = ap second e′ in
-        let k′ : n ≡ size (D .table) = ap third e′ in
-        (record { told = rw (i, j, k, i′, j′, k′); old-table = f; new-table = f′ }, (omega (arith, s .few-rows), omega (arith, s′ .few-rows)))
+    two-charts (refused q) b h m g n z s s′ e f e′ f′ = absurd (different e)
+    two-charts (given C) (refused q) h m g n z s s′ e f e′ f′ = absurd (different e′)
+    two-charts (given C) (given D) h m g n z s s′ e f e′ f′ =
+        let i : h ≡ C .head = ap (headOr h) e in
+        let k : m ≡ size (C .table) = ap rowsTold e in
+        let i′ : g ≡ D .head = ap (headOr g) e′ in
+        let k′ : n ≡ size (D .table) = ap rowsTold e′ in
+        (record { told = rw (z, i, k, i′, k′); old-table = f; new-table = f′ }, (omega (arith, s .few-rows), omega (arith, s′ .few-rows)))
 
 module _ (old-text new-text old old′ new : List ℕ) (r : Read)
     (is : (toldRead r ≡ mapped heading (readInto old-text old)) × (old′ ≡ filled (readInto old-text old) old)) where
@@ -75,14 +75,14 @@ module _ (old-text new-text old old′ new : List ℕ) (r : Read)
         two-refused old old′ new new′ (readInto old-text old) (readInto new-text new) h k q (read-fits new-text new) (rw e at is .0) (is .1)
         (rw e′ at is′ .0) (is′ .1)
 
-    pub both-charts : (g : Head) (n : ℕ) → r′ ≡ read.Chart g n → Told (readInto old-text old) (readInto new-text new) (both.Charts h k g n) old old′ new new′
-    both-charts g n e′ =
-        two-charts old old′ new new′ (readInto old-text old) (readInto new-text new) h k g n (read-fits old-text old) (read-fits new-text new)
+    pub both-charts : (g : Head) (n : ℕ) {x : Heads} → r′ ≡ read.Chart g n → x ≡ bothHeads h g → Told (readInto old-text old) (readInto new-text new) (both.Charts x k n) old old′ new new′
+    both-charts g n e′ z =
+        two-charts old old′ new new′ (readInto old-text old) (readInto new-text new) h k g n z (read-fits old-text old) (read-fits new-text new)
         (rw e at is .0) (is .1) (rw e′ at is′ .0) (is′ .1)
 
 -- the row counts of two charts that are read
-pub few-rows : (r : Both) → Few r → (h : Head) (m : ℕ) (g : Head) (n : ℕ) → r ≡ both.Charts h m g n → (m ≤ 128) × (n ≤ 128)
-few-rows r f h m g n e = subst Few e f
+pub few-rows : (r : Both) → Few r → (h : Heads) (m n : ℕ) → r ≡ both.Charts h m n → (m ≤ 128) × (n ≤ 128)
+few-rows r f h m n e = subst Few e f
 
 -- the position of a refusal
 pub refused-near : (b : Both) → Few b → (r : Refusal) → b ≡ both.Refused r → r .position < 2 ^ 32

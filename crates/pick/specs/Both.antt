@@ -5,10 +5,11 @@ use Prim.Native.Nat.{ℕ}
 use Rattle.base.specs.Answers.{Answer, given, refused}
 use Rattle.base.specs.Chains.{andThen, mapped}
 use Rattle.chart.specs.Charts.{Chart}
+use Rattle.chart.specs.Compared.{Compared, oldHead, newHead}
 use Rattle.text.specs.Texts.{Heading, heading, filled}
 use Rattle.pick.specs.declared.Both.{Both}
 use Rattle.pick.specs.declared.Both.the-variants as answer
-use Rattle.report.specs.Printed.{Pair, bothOf}
+use Rattle.report.specs.Printed.{bothOf}
 
 -- "n, alarm, row count" of two charts that are read
 pub record Headings : Type 0 where
@@ -16,15 +17,15 @@ pub record Headings : Type 0 where
   pub new : Heading
 
 -- the same of the charts: "n, alarm, row count" of each
-abbrev pub headings : Pair → Headings
-headings P = record { old = heading (P .old); new = heading (P .new) }
+abbrev pub headings : Compared → Headings
+headings X = record { old = heading (X .old); new = heading (X .new) }
 
 -- what the code's answer says, "for each of the enum's cases"
 unfoldable pub toldBoth : Both → Answer Headings
-toldBoth (answer.Charts old rows new more) =
+toldBoth (answer.Charts heads rows more) =
     given (record {
-      old = record { places = old .places; alarm = old .alarm; rows = rows };
-      new = record { places = new .places; alarm = new .alarm; rows = more };
+      old = record { head = oldHead (heads .old); rows = rows };
+      new = record { head = newHead (heads .new); rows = more };
     })
 toldBoth (answer.Refused r) = refused r
 

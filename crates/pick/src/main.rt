@@ -9,15 +9,16 @@ ghost use Rattle.pick.specs.inner.Small.{Few};
 use base::Refusal;
 use builder::answers::Built;
 use builder::build;
-use chart::charts::Head;
+use chart::charts::Heads;
+use chart::charts::both_heads;
 use condition::Summary;
 use libc::STDOUT_FILENO;
 use text::answers::Read;
 
 // What reading the texts of both files answers.
 pub enum Both {
-    // The head and the row count of the old chart, and those of the new one; the rows stand at the front of the tables.
-    Charts(Head, usize, Head, usize),
+    // Both heads, and the row counts of the old and of the new chart; the rows stand at the front of the tables.
+    Charts(Heads, usize, usize),
     Refused(Refusal),
 }
 
@@ -70,7 +71,7 @@ fn read_both(old_text: &[u8], new_text: &[u8], old: &mut [u32], new: &mut [u32])
                 chart: 1,
                 position: r.position,
             }),
-            Read::Chart(other, more) => Both::Charts(head, rows, other, more),
+            Read::Chart(other, more) => Both::Charts(both_heads(head, other), rows, more),
         },
     }
 }
@@ -139,15 +140,14 @@ fn head(s: Summary) -> bool
 }
 
 // The condition of two charts, or as much of its beginning as standard output takes.
-fn show<'a>(old: Head, old_rows: &'a [u32], new: Head, new_rows: &'a [u32]) {
+fn show<'a>(heads: Heads, old_rows: &'a [u32], new_rows: &'a [u32]) {
     let mut marks = [0u8; 4160];
     let mut targets = [0u16; 8192];
     let mut sets = [0u64; 4096];
     let mut waiting = [0u8; 4096];
     match build(
-        old,
+        heads,
         old_rows,
-        new,
         new_rows,
         &mut marks,
         &mut targets,
@@ -168,10 +168,10 @@ fn main() {
     let mut new = [0u32; 768];
     match charts(&mut old, &mut new) {
         Both::Refused(r) => refuse(r),
-        Both::Charts(head, rows, other, more) => {
+        Both::Charts(heads, rows, more) => {
             let m = 6 * rows;
             let n = 6 * more;
-            show(head, &old[..m], other, &new[..n]);
+            show(heads, &old[..m], &new[..n]);
         }
     }
 }

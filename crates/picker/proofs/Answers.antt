@@ -12,13 +12,13 @@ use Rattle.base.specs.Refusals.{unless}
 use Rattle.base.specs.inner.Fits.{Fits, FitsOr}
 use Rattle.base.proofs.Fits.{unless-fits, mapped-fits}
 use Rattle.base.proofs.OnSome.{OnSome}
-use Rattle.chart.specs.Charts.{Chart}
+use Rattle.chart.specs.Charts.{Chart, charted}
 use Rattle.chart.specs.Faultless.{FaultlessChart}
 use Rattle.text.specs.Texts.{Heading, heading, readInto}
 use Rattle.text.specs.Written.{writing}
 use Rattle.text.proofs.Bounds.{read-fits, Short, write-fits}
 use Rattle.text.proofs.Filed.{u32s}
-use Rattle.records.specs.Records.{recordOf}
+use Rattle.records.specs.Records.{recordOf, Record}
 use Rattle.checker.specs.Checks.{refusal}
 use Rattle.graph.specs.Buffers.{Buffers}
 use Rattle.paper.specs.Returned.{Returned}
@@ -31,9 +31,13 @@ use Rattle.builder.proofs.Bounds.{build-fits}
 use Rattle.picker.specs.declared.Four.{Four}
 use Rattle.picker.specs.declared.Answer.{Answer as Coded}
 use Rattle.picker.specs.declared.Answer.the-variants.{Given, Refused}
-use Rattle.picker.specs.Numbers.{chartOf, number, one, ofChart, ofText, zeros, ofBuild}
+use Rattle.picker.specs.Numbers.{chartOf, number, one, ofChart, ofText, zeros, ofBuild, bothLent}
 use Rattle.picker.specs.inner.Told.{told, Below, ofHeading}
 use Rattle.picker.proofs.Numbers.{given-low, first, refused-high}
+use Rattle.chart.specs.Compared.{Compared, compared, bothHeads}
+use Rattle.chart.specs.declared.charts.Head.{Head}
+use Rattle.chart.specs.declared.charts.Heads.{Heads}
+use Rattle.checker.specs.Promise.{Promise}
 
 -- the code's answer x is y, which fits
 pub record Answers (x y : Answer Four) : Type 0 where
@@ -99,14 +103,21 @@ pub none-due : (p : Option Refusal) → OnSome Fits p → number (unless p zeros
 none-due none h e = refl
 none-due (some r) h e = absurd (omega (arith, refused-high r h))
 
+-- ---- two charts, whose heads are made of the numbers lent
+pub lent-is : (o n : Head) (t u : List ℕ) {h : Heads} → h ≡ bothHeads o n → compared h t u ≡ bothLent (charted o t) (charted n u)
+lent-is o n t u e = ap (λ (h : Heads). compared h t u) e
+
+pub lent-promise : (o n : Head) (t u : List ℕ) (R : Record) {h : Heads} → h ≡ bothHeads o n → Promise (compared h t u) R → Promise (bothLent (charted o t) (charted n u)) R
+lent-promise o n t u R e p = subst (λ (X : Compared). Promise X R) (lent-is o n t u e) p
+
 -- ---- a build
-module _ (old new : Chart) (g : Buffers) where
-  pub build-answers : {x : Answer Four} {b : Answer Summary} → b ≡ answered old new g → x ≡ mapped ofBuild b → Answers x (mapped ofBuild (answered old new g))
+module _ (X : Compared) (g : Buffers) where
+  pub build-answers : {x : Answer Four} {b : Answer Summary} → b ≡ answered X g → x ≡ mapped ofBuild b → Answers x (mapped ofBuild (answered X g))
   build-answers e i =
       record {
         is = i ∙ ap (mapped ofBuild) e;
         fits =
-            mapped-fits Small Below (answered old new g) ofBuild (build-fits old new g)
+            mapped-fits Small Below (answered X g) ofBuild (build-fits X g)
             (λ s f. record { a = omega (arith, f .start); b = omega (arith, f .opened); c = omega (arith, f .kept); d = omega (arith, f .covered) });
       }
 
@@ -119,11 +130,11 @@ module _ {b : Built} {x : Answer Four} (i : x ≡ mapped ofBuild (toldBuilt b)) 
       go (built.Done s) c i h = let j = e ∙ ap number i in subst P (first (ofBuild s) (rw i at h) ∙ ap (λ (n : ℕ). n % 2 ^ 14) (sym j)) (f s c)
       go (built.Refused r) c i h = let j = e ∙ ap number i in absurd (omega (arith, refused-high r (rw i at h)))
 
-  module _ (old new : Chart) (marks targets sets : List ℕ) where
-    pub built-passes : ((s : Summary) → b ≡ built.Done s → refusal old new (recordOf (s .start) marks targets sets) ≡ none)
-        → refusal old new (recordOf (n % 2 ^ 14) marks targets sets) ≡ none
-    built-passes = told-start (λ (k : ℕ). refusal old new (recordOf k marks targets sets) ≡ none)
+  module _ (X : Compared) (marks targets sets : List ℕ) where
+    pub built-passes : ((s : Summary) → b ≡ built.Done s → refusal X (recordOf (s .start) marks targets sets) ≡ none)
+        → refusal X (recordOf (n % 2 ^ 14) marks targets sets) ≡ none
+    built-passes = told-start (λ (k : ℕ). refusal X (recordOf k marks targets sets) ≡ none)
 
-    pub built-returned : ((s : Summary) → b ≡ built.Done s → Returned old new (recordOf (s .start) marks targets sets))
-        → Returned old new (recordOf (n % 2 ^ 14) marks targets sets)
-    built-returned = told-start (λ (k : ℕ). Returned old new (recordOf k marks targets sets))
+    pub built-returned : ((s : Summary) → b ≡ built.Done s → Returned X (recordOf (s .start) marks targets sets))
+        → Returned X (recordOf (n % 2 ^ 14) marks targets sets)
+    built-returned = told-start (λ (k : ℕ). Returned X (recordOf k marks targets sets))

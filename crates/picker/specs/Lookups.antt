@@ -6,14 +6,15 @@ use lib.Dec.{eqb}
 use lib.ListN.{length, drop}
 use Rattle.base.specs.Answers.{Answer, given, refused}
 use Rattle.base.specs.Refusals.{due, unless}
-use Rattle.chart.specs.Charts.{Chart, size}
+use Rattle.chart.specs.Charts.{size}
+use Rattle.chart.specs.Compared.{Compared}
 use Rattle.chart.specs.Lookup.{lookup}
 use Rattle.picker.specs.declared.Four.{Four}
 use Rattle.picker.specs.Numbers.{one}
 
 -- the part that the lookup hands back, for 12 lent entries; "21, a lent length differs from the stated one"
-unfoldable pub lookedUp : Chart → Chart → ℕ → ℕ → List ℕ → Answer (List ℕ)
-lookedUp old new chart p rows = unless (due (not (eqb (length rows) 12)) 21 0) (lookup old new chart p)
+unfoldable pub lookedUp : Compared → ℕ → ℕ → List ℕ → Answer (List ℕ)
+lookedUp X chart p rows = unless (due (not (eqb (length rows) 12)) 21 0) (lookup X chart p)
 
 -- the lent entries afterwards: the part at the front, and those past it stay; "lent memory is untouched" by a refusal
 unfoldable pub handed : Answer (List ℕ) → List ℕ → List ℕ

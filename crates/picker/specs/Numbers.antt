@@ -3,14 +3,19 @@ use mathlib.Core.List.{List}
 use Prim.Native.Nat.{ℕ, _+_, _*_, _^_}
 use lib.ListN.{length}
 use Rattle.base.specs.Answers.{Answer, given, refused}
-use Rattle.chart.specs.Charts.{Chart, size}
+use Rattle.chart.specs.Charts.{Chart, charted, size}
+use Rattle.chart.specs.Compared.{Compared}
 use Rattle.condition.specs.declared.Summary.{Summary}
 use Rattle.picker.specs.declared.Four.{Four}
 
 -- include/picker.h, "A chart is a count of places, the number of its alarm, and a table of rows": a chart as it is
 -- lent, two numbers beside its table
 abbrev pub chartOf : ℕ → ℕ → List ℕ → Chart
-chartOf places alarm table = record { places = places; alarm = alarm; table = table }
+chartOf places alarm table = charted (record { places = places; alarm = alarm }) table
+
+-- both charts as they are lent: what is compared
+abbrev pub bothLent : Chart → Chart → Compared
+bothLent old new = record { old = old; new = new }
 
 -- include/picker.h, "Answers": "A refusal is number * 2^56 + chart * 2^48 + position; a success is below 2^56, a + b *
 -- 2^14 + c * 2^28 + d * 2^42."
@@ -24,7 +29,7 @@ one n = record { a = n; b = 0; c = 0; d = 0 }
 
 -- picker_read_places, _alarm and _rows of include/picker.h, of a chart that is read: places, alarm, rows, 0
 abbrev pub ofChart : Chart → Four
-ofChart C = record { a = C .places; b = C .alarm; c = size (C .table); d = 0 }
+ofChart C = record { a = C .head .places; b = C .head .alarm; c = size (C .table); d = 0 }
 
 -- picker_write_bytes of include/picker.h, of a text that is written: the count of its bytes, 0, 0, 0
 abbrev pub ofText : List ℕ → Four

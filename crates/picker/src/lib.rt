@@ -17,13 +17,14 @@ ghost use Rattle.graph.specs.Buffers.{buffers};
 ghost use Rattle.paper.specs.Returned.{Returned};
 ghost use Rattle.builder.specs.Answers.{answered, left, told as toldBuilt};
 ghost use Rattle.picker.specs.Lookups.{lookedUp, handed, ofRows};
-ghost use Rattle.picker.specs.Numbers.{chartOf, number, one, ofChart, ofText, zeros, ofBuild};
+ghost use Rattle.picker.specs.Numbers.{chartOf, bothLent, number, one, ofChart, ofText, zeros, ofBuild};
 ghost use Rattle.picker.specs.inner.Told.{told, Below, ofHeading};
 use base::Refusal;
 use base::sole;
 use builder::answers::Built;
 use chart::charts::Head;
 use chart::charts::Judged;
+use chart::charts::both_heads;
 use checker::answers::Checked;
 use text::answers::Read;
 use text::answers::Wrote;
@@ -172,12 +173,12 @@ pub extern "C" fn picker_lookup<'a>(
     rows: &mut [u32],
 ) -> u64
     ensures { λ r. ⌜ (r ≡ number (mapped ofRows (lookedUp
-        (chartOf «old_places» «old_alarm» (now («old_rows» .entry)))
-        (chartOf «new_places» «new_alarm» (now («new_rows» .entry)))
+        (bothLent (chartOf «old_places» «old_alarm» (now («old_rows» .entry)))
+        (chartOf «new_places» «new_alarm» (now («new_rows» .entry))))
         chart place (now (rows .entry)))))
         × (now (rows .exit) ≡ handed (lookedUp
-        (chartOf «old_places» «old_alarm» (now («old_rows» .entry)))
-        (chartOf «new_places» «new_alarm» (now («new_rows» .entry)))
+        (bothLent (chartOf «old_places» «old_alarm» (now («old_rows» .entry)))
+        (chartOf «new_places» «new_alarm» (now («new_rows» .entry))))
         chart place (now (rows .entry))) (now (rows .entry))) ⌝ }
 {
     if rows.len() != 12 {
@@ -191,7 +192,8 @@ pub extern "C" fn picker_lookup<'a>(
         places: new_places,
         alarm: new_alarm,
     };
-    let part = chart::lookup(old, old_rows, new, new_rows, chart, place);
+    let heads = both_heads(old, new);
+    let part = chart::lookup(heads, old_rows, new_rows, chart, place);
     copy(part, rows);
     packed(Answer::Given(one(part.len() / 6)))
 }
@@ -212,12 +214,12 @@ pub extern "C" fn picker_check<'a>(
     sets: &[u64],
 ) -> u64
     ensures is { λ r. ⌜ r ≡ number (unless (refusal
-        (chartOf «old_places» «old_alarm» (now («old_rows» .entry)))
-        (chartOf «new_places» «new_alarm» (now («new_rows» .entry)))
+        (bothLent (chartOf «old_places» «old_alarm» (now («old_rows» .entry)))
+        (chartOf «new_places» «new_alarm» (now («new_rows» .entry))))
         (recordOf start (now (marks .entry)) (now (targets .entry)) (now (sets .entry)))) zeros) ⌝ }
     ensures promise { λ r. ⌜ (r ≡ 0 → Promise
-        (chartOf «old_places» «old_alarm» (now («old_rows» .entry)))
-        (chartOf «new_places» «new_alarm» (now («new_rows» .entry)))
+        (bothLent (chartOf «old_places» «old_alarm» (now («old_rows» .entry)))
+        (chartOf «new_places» «new_alarm» (now («new_rows» .entry))))
         (recordOf start (now (marks .entry)) (now (targets .entry)) (now (sets .entry)))) ⌝ }
 {
     let old = Head {
@@ -228,7 +230,8 @@ pub extern "C" fn picker_check<'a>(
         places: new_places,
         alarm: new_alarm,
     };
-    packed(of_checked(checker::check(old, old_rows, new, new_rows, start, marks, targets, sets)))
+    let heads = both_heads(old, new);
+    packed(of_checked(checker::check(heads, old_rows, new_rows, start, marks, targets, sets)))
 }
 
 // A build: start, open, kept, covered. What an answer below 2^56 leaves in marks, targets and sets, with the start that
@@ -247,22 +250,22 @@ pub extern "C" fn picker_build<'a>(
     waiting: &mut [u8],
 ) -> u64
     ensures answer { λ r. ⌜ r ≡ number (mapped ofBuild (answered
-        (chartOf «old_places» «old_alarm» (now («old_rows» .entry)))
-        (chartOf «new_places» «new_alarm» (now («new_rows» .entry)))
+        (bothLent (chartOf «old_places» «old_alarm» (now («old_rows» .entry)))
+        (chartOf «new_places» «new_alarm» (now («new_rows» .entry))))
         (buffers (now (marks .entry)) (now (targets .entry)) (now (sets .entry)) (now (waiting .entry))))) ⌝ }
     ensures leaves { λ _. ⌜ buffers
         (now (marks .exit)) (now (targets .exit)) (now (sets .exit)) (now (waiting .exit))
         ≡ left
-        (chartOf «old_places» «old_alarm» (now («old_rows» .entry)))
-        (chartOf «new_places» «new_alarm» (now («new_rows» .entry)))
+        (bothLent (chartOf «old_places» «old_alarm» (now («old_rows» .entry)))
+        (chartOf «new_places» «new_alarm» (now («new_rows» .entry))))
         (buffers (now (marks .entry)) (now (targets .entry)) (now (sets .entry)) (now (waiting .entry))) ⌝ }
     ensures passes { λ r. ⌜ (r < 2 ^ 56 → refusal
-        (chartOf «old_places» «old_alarm» (now («old_rows» .entry)))
-        (chartOf «new_places» «new_alarm» (now («new_rows» .entry)))
+        (bothLent (chartOf «old_places» «old_alarm» (now («old_rows» .entry)))
+        (chartOf «new_places» «new_alarm» (now («new_rows» .entry))))
         (recordOf (r % 2 ^ 14) (now (marks .exit)) (now (targets .exit)) (now (sets .exit))) ≡ none) ⌝ }
     ensures algorithms { λ r. ⌜ (r < 2 ^ 56 → Returned
-        (chartOf «old_places» «old_alarm» (now («old_rows» .entry)))
-        (chartOf «new_places» «new_alarm» (now («new_rows» .entry)))
+        (bothLent (chartOf «old_places» «old_alarm» (now («old_rows» .entry)))
+        (chartOf «new_places» «new_alarm» (now («new_rows» .entry))))
         (recordOf (r % 2 ^ 14) (now (marks .exit)) (now (targets .exit)) (now (sets .exit)))) ⌝ }
 {
     let old = Head {
@@ -273,5 +276,6 @@ pub extern "C" fn picker_build<'a>(
         places: new_places,
         alarm: new_alarm,
     };
-    packed(of_built(builder::build(old, old_rows, new, new_rows, marks, targets, sets, waiting)))
+    let heads = both_heads(old, new);
+    packed(of_built(builder::build(heads, old_rows, new_rows, marks, targets, sets, waiting)))
 }

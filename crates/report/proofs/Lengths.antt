@@ -11,24 +11,25 @@ use Rattle.chart.specs.Charts.{Chart}
 use Rattle.chart.proofs.Faultless.{faultless}
 use Rattle.text.specs.Texts.{readText}
 use Rattle.text.proofs.Theorems.{read-exactly}
-use Rattle.report.specs.Printed.{Pair, bothOf, bothRead}
+use Rattle.report.specs.Printed.{bothOf, bothRead}
+use Rattle.chart.specs.Compared.{Compared}
 
 -- both charts were read
-newIn : Pair → Answer Pair → Chart
-newIn P (given Q) = Q .new
-newIn P (refused r) = P .new
+newIn : Compared → Answer Compared → Chart
+newIn X (given Q) = Q .new
+newIn X (refused r) = X .new
 
-new-given : (a b : Answer Chart) (P : Pair) → bothOf a b ≡ given P → b ≡ given (P .new)
+new-given : (a b : Answer Chart) (X : Compared) → bothOf a b ≡ given X → b ≡ given (X .new)
 unfolding bothOf newIn
-new-given (given O) (given N) P e = ap (λ (C : Chart). given C) (ap (newIn P) e)
-new-given (given O) (refused r) P e = absurd (different (sym e))
-new-given (refused r) b P e = absurd (different (sym e))
+new-given (given O) (given N) X e = ap (λ (C : Chart). given C) (ap (newIn X) e)
+new-given (given O) (refused r) X e = absurd (different (sym e))
+new-given (refused r) b X e = absurd (different (sym e))
 
 -- the portions are those of the whole table
-pub whole-table : (old new : List ℕ) (P : Pair) → bothRead old new ≡ given P → take 768 (P .new .table) ≡ P .new .table
+pub whole-table : (old new : List ℕ) (X : Compared) → bothRead old new ≡ given X → take 768 (X .new .table) ≡ X .new .table
 unfolding bothRead
-whole-table old new P e =
-    let q = new-given (readText old) (readText new) P e in
-    let C = P .new in
+whole-table old new X e =
+    let q = new-given (readText old) (readText new) X e in
+    let C = X .new in
     let f = faultless C (read-exactly C new .0 q .faultless) in
     take-all 768 (C .table) (omega (arith, f .whole, f .few-rows))

@@ -17,9 +17,10 @@ use Rattle.condition.specs.Builds.{recorded, summary}
 use Rattle.records.specs.Records.{Graph, graphOf}
 use Rattle.report.specs.Lines.{refusalLine}
 use Rattle.report.specs.Transitions.{ofPair, ofPairs, remaining}
-use Rattle.report.specs.Printed.{Pair, bothRead, summaryLine, transitions, condition, conditionOf, printed}
+use Rattle.report.specs.Printed.{bothRead, summaryLine, transitions, condition, conditionOf, printed}
 use Rattle.report.proofs.Lengths.{whole-table}
 use Rattle.report.specs.Portions.{Front, Portions, last, more}
+use Rattle.chart.specs.Compared.{Compared}
 
 -- past the last pair there is nothing
 remaining-end : (t : List ℕ) (G : Graph) (n : ℕ) → 4096 ≤ n → remaining t G n ≡ []
@@ -45,16 +46,16 @@ module _ (old new : List ℕ) where
   refusal-printed r e = rw e
 
   -- a condition is printed by its first record and then the portions from pair 0 on
-  pub condition-printed : (P : Pair) → bothRead old new ≡ given P
-      → (before after : List ℕ) (r : ℕ) → Front before (summaryLine (summary (recorded (P .old) (P .new) .start) (recorded (P .old) (P .new) .graph .marks))) after r
-      → {out : List ℕ} → Portions (take 768 (P .new .table)) (graphOf (recorded (P .old) (P .new) .graph .marks) (recorded (P .old) (P .new) .graph .targets) []) 0 out
+  pub condition-printed : (X : Compared) → bothRead old new ≡ given X
+      → (before after : List ℕ) (r : ℕ) → Front before (summaryLine (summary (recorded X .start) (recorded X .graph .marks))) after r
+      → {out : List ℕ} → Portions (take 768 (X .new .table)) (graphOf (recorded X .graph .marks) (recorded X .graph .targets) []) 0 out
       → take r after ++ out ≡ printed old new
   unfolding printed conditionOf condition transitions remaining
-  condition-printed P e before after r f ps =
-      let R = recorded (P .old) (P .new) in
-      let all = portions-are (take 768 (P .new .table)) (graphOf (R .graph .marks) (R .graph .targets) []) ps in
-      let same = all ∙ without-sets (take 768 (P .new .table)) (R .graph) 0 (slice 0 4096 (R .graph .marks)) in
-      rw e (ap₂ (λ (x y : List ℕ). x ++ y) (f .is) (same ∙ ap (λ (t : List ℕ). remaining t (R .graph) 0) (whole-table old new P e)))
+  condition-printed X e before after r f ps =
+      let R = recorded X in
+      let all = portions-are (take 768 (X .new .table)) (graphOf (R .graph .marks) (R .graph .targets) []) ps in
+      let same = all ∙ without-sets (take 768 (X .new .table)) (R .graph) 0 (slice 0 4096 (R .graph .marks)) in
+      rw e (ap₂ (λ (x y : List ℕ). x ++ y) (f .is) (same ∙ ap (λ (t : List ℕ). remaining t (R .graph) 0) (whole-table old new X e)))
 
 -- "at most 16,384 bytes" of a file say as much as all of it
 cut-read : (text : List ℕ) → readText (take 16384 text) ≡ readText text

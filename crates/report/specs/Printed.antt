@@ -5,6 +5,7 @@ use Rattle.base.specs.Answers.{Answer, given, refused}
 use Rattle.base.specs.declared.Refusal.{Refusal}
 use Rattle.base.specs.Chains.{andThen, mapped}
 use Rattle.chart.specs.Charts.{Chart}
+use Rattle.chart.specs.Compared.{Compared}
 use Rattle.text.specs.Texts.{readText}
 use Rattle.records.specs.Records.{Record}
 use Rattle.condition.specs.declared.Summary.{Summary}
@@ -13,11 +14,6 @@ use Rattle.report.specs.Lines.{line, refusalLine}
 use Rattle.report.specs.Transitions.{remaining}
 
 -- ---- both files
--- "The program reads old.csv and new.csv": the charts of both
-pub record Pair : Type 0 where
-  pub old : Chart
-  pub new : Chart
-
 -- a refusal of the new chart: "chart (0 old or sole, 1 new)"
 abbrev pub inNew : Refusal → Refusal
 inNew r = record { number = r .number; chart = 1; position = r .position }
@@ -28,11 +24,11 @@ ofNew (given x) = given x
 ofNew (refused r) = refused (inNew r)
 
 -- "the program finishes old.csv before new.csv": what is read of the two texts
-unfoldable pub bothOf : Answer Chart → Answer Chart → Answer Pair
+unfoldable pub bothOf : Answer Chart → Answer Chart → Answer Compared
 bothOf old new = andThen old (λ (O : Chart). andThen (ofNew new) (λ (N : Chart). given (record { old = O; new = N })))
 
 -- the charts of both files, by their bytes: "A file that can't be read counts as one without bytes."
-unfoldable pub bothRead : List ℕ → List ℕ → Answer Pair
+unfoldable pub bothRead : List ℕ → List ℕ → Answer Compared
 bothRead old new = bothOf (readText old) (readText new)
 
 -- ---- a condition
@@ -49,8 +45,8 @@ unfoldable pub condition : List ℕ → Record → List ℕ
 condition t R = summaryLine (summary (R .start) (R .graph .marks)) ++ transitions t R
 
 -- the same of the record that the builder writes: "the condition that the builder writes"
-unfoldable pub conditionOf : Pair → List ℕ
-conditionOf P = condition (P .new .table) (recorded (P .old) (P .new))
+unfoldable pub conditionOf : Compared → List ℕ
+conditionOf X = condition (X .new .table) (recorded X)
 
 -- ---- all of it
 -- "A refusal prints 9999, number, chart, position."

@@ -33,16 +33,20 @@ use Rattle.graph.specs.Buffers as graph-buffers
 use Rattle.detector.specs.Turns as detector-turns
 use Rattle.marker.specs.Marks as marker-marks
 use Rattle.condition.specs.Builds as condition-builds
+use Rattle.chart.specs.Compared.{Compared}
 
 -- both charts, `3,2,2,0,0,0 0,1,0,0,0,1 1,2,0,1,0,2`: two assignments, one after the other, lead to the alarm
 abbrev pub C : Chart
-C = record { places = 3; alarm = 2; table = 0 ∷ 1 ∷ 0 ∷ 0 ∷ 0 ∷ 1 ∷ 1 ∷ 2 ∷ 0 ∷ 1 ∷ 0 ∷ 2 ∷ [] }
+C = record { head = record { places = 3; alarm = 2 }; table = 0 ∷ 1 ∷ 0 ∷ 0 ∷ 0 ∷ 1 ∷ 1 ∷ 2 ∷ 0 ∷ 1 ∷ 0 ∷ 2 ∷ [] }
+
+abbrev pub X : Compared
+X = record { old = C; new = C }
 
 -- what is built of it: the start open, the pair after row 0 covered, that of both alarms beyond, and all sets empty
 pub R : Record
 R = recordOf 0 (set (set (set (replicate 4160 0) 0 1) 65 3) 130 4) (set (set (replicate 8192 65535) 0 65) 130 130) (replicate 4096 0)
 
-pub is-built : recorded C C ≡ R
+pub is-built : recorded X ≡ R
 unfolding R base-options.firstOf base-repeat.repeated base-walks.pass base-walks.firstFrom chart-charts.leavingOf chart-charts.leaving operations-operations.kind operations-operations.operandB operations-operations.assignedC operations-operations.operandC operations-operations.reads operations-operations.same sets-sets.alone sets-sets.joined sets-sets.with sets-sets.without sets-sets.meets sets-sets.holdsAll sets-sets.setOf align-reads.readSet align-steps.find align-steps.along align-steps.matching align-steps.matched align-steps.rewritten align-steps.assigned align-steps.onward align-steps.follow align-steps.followed align-steps.counterpart align-steps.assumed align-steps.moved align-steps.arrived align-steps.step graph-buffers.marked graph-buffers.gone graph-buffers.cleared graph-buffers.untargeted graph-buffers.keep graph-buffers.aim graph-buffers.due graph-buffers.waits graph-buffers.join graph-buffers.unwait detector-turns.lowest detector-turns.next detector-turns.setNow detector-turns.begun detector-turns.stepOf detector-turns.arrived detector-turns.processed detector-turns.rowDone detector-turns.secondDone detector-turns.taken detector-turns.explored marker-marks.plainMark marker-marks.plainMarks marker-marks.inQ marker-marks.opening marker-marks.nextOpening marker-marks.allOpened marker-marks.transitions marker-marks.cover marker-marks.covered marker-marks.allCovered marker-marks.finalMarks condition-builds.redirected condition-builds.finalTargets condition-builds.alone condition-builds.lone condition-builds.finished condition-builds.built condition-builds.startOf condition-builds.recorded
 is-built = refl
 
@@ -51,8 +55,8 @@ no-refusal : chartRefusal C ≡ none
 unfolding chart-faults.refusal base-options.firstOf base-tests.someBelow chart-charts.leavingOf chart-charts.leaving chart-faults.countFault chart-faults.alarmFault chart-faults.rowFault chart-faults.clash chart-faults.conflictFault chart-faults.rowsFault chart-faults.fault operations-operations.kind operations-operations.operandB operations-operations.assignedC operations-operations.operandC operations-operations.operandsFit operations-operations.reads
 no-refusal = refl
 
-pub built-passes : refusal C C (recorded C C) ≡ none
-built-passes = let F = faultless C no-refusal in record-passes C C F F
+pub built-passes : refusal X (recorded X) ≡ none
+built-passes = let F = faultless C no-refusal in record-passes X F F
 
 -- ---- what it promises
 -- rows 0 and 1, from zeros, are a run that reaches the new alarm; it is covered before it comes there, at node 65
@@ -60,11 +64,11 @@ pub reached-alarm : reaches C zeros (0 ∷ 1 ∷ []) ≡ true
 unfolding zeros operations-operations.kind operations-operations.operandB operations-operations.value operations-operations.related operations-operations.holds chart-runs.lets chart-runs.after chart-runs.ready chart-runs.run chart-runs.alarmed chart-runs.reaches
 reached-alarm = refl
 
-pub met : nodes C (recorded C C .graph) (recorded C C .start) (0 ∷ 1 ∷ []) ≡ 0 ∷ 65 ∷ []
+pub met : nodes C (recorded X .graph) (recorded X .start) (0 ∷ 1 ∷ []) ≡ 0 ∷ 65 ∷ []
 unfolding R chart-charts.leavingOf checker-following.nodes
 met = ap (λ (R : Record). nodes C (R .graph) (R .start) (0 ∷ 1 ∷ [])) is-built
 
-pub is-covered : covered C (recorded C C) (0 ∷ 1 ∷ []) ≡ true
+pub is-covered : covered C (recorded X) (0 ∷ 1 ∷ []) ≡ true
 unfolding R chart-charts.leavingOf checker-following.nodes checker-following.covered
 is-covered = ap (λ (R : Record). covered C R (0 ∷ 1 ∷ [])) is-built
 
@@ -72,10 +76,10 @@ is-covered = ap (λ (R : Record). covered C R (0 ∷ 1 ∷ [])) is-built
 pub old-run : (js : List ℕ) × (reaches C zeros js ≡ true)
 old-run =
     let w = words-of (C .table) tt in
-    demand-3-first C C w w (recorded C C) built-passes zeros (0 ∷ 1 ∷ []) zeros-values reached-alarm is-covered
+    demand-3-first X w w (recorded X) built-passes zeros (0 ∷ 1 ∷ []) zeros-values reached-alarm is-covered
 
 -- the run of no rows stays at the start, which is open: it is not covered
-pub not-covered : covered C (recorded C C) [] ≡ false
+pub not-covered : covered C (recorded X) [] ≡ false
 unfolding R chart-charts.leavingOf checker-following.nodes checker-following.covered
 not-covered = ap (λ (R : Record). covered C R []) is-built
 

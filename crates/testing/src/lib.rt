@@ -2,6 +2,7 @@
 ghost use mathlib.Core.Path.{_≡_};
 ghost use Rattle.operations.specs.Answers.{writtenBy, metBy};
 ghost use Rattle.operations.specs.Trials.{implication, exclusive};
+ghost use Rattle.chart.specs.Charts.{charted};
 ghost use Rattle.chart.specs.Faults.{refusal};
 ghost use Rattle.testing.specs.Numbers.{operation, implicationNumber, bit, faultNumber, faultPosition, writtenNumber, metNumber};
 use chart::charts::Head;
@@ -71,7 +72,7 @@ pub extern "C" fn testing_exactly_one(
 #[no_mangle]
 pub extern "C" fn testing_fault(places: u32, alarm: u32, rows: &[u32]) -> u32
     ensures { λ r. ⌜ r
-        ≡ faultNumber (refusal (record { places = places; alarm = alarm; table = now (rows .entry) })) ⌝ }
+        ≡ faultNumber (refusal (charted (record { places = places; alarm = alarm }) (now (rows .entry)))) ⌝ }
 {
     match chart::judge(Head { places, alarm }, rows) {
         Judged::Faultless => 0,
@@ -83,7 +84,7 @@ pub extern "C" fn testing_fault(places: u32, alarm: u32, rows: &[u32]) -> u32
 #[no_mangle]
 pub extern "C" fn testing_fault_position(places: u32, alarm: u32, rows: &[u32]) -> usize
     ensures { λ r. ⌜ r
-        ≡ faultPosition (refusal (record { places = places; alarm = alarm; table = now (rows .entry) })) ⌝ }
+        ≡ faultPosition (refusal (charted (record { places = places; alarm = alarm }) (now (rows .entry)))) ⌝ }
 {
     match chart::judge(Head { places, alarm }, rows) {
         Judged::Faultless => 0,

@@ -27,7 +27,7 @@ use Rattle.text.specs.Causes.{causeNumber}
 use Rattle.text.specs.Fields.{itemAt}
 use Rattle.text.specs.Files.{U32s}
 use Rattle.text.specs.Spans.{fieldsAt}
-use Rattle.text.specs.Texts.{whole, rowsAt, parsed, readText, readInto}
+use Rattle.text.specs.Texts.{whole, rowsAt, parsed, readText, readInto, countIn}
 use Rattle.text.specs.Written.{numbers, written, writing}
 use Rattle.text.proofs.Cases.{by-field}
 use Rattle.text.proofs.Lengths.{written-short}
@@ -68,7 +68,7 @@ unfolding parsed rowsAt
 parsed-sole [] = (tt, refl)
 parsed-sole (b ∷ t) =
     sole-then (fieldsAt 6 0 (b ∷ t) 0 []) _ (fields-sole 6 0 (b ∷ t) 0 [])
-    (λ s. sole-then (fieldsAt (6 * getD (s .numbers) 2 0) 6 (b ∷ t) (s .next) []) _ (fields-sole (6 * getD (s .numbers) 2 0) 6 (b ∷ t) (s .next) []) (λ r. whole-sole (b ∷ t) (r .next) _))
+    (λ s. sole-then (fieldsAt (6 * countIn (s .numbers)) 6 (b ∷ t) (s .next) []) _ (fields-sole (6 * countIn (s .numbers)) 6 (b ∷ t) (s .next) []) (λ r. whole-sole (b ∷ t) (r .next) _))
 
 -- ---- answers
 

@@ -13,11 +13,11 @@ use Rattle.base.specs.declared.Refusal.{Refusal}
 use Rattle.base.specs.Answers.{Answer, given, refused}
 use Rattle.base.specs.Refusals.{sole, unless}
 use Rattle.base.proofs.OnSome.{OnGiven, on-then}
-use Rattle.chart.specs.Charts.{Chart, size}
+use Rattle.chart.specs.Charts.{Chart, size, charted}
 use Rattle.chart.specs.Faults.{fault}
 use Rattle.text.specs.Fields.{kind}
 use Rattle.text.specs.Spans.{Span, fieldsAt}
-use Rattle.text.specs.Texts.{whole, rowsAt, parsed, readText}
+use Rattle.text.specs.Texts.{whole, rowsAt, parsed, readText, headIn, countIn}
 use Rattle.text.specs.Written.{decimal, closing, fieldText, fieldsText, numbers}
 use Rattle.text.specs.Files.{U32s}
 use Rattle.text.specs.declared.fields.Kind.{Kind}
@@ -57,17 +57,17 @@ module _ (text : List ℕ) where
       dite (decLt at (length text)) (λ h. rw (whole-after text at C h) tt)
       (λ n. rw (whole-end text at C (omega arith)) (record { items = subst (Items 0 (numbers C) text) (drop-of-length-le text {i = at} (omega arith)) i; rows = w }))
 
-  rows-show : (s : Span) → Shown 6 0 text 0 [] s → OnGiven (Spells text) (rowsAt text (s .next) (getD (s .numbers) 0 0) (getD (s .numbers) 1 0) (getD (s .numbers) 2 0))
+  rows-show : (s : Span) → Shown 6 0 text 0 [] s → OnGiven (Spells text) (rowsAt text (s .next) (headIn (s .numbers)) (countIn (s .numbers)))
   unfolding rowsAt
   rows-show s f =
       let fit = items-fit (f .numbers) 0 text (drop (s .next) text) (f .items) in
-      on-then (Shown (6 * getD (s .numbers) 2 0) 6 text (s .next) []) (Spells text) (fieldsAt (6 * getD (s .numbers) 2 0) 6 text (s .next) []) _
-      (fields-show (6 * getD (s .numbers) 2 0) 6 text (s .next) [])
+      on-then (Shown (6 * countIn (s .numbers)) 6 text (s .next) []) (Spells text) (fieldsAt (6 * countIn (s .numbers)) 6 text (s .next) []) _
+      (fields-show (6 * countIn (s .numbers)) 6 text (s .next) [])
       (λ r g.
-      let n : length (r .numbers) ≡ 6 * getD (s .numbers) 2 0 = ap length (g .is) ∙ g .count in
-      let z : length (r .numbers) / 6 ≡ getD (s .numbers) 2 0 = omega arith in
+      let n : length (r .numbers) ≡ 6 * countIn (s .numbers) = ap length (g .is) ∙ g .count in
+      let z : length (r .numbers) / 6 ≡ countIn (s .numbers) = omega arith in
       let six = first-is (f .numbers) (s .numbers) (size (r .numbers)) (f .is) z (f .count) fit in
-      whole-shows (r .next) (record { places = getD (s .numbers) 0 0; alarm = getD (s .numbers) 1 0; table = r .numbers })
+      whole-shows (r .next) (charted (headIn (s .numbers)) (r .numbers))
       (items-join (getD (s .numbers) 0 0 ∷ getD (s .numbers) 1 0 ∷ size (r .numbers) ∷ 0 ∷ 0 ∷ 0 ∷ []) (r .numbers) 0 text (drop (s .next) text) (drop (r .next) text)
       (subst (λ (l : List ℕ). Items 0 l text (drop (s .next) text)) six (f .items))
       (subst (λ (l : List ℕ). Items 6 l (drop (s .next) text) (drop (r .next) text)) (sym (g .is)) (g .items)))
@@ -103,7 +103,7 @@ whole-left C text at (b ∷ s) h =
 
 -- the six numbers of a chart's first record
 abbrev first : Chart → List ℕ
-first C = C .places ∷ C .alarm ∷ size (C .table) ∷ 0 ∷ 0 ∷ 0 ∷ []
+first C = C .head .places ∷ C .head .alarm ∷ size (C .table) ∷ 0 ∷ 0 ∷ 0 ∷ []
 
 pub spelt-parsed : (C : Chart) (text r : List ℕ) → length (C .table) ≡ 6 * size (C .table) → Items 0 (numbers C) text r → parsed text ≡ Left C text r
 unfolding rowsAt

@@ -25,7 +25,7 @@ use Rattle.text.specs.declared.answers.Wrote.{Wrote}
 use Rattle.text.specs.Texts.{readText, readInto, filled, heading, toldRead}
 use Rattle.text.specs.Written.{numbers, written, writing, printed, toldWrote}
 use Rattle.text.specs.Files.{U32s, FileOf, chartRead}
-use Rattle.text.proofs.Headings.{first, second, third}
+use Rattle.text.proofs.Headings.{headOr, rowsTold}
 use Rattle.text.proofs.Told.{ReadAs, read-sized, WroteAs}
 use Rattle.text.proofs.Theorems.{read-exactly, written-file}
 
@@ -36,11 +36,10 @@ chart-is : (r : Read) (after table : List ℕ) (D : Chart) → toldRead r ≡ gi
 unfolding toldRead chartRead
 chart-is (read.Refused s) after table D t l w = absurd (different (sym t))
 chart-is (read.Chart h n) after table D t l w =
-    let p : h .places ≡ D .places = ap first t in
-    let q : h .alarm ≡ D .alarm = ap second t in
-    let z : n ≡ size (D .table) = ap third t in
+    let p : h ≡ D .head = ap (headOr h) t in
+    let z : n ≡ size (D .table) = ap rowsTold t in
     let k : take (6 * n) after ≡ D .table = rw l (take-at (D .table) _ (6 * n) (omega (arith, z, w))) in
-    (λ i. some (record { places = p i; alarm = q i; table = k i }))
+    (λ i. some (charted (p i) (k i)))
 
 chart-none : (r : Read) (after : List ℕ) (s : Refusal) → toldRead r ≡ refused s → chartRead r after ≡ none
 unfolding toldRead chartRead

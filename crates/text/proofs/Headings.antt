@@ -1,16 +1,15 @@
--- The numbers of an answer of the reader, in order. Assumes nothing.
+-- What an answer of the reader tells of a chart. Assumes nothing.
 use Prim.Native.Nat.{ℕ}
 use Rattle.base.specs.Answers.{Answer, given, refused}
+use Rattle.chart.specs.declared.charts.Head.{Head}
 use Rattle.text.specs.Texts.{Heading}
 
-abbrev pub first : Answer Heading → ℕ
-first (given h) = h .places
-first (refused r) = r .number
+-- its head, or another where it is refused
+abbrev pub headOr : Head → Answer Heading → Head
+headOr h (given a) = a .head
+headOr h (refused r) = h
 
-abbrev pub second : Answer Heading → ℕ
-second (given h) = h .alarm
-second (refused r) = r .chart
-
-abbrev pub third : Answer Heading → ℕ
-third (given h) = h .rows
-third (refused r) = r .position
+-- its row count
+abbrev pub rowsTold : Answer Heading → ℕ
+rowsTold (given a) = a .rows
+rowsTold (refused r) = r .position

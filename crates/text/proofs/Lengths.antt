@@ -10,11 +10,11 @@ use native.Mathlib.Omega.{arith}
 use lib.ListN.{length, getD, take, length-append}
 use Rattle.base.specs.Answers.{Answer, given, refused}
 use Rattle.base.specs.Chains.{andThen}
-use Rattle.chart.specs.Charts.{Chart}
+use Rattle.chart.specs.Charts.{Chart, charted}
 use Rattle.chart.specs.Faults.{refusal}
 use Rattle.chart.proofs.Faultless.{faultless}
 use Rattle.text.specs.Spans.{Span, fieldsAt}
-use Rattle.text.specs.Texts.{whole, rowsAt, parsed}
+use Rattle.text.specs.Texts.{whole, rowsAt, parsed, headIn, countIn}
 use Rattle.text.specs.Written.{decimal, closing, fieldText, fieldsText, numbers, written}
 use Rattle.text.specs.inner.Puts.{room}
 use Rattle.text.specs.Files.{U32s}
@@ -23,6 +23,7 @@ use Rattle.text.proofs.Puts.{closing-length}
 use Rattle.text.proofs.Positions.{stops, fields-stop}
 use Rattle.text.proofs.Cut.{cut-length, cut-fields}
 use Rattle.text.proofs.Told.{whole-after, whole-end, few-counted, parsed-some}
+use Rattle.chart.specs.declared.charts.Head.{Head}
 
 -- ---- what is written
 
@@ -57,13 +58,13 @@ then-ends : (q : ℕ) (a : Answer Span) (f : Span → Answer Chart) → stops a 
 then-ends q (given s) f h g = g s refl
 then-ends q (refused r) f h g = h
 
-rows-end : (text : List ℕ) (at n alarm count : ℕ) → at ≤ 79 → count ≤ 128 → ended (rowsAt text at n alarm count) ≤ 10191
+rows-end : (text : List ℕ) (at : ℕ) (head : Head) (count : ℕ) → at ≤ 79 → count ≤ 128 → ended (rowsAt text at head count) ≤ 10191
 unfolding rowsAt
-rows-end text at n alarm count h g =
+rows-end text at head count h g =
     let r = fields-stop (6 * count) 6 text at [] in
     let d : (6 + 6 * count) / 6 ≤ 129 = omega arith in
     then-ends 10191 (fieldsAt (6 * count) 6 text at []) _ (omega arith)
-    (λ s e. omega (arith, whole-ends text (s .next) (record { places = n; alarm = alarm; table = s .numbers }), ap stops e))
+    (λ s e. omega (arith, whole-ends text (s .next) (charted head (s .numbers)), ap stops e))
 
 pub parsed-ends : (text : List ℕ) → ended (parsed text) ≤ 10191
 unfolding parsed
@@ -71,7 +72,7 @@ parsed-ends [] = omega arith
 parsed-ends (b ∷ t) =
     let r = fields-stop 6 0 (b ∷ t) 0 [] in
     then-ends 10191 (fieldsAt 6 0 (b ∷ t) 0 []) _ (omega arith)
-    (λ s e. rows-end (b ∷ t) (s .next) (getD (s .numbers) 0 0) (getD (s .numbers) 1 0) (getD (s .numbers) 2 0) (omega (arith, ap stops e)) (few-counted (b ∷ t) s e))
+    (λ s e. rows-end (b ∷ t) (s .next) (headIn (s .numbers)) (countIn (s .numbers)) (omega (arith, ap stops e)) (few-counted (b ∷ t) s e))
 
 -- ---- long texts
 
@@ -83,9 +84,9 @@ module _ (text : List ℕ) (m : ℕ) (long : m ≤ length text) (enough : 10191 
   then-same (given s) f g h = h s refl
   then-same (refused r) f g h = refl
 
-  cut-rows : (at n alarm count : ℕ) → at ≤ 79 → count ≤ 128 → rowsAt (take m text) at n alarm count ≡ rowsAt text at n alarm count
+  cut-rows : (at : ℕ) (head : Head) (count : ℕ) → at ≤ 79 → count ≤ 128 → rowsAt (take m text) at head count ≡ rowsAt text at head count
   unfolding rowsAt
-  cut-rows at n alarm count h g =
+  cut-rows at head count h g =
       let r = fields-stop (6 * count) 6 text at [] in
       let d : (6 + 6 * count) / 6 ≤ 129 = omega arith in
       rw (cut-fields text m long (6 * count) 6 at [] (omega arith))
@@ -97,5 +98,5 @@ module _ (text : List ℕ) (m : ℕ) (long : m ≤ length text) (enough : 10191 
       let l = cut-length text m long in
       parsed-some (take m text) (λ e. omega arith)
       ∙ rw (cut-fields text m long 6 0 0 [] (omega arith))
-      (then-same (fieldsAt 6 0 text 0 []) _ _ (λ s e. cut-rows (s .next) (getD (s .numbers) 0 0) (getD (s .numbers) 1 0) (getD (s .numbers) 2 0) (omega (arith, ap stops e)) (few-counted text s e)))
+      (then-same (fieldsAt 6 0 text 0 []) _ _ (λ s e. cut-rows (s .next) (headIn (s .numbers)) (countIn (s .numbers)) (omega (arith, ap stops e)) (few-counted text s e)))
       ∙ sym (parsed-some text (λ e. omega arith))

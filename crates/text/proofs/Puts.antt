@@ -148,8 +148,8 @@ fields-append (x ∷ l) m k =
     rw (fields-append l m (suc k), z) (sym (append-assoc (fieldText k x) (fieldsText (suc k) l) (fieldsText (suc k + length l) m)))
 
 pub chart-put : (C : Chart) (before middle : List ℕ) (p : ℕ) (after : List ℕ) (r : ℕ) → length (C .table) ≤ 768
-    → (Put before 0 (fieldsText 0 (C .places ∷ C .alarm ∷ size (C .table) ∷ 0 ∷ 0 ∷ 0 ∷ [])) middle p) × (p ≤ 0 + room 0 6)
+    → (Put before 0 (fieldsText 0 (C .head .places ∷ C .head .alarm ∷ size (C .table) ∷ 0 ∷ 0 ∷ 0 ∷ [])) middle p) × (p ≤ 0 + room 0 6)
     → (Put middle p (fieldsText 6 (C .table)) after r) × (r ≤ p + room 6 (length (C .table))) → (Put before 0 (written C) after r) × (r ≤ 8643)
 unfolding written
 chart-put C before middle p after r h f g =
-    (rw (fields-append (C .places ∷ C .alarm ∷ size (C .table) ∷ 0 ∷ 0 ∷ 0 ∷ []) (C .table) 0) (put-then (f .0) (g .0)), omega (arith, f .1, g .1))
+    (rw (fields-append (C .head .places ∷ C .head .alarm ∷ size (C .table) ∷ 0 ∷ 0 ∷ 0 ∷ []) (C .table) 0) (put-then (f .0) (g .0)), omega (arith, f .1, g .1))

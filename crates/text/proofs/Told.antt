@@ -24,10 +24,10 @@ use Rattle.text.specs.declared.answers.Wrote.{Wrote}
 use Rattle.text.specs.declared.answers.Wrote.the-variants as wrote
 use Rattle.text.specs.Fields.{kind}
 use Rattle.text.specs.Spans.{Span, fieldsAt}
-use Rattle.text.specs.Texts.{whole, rowsAt, parsed, readText, readInto, filled, Heading, heading, toldRead}
+use Rattle.text.specs.Texts.{whole, rowsAt, parsed, readText, readInto, filled, Heading, heading, toldRead, headIn, countIn}
 use Rattle.text.specs.Written.{numbers, written, writing, printed, toldWrote}
 use Rattle.text.specs.inner.Puts.{Put}
-use Rattle.text.proofs.Headings.{first, second, third}
+use Rattle.text.proofs.Headings.{headOr, rowsTold}
 use Rattle.text.proofs.Sequences.{FitAll, Shown, fields-show, items-fit}
 
 -- ---- faults
@@ -75,7 +75,7 @@ few-counted text s e =
     rw (g .is) (third-few (g .numbers) (g .count) (items-fit (g .numbers) 0 _ _ (g .items)))
 
 pub parsed-some : (text : List ℕ) → (length text ≡ 0 → ⊥) → parsed text
-    ≡ andThen (fieldsAt 6 0 text 0 []) (λ (f : Span). rowsAt text (f .next) (getD (f .numbers) 0 0) (getD (f .numbers) 1 0) (getD (f .numbers) 2 0))
+    ≡ andThen (fieldsAt 6 0 text 0 []) (λ (f : Span). rowsAt text (f .next) (headIn (f .numbers)) (countIn (f .numbers)))
 unfolding parsed
 parsed-some [] h = absurd (h refl)
 parsed-some (b ∷ s) h = refl
@@ -124,7 +124,7 @@ module _ (C : Chart) (bytes : List ℕ) where
 
 pub told-read-one : (x y : Read) → toldRead x ≡ toldRead y → x ≡ y
 unfolding toldRead
-told-read-one (read.Chart h n) (read.Chart g m) e = ap (λ (a : Answer Heading). read.Chart (record { places = first a; alarm = second a }) (third a)) e
+told-read-one (read.Chart h n) (read.Chart g m) e = ap (λ (a : Answer Heading). read.Chart (headOr h a) (rowsTold a)) e
 told-read-one (read.Chart h n) (read.Refused r) e = absurd (different e)
 told-read-one (read.Refused r) (read.Chart h n) e = absurd (different (sym e))
 told-read-one (read.Refused r) (read.Refused s) e = cc

@@ -35,9 +35,9 @@ use Rattle.text.specs.declared.inner.table.Reach.the-variants as reach
 use Rattle.text.specs.Causes.{causeNumber, unfit}
 use Rattle.text.specs.Fields.{itemAt}
 use Rattle.text.specs.Spans.{Span, onField, fieldsAt}
-use Rattle.text.specs.Texts.{whole, rowsAt, parsed, readText, readInto, filled, heading, toldRead}
+use Rattle.text.specs.Texts.{whole, rowsAt, parsed, readText, readInto, filled, heading, toldRead, headIn, countIn}
 use Rattle.text.specs.inner.Walk.{onNumber, numbersAt, laid, onFit, reachAt, reached, recordOf, firstAt, pastFirst, entriesOf, rowNumbers, answered, toldParsed}
-use Rattle.text.proofs.Headings as numbered
+use Rattle.text.proofs.Headings.{headOr, rowsTold}
 use Rattle.text.proofs.Told.{ReadAs, read-refused, read-sized, whole-rows, whole-after, whole-end, few-counted}
 use Rattle.text.proofs.Charts.{Spells, parsed-shows}
 
@@ -89,7 +89,7 @@ module _ (text : List ℕ) (at : ℕ) (r : Reach) (is : r ≡ reachAt 6 0 text a
   first-unfit c p e = rw (← is, e)
 
   pub first-record : (p : ℕ) (numbers table : List ℕ) → r ≡ reach.Past p → length table ≡ 6 → numbers ≡ laid (numbersAt 6 0 text at) table
-      → first.Record (record { places = getD numbers 0 0; alarm = getD numbers 1 0 }) (getD numbers 2 0) p ≡ firstAt text at
+      → first.Record (headIn numbers) (countIn numbers) p ≡ firstAt text at
   unfolding firstAt recordOf
   first-record p numbers table e w g =
       let n : length (numbersAt 6 0 text at) ≡ 6 = subst (OnPast (length (numbersAt 6 0 text at) ≡ 6)) (sym is ∙ e) (are-many 6 0 text at) in
@@ -141,7 +141,7 @@ module _ (b : ℕ) (t : List ℕ) (h : Head) (count p end : ℕ) where
 module _ (b : ℕ) (t : List ℕ) where
   rows-told : (h : Head) (count p : ℕ) (r : Reach) (l : List ℕ) → OnPast (length l ≡ 6 * count) r
       → toldParsed (answered (b ∷ t) (first.Record h count p) r (reached r p))
-      ≡ mapped heading (andThen (spanOf r l) (λ (rows : Span). whole (b ∷ t) (rows .next) (record { places = h .places; alarm = h .alarm; table = rows .numbers })))
+      ≡ mapped heading (andThen (spanOf r l) (λ (rows : Span). whole (b ∷ t) (rows .next) (charted h (rows .numbers))))
   unfolding reached toldParsed
   rows-told h count p (reach.Unfit c o) l g = rw (answered-unfit b t h count p p c o)
   rows-told h count p (reach.Past o) l g =
@@ -154,7 +154,7 @@ module _ (b : ℕ) (t : List ℕ) where
   Rest f = reachAt (entriesOf f) 6 (b ∷ t) (pastFirst f 0)
 
   abbrev after : Span → Answer Chart
-  after s = rowsAt (b ∷ t) (s .next) (getD (s .numbers) 0 0) (getD (s .numbers) 1 0) (getD (s .numbers) 2 0)
+  after s = rowsAt (b ∷ t) (s .next) (headIn (s .numbers)) (countIn (s .numbers))
 
   first-told : (r : Reach) (l : List ℕ)
       → toldParsed (answered (b ∷ t) (recordOf r l) (Rest (recordOf r l)) (reached (Rest (recordOf r l)) (pastFirst (recordOf r l) 0)))
@@ -162,9 +162,9 @@ module _ (b : ℕ) (t : List ℕ) where
   unfolding recordOf entriesOf pastFirst answered toldParsed rowsAt
   first-told (reach.Unfit c p) l = refl
   first-told (reach.Past p) l =
-      let n = 6 * getD l 2 0 in
+      let n = 6 * countIn l in
       rw (fields-are n 6 (b ∷ t) p [])
-      (rows-told (record { places = getD l 0 0; alarm = getD l 1 0 }) (getD l 2 0) p (reachAt n 6 (b ∷ t) p) (numbersAt n 6 (b ∷ t) p) (are-many n 6 (b ∷ t) p))
+      (rows-told (headIn l) (countIn l) p (reachAt n 6 (b ∷ t) p) (numbersAt n 6 (b ∷ t) p) (are-many n 6 (b ∷ t) p))
 
   -- what stands in the chart's table, and how much
   abbrev Laid : First → Chart → Type 0
@@ -178,12 +178,12 @@ module _ (b : ℕ) (t : List ℕ) where
   unfolding recordOf entriesOf pastFirst rowsAt
   first-laid (reach.Unfit c p) l = tt
   first-laid (reach.Past p) l =
-      let n = 6 * getD l 2 0 in
+      let n = 6 * countIn l in
       rw (fields-are n 6 (b ∷ t) p []) (go (reachAt n 6 (b ∷ t) p) (are-many n 6 (b ∷ t) p))
     where
-      go : (r : Reach) → OnPast (length (numbersAt (6 * getD l 2 0) 6 (b ∷ t) p) ≡ 6 * getD l 2 0) r
-          → OnGiven (Laid (first.Record (record { places = getD l 0 0; alarm = getD l 1 0 }) (getD l 2 0) p))
-          (andThen (spanOf r (numbersAt (6 * getD l 2 0) 6 (b ∷ t) p)) (λ (rows : Span). whole (b ∷ t) (rows .next) (record { places = getD l 0 0; alarm = getD l 1 0; table = rows .numbers })))
+      go : (r : Reach) → OnPast (length (numbersAt (6 * countIn l) 6 (b ∷ t) p) ≡ 6 * countIn l) r
+          → OnGiven (Laid (first.Record (headIn l) (countIn l) p))
+          (andThen (spanOf r (numbersAt (6 * countIn l) 6 (b ∷ t) p)) (λ (rows : Span). whole (b ∷ t) (rows .next) (charted (headIn l) (rows .numbers))))
       go (reach.Unfit c o) h = tt
       go (reach.Past o) h = whole-keeps _ o _ (refl, h)
 
@@ -271,15 +271,14 @@ module _ (text : List ℕ) (a : Parsed) (is : toldParsed a ≡ mapped heading (p
   spelt h n e = go (parsed text) refl (walk-laid text) (parsed-shows text) (sym is ∙ rw e)
     where
       go : (x : Answer Chart) → parsed text ≡ x → OnGiven (λ (C : Chart). (C .table ≡ rowNumbers text) × (length (C .table) ≡ entriesOf (firstAt text 0))) x → OnGiven (Spells text) x
-          → mapped heading x ≡ given (record { places = h .places; alarm = h .alarm; rows = n }) → Spelt text h n
+          → mapped heading x ≡ given (record { head = h; rows = n }) → Spelt text h n
       go (refused r) i l w g = absurd (different (sym g))
       go (given C) i l w g =
-          let p : C .places ≡ h .places = ap numbered.first g in
-          let q : C .alarm ≡ h .alarm = ap numbered.second g in
-          let z : size (C .table) ≡ n = ap numbered.third g in
+          let p : C .head ≡ h = ap (headOr h) g in
+          let z : size (C .table) ≡ n = ap rowsTold g in
           let m : length (rowNumbers text) ≡ length (C .table) = ap length (sym (l .0)) in
           record {
-            is = i ∙ (λ i. given (record { places = p i; alarm = q i; table = l .0 i }));
+            is = i ∙ (λ i. given (charted (p i) (l .0 i)));
             rows = m ∙ (w .rows ∙ ap (λ (k : ℕ). 6 * k) z);
             few = omega (arith, m, l .1, few-entries text);
           }

@@ -7,7 +7,8 @@ use lib.ListN.{length, getD, drop}
 use Rattle.base.specs.Answers.{Answer, given, refused}
 use Rattle.base.specs.Chains.{andThen}
 use Rattle.base.specs.Refusals.{sole, unless}
-use Rattle.chart.specs.Charts.{Chart, size}
+use Rattle.chart.specs.declared.charts.Head.{Head}
+use Rattle.chart.specs.Charts.{Chart, charted, size}
 use Rattle.chart.specs.Faults.{fault}
 use Rattle.text.specs.declared.answers.Read.{Read}
 use Rattle.text.specs.declared.answers.Read.the-variants as answer
@@ -21,18 +22,24 @@ unfoldable pub whole : List ℕ → ℕ → Chart → Answer Chart
 whole text at C = elim (ltb at (length text)) [ true ↦ unfit Records at | false ↦ given C ]
 
 -- "then the rows": as many as the first record counts, and then the end of the text
-unfoldable pub rowsAt : List ℕ → ℕ → ℕ → ℕ → ℕ → Answer Chart
-rowsAt text at n alarm count =
-    andThen (fieldsAt (6 * count) 6 text at [])
-    (λ (rows : Span). whole text (rows .next) (record { places = n; alarm = alarm; table = rows .numbers }))
+unfoldable pub rowsAt : List ℕ → ℕ → Head → ℕ → Answer Chart
+rowsAt text at head count =
+    andThen (fieldsAt (6 * count) 6 text at []) (λ (rows : Span). whole text (rows .next) (charted head (rows .numbers)))
+
+-- "The first record is n, alarm, row count, 0, 0, 0": the head that its numbers tell
+abbrev pub headIn : List ℕ → Head
+headIn numbers = record { places = getD numbers 0 0; alarm = getD numbers 1 0 }
+
+-- and the row count
+abbrev pub countIn : List ℕ → ℕ
+countIn numbers = getD numbers 2 0
 
 -- "The first record is n, alarm, row count, 0, 0, 0"; "11 no bytes"
 unfoldable pub parsed : List ℕ → Answer Chart
 parsed [] = unfit NoBytes 0
 parsed (b ∷ s) =
     andThen (fieldsAt 6 0 (b ∷ s) 0 [])
-    (λ (first : Span).
-    rowsAt (b ∷ s) (first .next) (getD (first .numbers) 0 0) (getD (first .numbers) 1 0) (getD (first .numbers) 2 0))
+    (λ (first : Span). rowsAt (b ∷ s) (first .next) (headIn (first .numbers)) (countIn (first .numbers)))
 
 -- ---- the chart's author: "The reader tests this once its text has been read to the end"
 abbrev pub faultless : Answer Chart → Answer Chart
@@ -54,15 +61,14 @@ filled (refused r) table = table
 
 -- "n, alarm, row count": what is answered of a chart that is read
 pub record Heading : Type 0 where
-  pub places : ℕ
-  pub alarm : ℕ
+  pub head : Head
   pub rows : ℕ
 
 -- the same of a chart, whose table has "rows of six u32 fields"
 abbrev pub heading : Chart → Heading
-heading C = record { places = C .places; alarm = C .alarm; rows = size (C .table) }
+heading C = record { head = C .head; rows = size (C .table) }
 
 -- what the code's answer says: "a definition gives this paper's number and values for each of the enum's cases"
 unfoldable pub toldRead : Read → Answer Heading
-toldRead (answer.Chart head rows) = given (record { places = head .places; alarm = head .alarm; rows = rows })
+toldRead (answer.Chart head rows) = given (record { head = head; rows = rows })
 toldRead (answer.Refused r) = refused r

@@ -42,7 +42,7 @@ fieldsText k (x ∷ l) = fieldText k x ++ fieldsText (suc k) l
 -- ---- charts
 -- the numbers of a chart's text: "n, alarm, row count, 0, 0, 0; then the rows"
 abbrev pub numbers : Chart → List ℕ
-numbers C = C .places ∷ C .alarm ∷ size (C .table) ∷ 0 ∷ 0 ∷ 0 ∷ C .table
+numbers C = C .head .places ∷ C .head .alarm ∷ size (C .table) ∷ 0 ∷ 0 ∷ 0 ∷ C .table
 
 -- "The first record is n, alarm, row count, 0, 0, 0; then the rows.": the text of a chart, its fields counted from 0
 unfoldable pub written : Chart → List ℕ

@@ -4,7 +4,8 @@ ghost use mathlib.Core.Bool.{true};
 ghost use mathlib.Core.Option.{some};
 ghost use Prim.Native.Nat.{_<_};
 ghost use Rattle.operations.specs.Operations.{operandsFit};
-ghost use Rattle.chart.specs.Charts.{charted, size, operation};
+ghost use Rattle.chart.specs.Charts.{size, operation};
+ghost use Rattle.chart.specs.Compared.{compared};
 ghost use Rattle.chart.specs.Faultless.{FaultlessChart};
 ghost use Rattle.chart.specs.inner.Index.{Indexed};
 ghost use Rattle.align.specs.Steps.{along, onward, followed};
@@ -14,7 +15,7 @@ use crate::spots::Followed;
 use crate::spots::Onward;
 use crate::spots::Spot;
 use base::Found;
-use chart::charts::Head;
+use chart::charts::Heads;
 use chart::inner::pairs::bit;
 use chart::inner::rows::a_at;
 use chart::inner::rows::old_to;
@@ -35,19 +36,19 @@ fn along(set: u64, rows: &[u32], k: usize) -> Spot
 
 // By the assignment that leaves the place, unless it is the old alarm or none does.
 fn onward<'a>(
-    old: Head,
+    heads: Heads,
     old_rows: &'a [u32],
     new_rows: &'a [u32],
     index: &[u8; 130],
     h: Spot,
 ) -> Onward
-    requires { ⌜ FaultlessChart (charted old (now «old_rows»)) ⌝ }
+    requires { ⌜ FaultlessChart (compared heads (now «old_rows») (now «new_rows») .old) ⌝ }
     requires { ⌜ Indexed (now «old_rows») (now «new_rows») (now index) ⌝ }
     requires { ⌜ h .place .0 < 64 ⌝ }
-    ensures { λ r. ⌜ toldOnward r ≡ onward (charted old (now («old_rows» .entry))) h ⌝ }
+    ensures { λ r. ⌜ toldOnward r ≡ onward (compared heads (now («old_rows» .entry)) (now («new_rows» .entry))) h ⌝ }
 {
     let p = h.place;
-    if p.is(old.alarm) {
+    if p.is(heads.old.alarm) {
         return Onward::Ends;
     }
     let rows = rows_of(old_rows, new_rows, index, Place::Old(p));
@@ -59,23 +60,24 @@ fn onward<'a>(
 
 // All of them, from a place that counts as come to: a walk that comes to no place twice follows no more than 64.
 pub fn follow<'a>(
-    old: Head,
+    heads: Heads,
     old_rows: &'a [u32],
     new_rows: &'a [u32],
     index: &[u8; 130],
     h: Spot,
 ) -> Followed
-    requires { ⌜ FaultlessChart (charted old (now «old_rows»)) ⌝ }
+    requires { ⌜ FaultlessChart (compared heads (now «old_rows») (now «new_rows») .old) ⌝ }
     requires { ⌜ Indexed (now «old_rows») (now «new_rows») (now index) ⌝ }
     requires { ⌜ h .place .0 < 64 ⌝ }
-    ensures { λ r. ⌜ toldFollowed r ≡ followed (charted old (now («old_rows» .entry))) h ⌝ }
+    ensures { λ r. ⌜ toldFollowed r
+        ≡ followed (compared heads (now («old_rows» .entry)) (now («new_rows» .entry))) h ⌝ }
 {
     let p = h.place;
     let mut at = h;
     let mut met = bit(p);
     let mut left: u32 = 64;
     while 0 < left {
-        match onward(old, old_rows, new_rows, index, at) {
+        match onward(heads, old_rows, new_rows, index, at) {
             Onward::Ends => {
                 return Followed::At(at);
             }

@@ -4,7 +4,8 @@ ghost use mathlib.Core.Bool.{true};
 ghost use Prim.Native.Nat.{_<_};
 ghost use Rattle.base.specs.Says.{bool};
 ghost use Rattle.operations.specs.Operations.{isKnown, isAssignment, isAssumption, same, operandsFit};
-ghost use Rattle.chart.specs.Charts.{charted, size, to, operation};
+ghost use Rattle.chart.specs.Charts.{size, to, operation};
+ghost use Rattle.chart.specs.Compared.{compared};
 ghost use Rattle.chart.specs.Faultless.{FaultlessChart};
 ghost use Rattle.chart.specs.inner.Index.{Indexed};
 ghost use Rattle.align.specs.Steps.{find, rewritten, assigned, matched, counterpart, assumed, moved, fair, arrived, rowsAt, step};
@@ -16,7 +17,9 @@ use crate::spots::Aligned;
 use crate::spots::Followed;
 use crate::spots::Spot;
 use base::Found;
-use chart::charts::Head;
+use chart::charts::Heads;
+use chart::charts::NewHead;
+use chart::charts::OldHead;
 use chart::inner::rows::a_at;
 use chart::inner::rows::is_assignment_at;
 use chart::inner::rows::new_to;
@@ -42,7 +45,7 @@ fn rewritten(set: u64, o: Operation) -> u64
 
 // By a new assignment: together with the equal old row, if there is one.
 fn assigned<'a>(
-    old: Head,
+    heads: Heads,
     old_rows: &'a [u32],
     new_rows: &'a [u32],
     index: &[u8; 130],
@@ -50,13 +53,14 @@ fn assigned<'a>(
     part: &'a [u32],
     j: usize,
 ) -> Spot
-    requires { ⌜ FaultlessChart (charted old (now «old_rows»)) ⌝ }
+    requires { ⌜ FaultlessChart (compared heads (now «old_rows») (now «new_rows») .old) ⌝ }
     requires { ⌜ Indexed (now «old_rows») (now «new_rows») (now index) ⌝ }
     requires { ⌜ h .place .0 < 64 ⌝ }
     requires { ⌜ (j < size (now part)) × (isAssignment (operation (now part) j) ≡ true)
         × (operandsFit (operation (now part) j) ≡ true) ⌝ }
-    ensures { λ r. ⌜ r ≡ assigned (charted old (now («old_rows» .entry))) h (operation (now (part .entry)) j)
-        (find (rowsAt (charted old (now («old_rows» .entry))) (h .place))
+    ensures { λ r. ⌜ r ≡ assigned (compared heads (now («old_rows» .entry)) (now («new_rows» .entry))) h
+        (operation (now (part .entry)) j)
+        (find (rowsAt (compared heads (now («old_rows» .entry)) (now («new_rows» .entry))) (h .place))
         (λ o. same o (operation (now (part .entry)) j))) ⌝ }
 {
     let p = h.place;
@@ -94,7 +98,7 @@ fn matched(set: u64, rows: &[u32], k: usize, o: Operation) -> Aligned
 
 // By a new assumption, once old assignments have been followed.
 fn assumed<'a>(
-    old: Head,
+    heads: Heads,
     old_rows: &'a [u32],
     new_rows: &'a [u32],
     index: &[u8; 130],
@@ -102,16 +106,18 @@ fn assumed<'a>(
     part: &'a [u32],
     j: usize,
 ) -> Aligned
-    requires { ⌜ FaultlessChart (charted old (now «old_rows»)) ⌝ }
+    requires { ⌜ FaultlessChart (compared heads (now «old_rows») (now «new_rows») .old) ⌝ }
     requires { ⌜ Indexed (now «old_rows») (now «new_rows») (now index) ⌝ }
     requires { ⌜ h .place .0 < 64 ⌝ }
     requires { ⌜ (j < size (now part)) × (isAssumption (operation (now part) j) ≡ true)
         × (operandsFit (operation (now part) j) ≡ true) ⌝ }
-    ensures { λ r. ⌜ told r ≡ assumed (charted old (now («old_rows» .entry))) h (operation (now (part .entry)) j)
-        (counterpart (charted old (now («old_rows» .entry))) (h .place) (operation (now (part .entry)) j)) ⌝ }
+    ensures { λ r. ⌜ told r ≡ assumed (compared heads (now («old_rows» .entry)) (now («new_rows» .entry))) h
+        (operation (now (part .entry)) j)
+        (counterpart (compared heads (now («old_rows» .entry)) (now («new_rows» .entry))) (h .place)
+        (operation (now (part .entry)) j)) ⌝ }
 {
     let p = h.place;
-    if p.is(old.alarm) {
+    if p.is(heads.old.alarm) {
         return Aligned::To(h);
     }
     let rows = rows_of(old_rows, new_rows, index, Place::Old(p));
@@ -123,7 +129,7 @@ fn assumed<'a>(
 
 // The step up to the rule of the new alarm.
 fn moved<'a>(
-    old: Head,
+    heads: Heads,
     old_rows: &'a [u32],
     new_rows: &'a [u32],
     index: &[u8; 130],
@@ -131,38 +137,39 @@ fn moved<'a>(
     part: &'a [u32],
     j: usize,
 ) -> Aligned
-    requires { ⌜ FaultlessChart (charted old (now «old_rows»)) ⌝ }
+    requires { ⌜ FaultlessChart (compared heads (now «old_rows») (now «new_rows») .old) ⌝ }
     requires { ⌜ Indexed (now «old_rows») (now «new_rows») (now index) ⌝ }
     requires { ⌜ h .place .0 < 64 ⌝ }
     requires { ⌜ (j < size (now part)) × (isKnown (operation (now part) j) ≡ true)
         × (operandsFit (operation (now part) j) ≡ true) ⌝ }
-    ensures { λ r. ⌜ told r ≡ moved (charted old (now («old_rows» .entry))) h (operation (now (part .entry)) j) ⌝ }
+    ensures { λ r. ⌜ told r ≡ moved (compared heads (now («old_rows» .entry)) (now («new_rows» .entry))) h
+        (operation (now (part .entry)) j) ⌝ }
 {
     if is_assignment_at(part, j) {
-        return Aligned::To(assigned(old, old_rows, new_rows, index, h, part, j));
+        return Aligned::To(assigned(heads, old_rows, new_rows, index, h, part, j));
     }
-    match follow(old, old_rows, new_rows, index, h) {
-        Followed::At(next) => assumed(old, old_rows, new_rows, index, next, part, j),
+    match follow(heads, old_rows, new_rows, index, h) {
+        Followed::At(next) => assumed(heads, old_rows, new_rows, index, next, part, j),
         Followed::Twice => Aligned::Failed,
     }
 }
 
 // Whether the old place is the old alarm if the new one is the new alarm.
-pub fn fair(old: Head, new: Head, p: OldPlace, q: NewPlace) -> bool
-    ensures { λ r. ⌜ r ≡ bool (fair (old .alarm) (new .alarm) p q) ⌝ }
+pub fn fair(heads: Heads, p: OldPlace, q: NewPlace) -> bool
+    ensures { λ r. ⌜ r ≡ bool (fair heads p q) ⌝ }
 {
-    if !q.is(new.alarm) {
+    if !q.is(heads.new.alarm) {
         return true;
     }
-    p.is(old.alarm)
+    p.is(heads.old.alarm)
 }
 
-fn arrived(old: Head, new: Head, q: NewPlace, came: Aligned) -> Aligned
-    ensures { λ r. ⌜ told r ≡ arrived (old .alarm) (new .alarm) q (told came) ⌝ }
+fn arrived(heads: Heads, q: NewPlace, came: Aligned) -> Aligned
+    ensures { λ r. ⌜ told r ≡ arrived heads q (told came) ⌝ }
 {
     match came {
         Aligned::To(h) => {
-            if fair(old, new, h.place, q) {
+            if fair(heads, h.place, q) {
                 return Aligned::To(h);
             }
             Aligned::Failed
@@ -171,12 +178,13 @@ fn arrived(old: Head, new: Head, q: NewPlace, came: Aligned) -> Aligned
     }
 }
 
-// The aligned step from an old place and its set by row j of the part. They come apart, each in a register: as a spot
-// they would be written narrow and read back wide, which stalls at each step.
+// The aligned step from an old place and its set by row j of the part. Both heads, the place and the set come apart, each
+// in a register: heads together would be written to memory for each step, and place and set as a spot would be written
+// narrow and read back wide, which stalls.
 pub fn step<'a>(
-    old: Head,
+    old: OldHead,
+    new: NewHead,
     old_rows: &'a [u32],
-    new: Head,
     new_rows: &'a [u32],
     index: &[u8; 130],
     p: OldPlace,
@@ -184,20 +192,21 @@ pub fn step<'a>(
     part: &'a [u32],
     j: usize,
 ) -> Aligned
-    requires { ⌜ FaultlessChart (charted old (now «old_rows»)) ⌝ }
+    requires { ⌜ FaultlessChart (compared (record { old = old; new = new }) (now «old_rows») (now «new_rows») .old) ⌝ }
     requires { ⌜ Indexed (now «old_rows») (now «new_rows») (now index) ⌝ }
     requires { ⌜ p .0 < 64 ⌝ }
     requires { ⌜ (j < size (now part)) × (isKnown (operation (now part) j) ≡ true)
         × (operandsFit (operation (now part) j) ≡ true) ⌝ }
-    ensures { λ r. ⌜ told r ≡ step (charted old (now («old_rows» .entry))) (charted new (now («new_rows» .entry)))
+    ensures { λ r. ⌜ told r
+        ≡ step (compared (record { old = old; new = new }) (now («old_rows» .entry)) (now («new_rows» .entry)))
         (record { place = p; set = set }) (operation (now (part .entry)) j)
         (record { 0 = to (now (part .entry)) j }) ⌝ }
 {
+    let heads = Heads { old, new };
     let h = Spot { place: p, set };
     arrived(
-        old,
-        new,
+        heads,
         new_to(part, j),
-        moved(old, old_rows, new_rows, index, h, part, j),
+        moved(heads, old_rows, new_rows, index, h, part, j),
     )
 }

@@ -20,7 +20,7 @@ enum-told c = search needs
 
 complete-requires : tie.Need-complete-requires
 complete-requires c κs =
-    let A = none-judged _ _ (buffers _ _ _ _) (c .before .before .before .before .before .before .before .lent .ensures) (c .before .before .before .before .before .before .judged .ensures) (ap chartTold (c .before .before .before .before .enum-told .given .1)) in
+    let A = none-judged _ (buffers _ _ _ _) (c .before .before .before .before .before .before .before .lent .ensures) (c .before .before .before .before .before .before .judged .ensures) (ap chartTold (c .before .before .before .before .enum-told .given .1)) in
     (A .old-faultless, (A .new-faultless, A .sized))
 
 enum-known-r : tie.Need-enum-known-r
@@ -40,16 +40,16 @@ same-length-4 c = search needs
 
 returns : tie.Need-returns
 returns c =
-    let A = none-judged _ _ (buffers _ _ _ _) (c .before .before .before .before .before .before .before .before .before .before .before .before .before .before .before .before .lent .ensures) (c .before .before .before .before .before .before .before .before .before .before .before .before .before .before .before .judged .ensures) (ap chartTold (c .before .before .before .before .before .before .before .before .before .before .before .before .before .enum-told .given .1)) in
+    let A = none-judged _ (buffers _ _ _ _) (c .before .before .before .before .before .before .before .before .before .before .before .before .before .before .before .before .lent .ensures) (c .before .before .before .before .before .before .before .before .before .before .before .before .before .before .before .judged .ensures) (ap chartTold (c .before .before .before .before .before .before .before .before .before .before .before .before .before .enum-told .given .1)) in
     let e = c .before .before .before .before .before .before .before .before .complete .ensures in
     let known-old = c .before .before .before .before .before .before .before .before .before .before .before .before .before .before .before .before .before .before .before .before .before .before .before .before .before .before .shared-slice-known .given in
     let known-new = c .before .before .before .before .before .before .before .before .before .before .before .before .before .before .before .before .before .before .before .before .before .before .before .before .before .shared-slice-known2 .given in (
-      done-answers _ _ _ A (e .0) (e .1),
+      done-answers _ _ A (e .0) (e .1),
       (
-        done-leaves _ _ _ A (e .0) (e .1),
+        done-leaves _ _ A (e .0) (e .1),
         (
-          done-passes _ _ _ A (e .0) (e .1),
-          λ x h. done-returned _ _ _ A (e .0) (e .1) x h (record { small = λ k. omega (arith, known-old k) }) (record { small = λ k. omega (arith, known-new k) }),
+          done-passes _ _ A (e .0) (e .1),
+          λ x h. done-returned _ _ A (e .0) (e .1) x h (record { small = λ k. omega (arith, known-old k) }) (record { small = λ k. omega (arith, known-new k) }),
         ),
       ),
     )
@@ -68,8 +68,8 @@ same-length-8 c = search needs
 
 returns-2 : tie.Need-returns-2
 returns-2 c =
-    let e = some-judged _ _ (buffers _ _ _ _) (c .before .before .before .before .lent .ensures) (c .before .before .before .judged .ensures) (ap chartTold (c .before .r .given .1)) in
-    (refused-answers _ _ _ e, (refused-leaves _ _ _ e, (λ x h. never-done _ x h, λ x h. never-done _ x h)))
+    let e = some-judged _ (buffers _ _ _ _) (c .before .before .before .before .lent .ensures) (c .before .before .before .judged .ensures) (ap chartTold (c .before .r .given .1)) in
+    (refused-answers _ _ e, (refused-leaves _ _ e, (λ x h. never-done _ x h, λ x h. never-done _ x h)))
 
 pub build-spec : {M : Type 1} → statement M
 build-spec =

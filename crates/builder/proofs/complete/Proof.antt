@@ -23,7 +23,7 @@ finish-requires c κs =
     let P = c .before .before .before .before .before .before .before .before .before .before .before .before .before .before .before .before .before .before .before .before .before .before .before .before .before .before .before .before .pre in
     let S = P .1 .1 in
     let E = c .before .before .before .before .before .before .before .before .before .before .before .before .before .before .explore .ensures in
-    (record { marks = search (needs, S .marks); targets = search (needs, S .targets); sets = search (needs, S .sets); waiting = search (needs, S .waiting) }, (E .0, start-seen _ _ (P .0) (P .1 .0) (E .1) (E .0)))
+    (record { marks = search (needs, S .marks); targets = search (needs, S .targets); sets = search (needs, S .sets); waiting = search (needs, S .waiting) }, (E .0, start-seen _ (P .0) (P .1 .0) (E .1) (E .0)))
 
 same-length : tie.Need-same-length
 same-length c = search needs
@@ -41,7 +41,7 @@ returns : tie.Need-returns
 returns c =
     let e = c .before .before .before .before .before .before .before .before .before .before .before .before .before .before .before .before .before .before .before .before .before .before .before .explore .ensures .1 in
     let f = c .before .before .before .before .before .before .before .before .finish .ensures in
-    (both-left _ _ _ _ e (f .0), both-summed _ _ _ _ e _ (f .1))
+    (both-left _ e (f .0), both-summed _ e _ (f .1))
 
 pub complete-spec : {M : Type 1} → statement M
 complete-spec =

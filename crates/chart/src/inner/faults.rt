@@ -42,10 +42,10 @@ pub fn exceeds(head: Head, rows: &[u32]) -> bool
 }
 
 // 3: whether the alarm is no place.
-pub fn alarm_outside(places: u32, alarm: u32) -> bool
-    ensures { λ r. ⌜ r ≡ leb places alarm ⌝ }
+pub fn alarm_outside(head: Head) -> bool
+    ensures { λ r. ⌜ r ≡ alarmOutside head ⌝ }
 {
-    places <= alarm
+    head.places <= head.alarm
 }
 
 // 4: whether row i leaves or leads to a place that is not below n.

@@ -3,7 +3,7 @@
 ghost use mathlib.Core.Path.{_≡_};
 ghost use Prim.Native.Nat.{_^_, _<_};
 ghost use Rattle.chart.specs.Places.{pairNumber, keptNumber, oldOf, newOf, startPair, startKept};
-use crate::charts::Head;
+use crate::charts::Heads;
 use crate::places::NewPlace;
 use crate::places::OldPlace;
 
@@ -18,7 +18,7 @@ pub fn kept(q: NewPlace) -> usize
     requires { ⌜ q .0 < 64 ⌝ }
     ensures { λ r. ⌜ r ≡ keptNumber q ⌝ }
 {
-    4096 + pair(OldPlace(0), q)
+    4096 + q.0 as usize
 }
 
 pub fn old_of(pair: usize) -> OldPlace
@@ -35,24 +35,23 @@ pub fn new_of(pair: usize) -> NewPlace
 }
 
 // The pair of both starts.
-pub fn start_pair(old: Head, new: Head) -> usize
-    ensures { λ r. ⌜ r ≡ startPair old new ⌝ }
+pub fn start_pair(heads: Heads) -> usize
+    ensures { λ r. ⌜ r ≡ startPair heads ⌝ }
 {
     0
 }
 
 // The new start, kept.
-pub fn start_kept(new: Head) -> usize
-    ensures { λ r. ⌜ r ≡ startKept new ⌝ }
+pub fn start_kept(heads: Heads) -> usize
+    ensures { λ r. ⌜ r ≡ startKept heads ⌝ }
 {
     4096
 }
 
-// The set of an old place alone, as a bit of a set of old places. Its pair with the new place 0 is 64 × p.
+// The set of an old place alone, as a bit of a set of old places.
 pub fn bit(p: OldPlace) -> u64
     requires { ⌜ p .0 < 64 ⌝ }
     ensures { λ r. ⌜ r ≡ 2 ^ p .0 ⌝ }
 {
-    let n = pair(p, NewPlace(0)) / 64;
-    1u64 << n
+    1u64 << p.0
 }

@@ -17,13 +17,13 @@ refused-requires : tie.Need-refused-requires
 refused-requires c κs = search needs
 
 returns : tie.Need-returns
-returns c = c .refused .ensures ∙ shape-refused _ _ (recordOf _ _ _ _) (c .before .before .shaped .ensures) (not-true _ (c .before .if1 .taken))
+returns c = c .refused .ensures ∙ shape-refused _ (recordOf _ _ _ _) (c .before .before .shaped .ensures) (not-true _ (c .before .if1 .taken))
 
 index-requires : tie.Need-index-requires
 index-requires c κs = (indexable _ (c .before .before .before .before .before .before .before .pre .0), indexable _ (c .before .before .before .before .before .before .before .pre .1 .0))
 
 broken-requires : tie.Need-broken-requires
-broken-requires c κs = (admitted _ _ (recordOf _ _ _ _) (c .before .before .before .shaped .ensures) (not-false _ (c .before .before .if1 .left)) (c .before .before .before .before .before .before .before .before .before .pre .0) (c .before .before .before .before .before .before .before .before .before .pre .1 .0) (c .before .before .before .before .before .before .before .before .before .pre .1 .1), c .before .index .ensures)
+broken-requires c κs = (admitted _ (recordOf _ _ _ _) (c .before .before .before .shaped .ensures) (not-false _ (c .before .before .if1 .left)) (c .before .before .before .before .before .before .before .before .before .pre .0) (c .before .before .before .before .before .before .before .before .before .pre .1 .0) (c .before .before .before .before .before .before .before .before .before .pre .1 .1), c .before .index .ensures)
 
 enum-known-position : tie.Need-enum-known-position
 enum-known-position c = search needs
@@ -35,10 +35,10 @@ enum-told : tie.Need-enum-told
 enum-told c = search needs
 
 returns-2 : tie.Need-returns-2
-returns-2 c = c .refused2 .ensures ∙ rules-judged _ _ (recordOf _ _ _ _) (c .before .before .before .before .before .before .before .before .shaped .ensures) (not-false _ (c .before .before .before .before .before .before .before .if1 .left)) (sym (ap toldFound (c .before .before .position .given .1)) ∙ c .before .before .before .before .broken .ensures)
+returns-2 c = c .refused2 .ensures ∙ rules-judged _ (recordOf _ _ _ _) (c .before .before .before .before .before .before .before .before .shaped .ensures) (not-false _ (c .before .before .before .before .before .before .before .if1 .left)) (sym (ap toldFound (c .before .before .position .given .1)) ∙ c .before .before .before .before .broken .ensures)
 
 returns-3 : tie.Need-returns-3
-returns-3 c = rules-judged _ _ (recordOf _ _ _ _) (c .before .before .before .before .before .before .shaped .ensures) (not-false _ (c .before .before .before .before .before .if1 .left)) (sym (ap toldFound (c .enum-told .given .1)) ∙ c .before .before .broken .ensures)
+returns-3 c = rules-judged _ (recordOf _ _ _ _) (c .before .before .before .before .before .before .shaped .ensures) (not-false _ (c .before .before .before .before .before .if1 .left)) (sym (ap toldFound (c .enum-told .given .1)) ∙ c .before .before .broken .ensures)
 
 pub record-fault-spec : {M : Type 1} → statement M
 record-fault-spec =

@@ -2,15 +2,15 @@
 use mathlib.Core.Path.{_≡_}
 use lib.ListN.{length}
 use Rattle.base.specs.Says.{Says}
-use Rattle.chart.specs.Charts.{Chart}
+use Rattle.chart.specs.Compared.{Compared}
 use Rattle.chart.specs.Faultless.{FaultlessChart}
 use Rattle.records.specs.Records.{Graph}
 use Rattle.checker.specs.Rules.{targetsFit}
 
 -- two faultless charts, and a graph of the stated lengths whose targets are nodes or 65535
-pub record Admitted (old new : Chart) (G : Graph) : Type 0 where
-  pub old-faultless : FaultlessChart old
-  pub new-faultless : FaultlessChart new
+pub record Admitted (X : Compared) (G : Graph) : Type 0 where
+  pub old-faultless : FaultlessChart (X .old)
+  pub new-faultless : FaultlessChart (X .new)
   pub marks-length : length (G .marks) ≡ 4160
   pub targets-length : length (G .targets) ≡ 8192
   pub sets-length : length (G .sets) ≡ 4096

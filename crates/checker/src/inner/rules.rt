@@ -4,7 +4,8 @@ ghost use Prim.Native.Nat.{ℕ, _+_, _<_, _≤_};
 ghost use lib.ListN.{length, getD};
 ghost use Rattle.base.specs.Options.{missing, firstOf};
 ghost use Rattle.base.specs.Says.{bool};
-ghost use Rattle.chart.specs.Charts.{charted, leaving};
+ghost use Rattle.chart.specs.Compared.{compared};
+ghost use Rattle.chart.specs.Charts.{leaving};
 ghost use Rattle.chart.specs.inner.Index.{Indexed};
 ghost use Rattle.chart.specs.Places.{newOf};
 ghost use Rattle.base.specs.inner.Found.{toldFound};
@@ -16,7 +17,7 @@ ghost use Rattle.checker.specs.Checks.{targetFault, rowsFault, pairFault
 use crate::inner::targets::row_fits;
 use align::inner::step::fair;
 use base::Found;
-use chart::charts::Head;
+use chart::charts::Heads;
 use chart::inner::pairs::new_of;
 use chart::inner::pairs::old_of;
 use chart::inner::pairs::start_kept;
@@ -35,19 +36,19 @@ fn is_nothing(f: Found) -> bool
 }
 
 // The rule of the start, which is one of the two that can be.
-fn start_fits(old: Head, new: Head, start: u32, marks: &[u8]) -> bool
+fn start_fits(heads: Heads, start: u32, marks: &[u8]) -> bool
     requires { ⌜ length (now marks) ≡ 4160 ⌝ }
-    ensures { λ r. ⌜ r ≡ bool (startFits old new start (now (marks .entry))) ⌝ }
+    ensures { λ r. ⌜ r ≡ bool (startFits heads start (now (marks .entry))) ⌝ }
 {
     let n = start as usize;
-    let pair = start_pair(old, new);
+    let pair = start_pair(heads);
     if n == pair {
         if marks[pair] != 1 {
             return false;
         }
-        return fair(old, new, old_of(pair), new_of(pair));
+        return fair(heads, old_of(pair), new_of(pair));
     }
-    let kept = start_kept(new);
+    let kept = start_kept(heads);
     if n == kept {
         return marks[kept] == 2;
     }
@@ -56,9 +57,8 @@ fn start_fits(old: Head, new: Head, start: u32, marks: &[u8]) -> bool
 
 // The rules for row k of the pair's new place, if there is such a row.
 fn target_fault<'a>(
-    old: Head,
+    heads: Heads,
     old_rows: &'a [u32],
-    new: Head,
     new_rows: &'a [u32],
     index: &[u8; 130],
     marks: &[u8],
@@ -68,22 +68,20 @@ fn target_fault<'a>(
     rows: &'a [u32],
     k: usize,
 ) -> Found
-    requires { ⌜ Admitted (charted old (now «old_rows»)) (charted new (now «new_rows»))
+    requires { ⌜ Admitted (compared heads (now «old_rows») (now «new_rows»))
         (graphOf (now marks) (now targets) (now sets)) ⌝ }
     requires { ⌜ Indexed (now «old_rows») (now «new_rows») (now index) ⌝ }
     requires { ⌜ (m < 4096) × (now rows ≡ leaving (now «new_rows») (newOf m .0)) × (k < 2) ⌝ }
-    ensures { λ r. ⌜ toldFound r ≡ targetFault (charted old (now («old_rows» .entry)))
-        (charted new (now («new_rows» .entry))) (graphOf (now (marks .entry)) (now (targets .entry))
-        (now (sets .entry))) m (now (rows .entry)) k ⌝ }
+    ensures { λ r. ⌜ toldFound r ≡ targetFault (compared heads (now («old_rows» .entry)) (now («new_rows» .entry)))
+        (graphOf (now (marks .entry)) (now (targets .entry)) (now (sets .entry))) m (now (rows .entry)) k ⌝ }
 {
     let n = rows.len() / 6;
     if n <= k {
         return Found::Nothing;
     }
     if row_fits(
-        old,
+        heads,
         old_rows,
-        new,
         new_rows,
         index,
         marks,
@@ -95,14 +93,14 @@ fn target_fault<'a>(
     ) {
         return Found::Nothing;
     }
-    Found::At(2 * m + k)
+    let at = 2 * m + k;
+    Found::At(at)
 }
 
 // The rules for a pair's first and second row. One call in a loop, not two: the compiler then has it in place.
 fn rows_fault<'a>(
-    old: Head,
+    heads: Heads,
     old_rows: &'a [u32],
-    new: Head,
     new_rows: &'a [u32],
     index: &[u8; 130],
     marks: &[u8],
@@ -111,20 +109,18 @@ fn rows_fault<'a>(
     m: usize,
     rows: &'a [u32],
 ) -> Found
-    requires { ⌜ Admitted (charted old (now «old_rows»)) (charted new (now «new_rows»))
+    requires { ⌜ Admitted (compared heads (now «old_rows») (now «new_rows»))
         (graphOf (now marks) (now targets) (now sets)) ⌝ }
     requires { ⌜ Indexed (now «old_rows») (now «new_rows») (now index) ⌝ }
     requires { ⌜ (m < 4096) × (now rows ≡ leaving (now «new_rows») (newOf m .0)) ⌝ }
-    ensures { λ r. ⌜ toldFound r ≡ rowsFault (charted old (now («old_rows» .entry)))
-        (charted new (now («new_rows» .entry))) (graphOf (now (marks .entry)) (now (targets .entry))
-        (now (sets .entry))) m (now (rows .entry)) ⌝ }
+    ensures { λ r. ⌜ toldFound r ≡ rowsFault (compared heads (now («old_rows» .entry)) (now («new_rows» .entry)))
+        (graphOf (now (marks .entry)) (now (targets .entry)) (now (sets .entry))) m (now (rows .entry)) ⌝ }
 {
     let mut k = 0;
     while k < 2 {
         let f = target_fault(
-            old,
+            heads,
             old_rows,
-            new,
             new_rows,
             index,
             marks,
@@ -144,9 +140,8 @@ fn rows_fault<'a>(
 
 // The rules for a pair, if it is present.
 fn pair_fault<'a>(
-    old: Head,
+    heads: Heads,
     old_rows: &'a [u32],
-    new: Head,
     new_rows: &'a [u32],
     index: &[u8; 130],
     marks: &[u8],
@@ -154,22 +149,20 @@ fn pair_fault<'a>(
     sets: &[u64],
     m: usize,
 ) -> Found
-    requires { ⌜ Admitted (charted old (now «old_rows»)) (charted new (now «new_rows»))
+    requires { ⌜ Admitted (compared heads (now «old_rows») (now «new_rows»))
         (graphOf (now marks) (now targets) (now sets)) ⌝ }
     requires { ⌜ Indexed (now «old_rows») (now «new_rows») (now index) ⌝ }
     requires { ⌜ m < 4096 ⌝ }
-    ensures { λ r. ⌜ toldFound r ≡ pairFault (charted old (now («old_rows» .entry)))
-        (charted new (now («new_rows» .entry))) (graphOf (now (marks .entry)) (now (targets .entry))
-        (now (sets .entry))) m ⌝ }
+    ensures { λ r. ⌜ toldFound r ≡ pairFault (compared heads (now («old_rows» .entry)) (now («new_rows» .entry)))
+        (graphOf (now (marks .entry)) (now (targets .entry)) (now (sets .entry))) m ⌝ }
 {
     if marks[m] == 0 {
         return Found::Nothing;
     }
     let rows = rows_of(old_rows, new_rows, index, Place::New(new_of(m)));
     rows_fault(
-        old,
+        heads,
         old_rows,
-        new,
         new_rows,
         index,
         marks,
@@ -248,25 +241,23 @@ fn next_pair(marks: &[u8], m: usize) -> usize
 
 // The lowest target index at fault.
 fn first_fault<'a>(
-    old: Head,
+    heads: Heads,
     old_rows: &'a [u32],
-    new: Head,
     new_rows: &'a [u32],
     index: &[u8; 130],
     marks: &[u8],
     targets: &[u16],
     sets: &[u64],
 ) -> Found
-    requires { ⌜ Admitted (charted old (now «old_rows»)) (charted new (now «new_rows»))
+    requires { ⌜ Admitted (compared heads (now «old_rows») (now «new_rows»))
         (graphOf (now marks) (now targets) (now sets)) ⌝ }
     requires { ⌜ Indexed (now «old_rows») (now «new_rows») (now index) ⌝ }
-    ensures { λ r. ⌜ toldFound r ≡ firstOf 4096 (pairFault (charted old (now («old_rows» .entry)))
-        (charted new (now («new_rows» .entry))) (graphOf (now (marks .entry)) (now (targets .entry))
-        (now (sets .entry)))) ⌝ }
+    ensures { λ r. ⌜ toldFound r ≡ firstOf 4096 (pairFault (compared heads (now («old_rows» .entry)) (now («new_rows» .entry)))
+        (graphOf (now (marks .entry)) (now (targets .entry)) (now (sets .entry)))) ⌝ }
 {
     let mut m = 0;
     while m < 4096 {
-        let f = pair_fault(old, old_rows, new, new_rows, index, marks, targets, sets, m);
+        let f = pair_fault(heads, old_rows, new_rows, index, marks, targets, sets, m);
         if !is_nothing(f) {
             return f;
         }
@@ -277,9 +268,8 @@ fn first_fault<'a>(
 
 // The position of the first rule that fails: 8,192 for the start, else the lowest target index at fault.
 pub fn broken<'a>(
-    old: Head,
+    heads: Heads,
     old_rows: &'a [u32],
-    new: Head,
     new_rows: &'a [u32],
     index: &[u8; 130],
     start: u32,
@@ -287,15 +277,14 @@ pub fn broken<'a>(
     targets: &[u16],
     sets: &[u64],
 ) -> Found
-    requires { ⌜ Admitted (charted old (now «old_rows»)) (charted new (now «new_rows»))
+    requires { ⌜ Admitted (compared heads (now «old_rows») (now «new_rows»))
         (graphOf (now marks) (now targets) (now sets)) ⌝ }
     requires { ⌜ Indexed (now «old_rows») (now «new_rows») (now index) ⌝ }
-    ensures { λ r. ⌜ toldFound r ≡ broken (charted old (now («old_rows» .entry)))
-        (charted new (now («new_rows» .entry))) (recordOf start (now (marks .entry)) (now (targets .entry))
-        (now (sets .entry))) ⌝ }
+    ensures { λ r. ⌜ toldFound r ≡ broken (compared heads (now («old_rows» .entry)) (now («new_rows» .entry)))
+        (recordOf start (now (marks .entry)) (now (targets .entry)) (now (sets .entry))) ⌝ }
 {
-    if !start_fits(old, new, start, marks) {
+    if !start_fits(heads, start, marks) {
         return Found::At(8192);
     }
-    first_fault(old, old_rows, new, new_rows, index, marks, targets, sets)
+    first_fault(heads, old_rows, new_rows, index, marks, targets, sets)
 }

@@ -6,20 +6,20 @@ ghost use lib.Dec.{leb, ltb};
 ghost use lib.ListN.{length, getD};
 ghost use Rattle.base.specs.Says.{eq, ne, le, _and_, _or_, each, below, bool};
 ghost use Rattle.checker.specs.Rules.{startNamed, markFits, marksFit, targetFits, targetsFit, shaped};
-use chart::charts::Head;
+use chart::charts::Heads;
 use chart::inner::pairs::start_kept;
 use chart::inner::pairs::start_pair;
 use records::inner::marks::blank;
 
 // Whether the start is one of the two nodes that a record can start from.
-fn start_named(old: Head, new: Head, start: u32) -> bool
-    ensures { λ r. ⌜ r ≡ bool (startNamed old new start) ⌝ }
+fn start_named(heads: Heads, start: u32) -> bool
+    ensures { λ r. ⌜ r ≡ bool (startNamed heads start) ⌝ }
 {
     let n = start as usize;
-    if n == start_pair(old, new) {
+    if n == start_pair(heads) {
         return true;
     }
-    n == start_kept(new)
+    n == start_kept(heads)
 }
 
 // The larger of two marks: at most k exactly where both are.
@@ -82,29 +82,29 @@ fn shown(n: u32) -> usize
 }
 
 // Whether the 64 nodes at old place p have marks that can be: for pairs 1, 3 or 4, and for the kept nodes, p = 64, 2.
-fn place_fits(old: Head, new: Head, marks: &[u8], p: usize) -> bool
+fn place_fits(heads: Heads, marks: &[u8], p: usize) -> bool
     requires { ⌜ (p < 65) × (length (now marks) ≡ 4160) ⌝ }
-    ensures { λ r. ⌜ r ≡ bool (each 64 (λ j. markFits old new (64 * p + j)
+    ensures { λ r. ⌜ r ≡ bool (each 64 (λ j. markFits heads (64 * p + j)
         (getD (now (marks .entry)) (64 * p + j) 0))) ⌝ }
 {
     let from = 64 * p;
-    let n = shown(new.places);
+    let n = shown(heads.new.places);
     if p == 64 {
         return line_fits(marks, from, n, 2, 1);
     }
-    if p < shown(old.places) {
+    if p < shown(heads.old.places) {
         return line_fits(marks, from, n, 4, 2);
     }
     blank(marks, from, 64)
 }
 
-fn marks_fit(old: Head, new: Head, marks: &[u8]) -> bool
+fn marks_fit(heads: Heads, marks: &[u8]) -> bool
     requires { ⌜ length (now marks) ≡ 4160 ⌝ }
-    ensures { λ r. ⌜ r ≡ bool (marksFit old new (now (marks .entry))) ⌝ }
+    ensures { λ r. ⌜ r ≡ bool (marksFit heads (now (marks .entry))) ⌝ }
 {
     let mut p = 0;
     while p < 65 {
-        if !place_fits(old, new, marks, p) {
+        if !place_fits(heads, marks, p) {
             return false;
         }
         p += 1;
@@ -143,14 +143,14 @@ fn targets_fit(targets: &[u16]) -> bool
     w <= 4160
 }
 
-pub fn shaped(old: Head, new: Head, start: u32, marks: &[u8], targets: &[u16]) -> bool
+pub fn shaped(heads: Heads, start: u32, marks: &[u8], targets: &[u16]) -> bool
     requires { ⌜ (length (now marks) ≡ 4160) × (length (now targets) ≡ 8192) ⌝ }
-    ensures { λ r. ⌜ r ≡ bool (shaped old new start (now (marks .entry)) (now (targets .entry))) ⌝ }
+    ensures { λ r. ⌜ r ≡ bool (shaped heads start (now (marks .entry)) (now (targets .entry))) ⌝ }
 {
-    if !start_named(old, new, start) {
+    if !start_named(heads, start) {
         return false;
     }
-    if !marks_fit(old, new, marks) {
+    if !marks_fit(heads, marks) {
         return false;
     }
     targets_fit(targets)

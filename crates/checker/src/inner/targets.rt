@@ -5,7 +5,8 @@ ghost use Prim.Native.Nat.{_<_};
 ghost use lib.ListN.{length};
 ghost use Rattle.base.specs.Says.{bool, Says};
 ghost use Rattle.base.specs.Tests.{within};
-ghost use Rattle.chart.specs.Charts.{charted, size, to, operation, leaving};
+ghost use Rattle.chart.specs.Compared.{compared};
+ghost use Rattle.chart.specs.Charts.{size, to, operation, leaving};
 ghost use Rattle.chart.specs.inner.Index.{Indexed};
 ghost use Rattle.chart.specs.Places.{newOf};
 ghost use Rattle.align.specs.Steps.{step};
@@ -15,7 +16,7 @@ ghost use Rattle.checker.specs.inner.Admitted.{Admitted};
 use align::inner::step::step;
 use align::spots::Aligned;
 use align::spots::Spot;
-use chart::charts::Head;
+use chart::charts::Heads;
 use chart::inner::pairs::kept;
 use chart::inner::pairs::old_of;
 use chart::inner::pairs::pair;
@@ -95,9 +96,8 @@ fn ranked(marks: &[u8], m: usize, t: usize) -> bool
 
 // Whether the target is the pair that the aligned step under the pair's set gives.
 fn joins_step<'a>(
-    old: Head,
+    heads: Heads,
     old_rows: &'a [u32],
-    new: Head,
     new_rows: &'a [u32],
     index: &[u8; 130],
     marks: &[u8],
@@ -108,19 +108,19 @@ fn joins_step<'a>(
     k: usize,
     t: usize,
 ) -> bool
-    requires { ⌜ Admitted (charted old (now «old_rows»)) (charted new (now «new_rows»))
+    requires { ⌜ Admitted (compared heads (now «old_rows») (now «new_rows»))
         (graphOf (now marks) (now targets) (now sets)) ⌝ }
     requires { ⌜ Indexed (now «old_rows») (now «new_rows») (now index) ⌝ }
     requires { ⌜ (m < 4096) × (now rows ≡ leaving (now «new_rows») (newOf m .0)) × (k < size (now rows)) ⌝ }
     ensures { λ r. ⌜ r ≡ joinsStep (now (marks .entry)) (now (sets .entry)) (record { 0 = to (now (rows .entry)) k }) t
-        (step (charted old (now («old_rows» .entry))) (charted new (now («new_rows» .entry)))
+        (step (compared heads (now («old_rows» .entry)) (now («new_rows» .entry)))
         (spot (graphOf (now (marks .entry)) (now (targets .entry)) (now (sets .entry))) m)
         (operation (now (rows .entry)) k) (record { 0 = to (now (rows .entry)) k })) ⌝ }
 {
     match step(
-        old,
+        heads.old,
+        heads.new,
         old_rows,
-        new,
         new_rows,
         index,
         old_of(m),
@@ -135,9 +135,8 @@ fn joins_step<'a>(
 
 // Whether the target is where the row may lead from the pair.
 fn leads<'a>(
-    old: Head,
+    heads: Heads,
     old_rows: &'a [u32],
-    new: Head,
     new_rows: &'a [u32],
     index: &[u8; 130],
     marks: &[u8],
@@ -148,26 +147,25 @@ fn leads<'a>(
     k: usize,
     t: usize,
 ) -> bool
-    requires { ⌜ Admitted (charted old (now «old_rows»)) (charted new (now «new_rows»))
+    requires { ⌜ Admitted (compared heads (now «old_rows») (now «new_rows»))
         (graphOf (now marks) (now targets) (now sets)) ⌝ }
     requires { ⌜ Indexed (now «old_rows») (now «new_rows») (now index) ⌝ }
     requires { ⌜ (m < 4096) × (now rows ≡ leaving (now «new_rows») (newOf m .0)) × (k < size (now rows)) ⌝ }
-    ensures { λ r. ⌜ r ≡ bool (leads (charted old (now («old_rows» .entry))) (charted new (now («new_rows» .entry)))
+    ensures { λ r. ⌜ r ≡ bool (leads (compared heads (now («old_rows» .entry)) (now («new_rows» .entry)))
         (graphOf (now (marks .entry)) (now (targets .entry)) (now (sets .entry))) m (operation (now (rows .entry)) k)
         (record { 0 = to (now (rows .entry)) k }) t) ⌝ }
 {
     let p = old_of(m);
     let q = new_to(rows, k);
-    if p.is(old.alarm) {
+    if p.is(heads.old.alarm) {
         return rests_at(marks, q, t);
     }
     if keeps(marks, q, t) {
         return true;
     }
     joins_step(
-        old,
+        heads,
         old_rows,
-        new,
         new_rows,
         index,
         marks,
@@ -182,9 +180,8 @@ fn leads<'a>(
 
 // Whether the target of row k of the pair's new place keeps the rules.
 pub fn row_fits<'a>(
-    old: Head,
+    heads: Heads,
     old_rows: &'a [u32],
-    new: Head,
     new_rows: &'a [u32],
     index: &[u8; 130],
     marks: &[u8],
@@ -194,19 +191,18 @@ pub fn row_fits<'a>(
     rows: &'a [u32],
     k: usize,
 ) -> bool
-    requires { ⌜ Admitted (charted old (now «old_rows»)) (charted new (now «new_rows»))
+    requires { ⌜ Admitted (compared heads (now «old_rows») (now «new_rows»))
         (graphOf (now marks) (now targets) (now sets)) ⌝ }
     requires { ⌜ Indexed (now «old_rows») (now «new_rows») (now index) ⌝ }
     requires { ⌜ (m < 4096) × (now rows ≡ leaving (now «new_rows») (newOf m .0)) × (k < size (now rows)) × (k < 2) ⌝ }
-    ensures { λ r. ⌜ r ≡ bool (rowFits (charted old (now («old_rows» .entry))) (charted new (now («new_rows» .entry)))
+    ensures { λ r. ⌜ r ≡ bool (rowFits (compared heads (now («old_rows» .entry)) (now («new_rows» .entry)))
         (graphOf (now (marks .entry)) (now (targets .entry)) (now (sets .entry))) m (now (rows .entry)) k) ⌝ }
 {
     let at = 2 * m + k;
     let t = targets[at] as usize;
     if !leads(
-        old,
+        heads,
         old_rows,
-        new,
         new_rows,
         index,
         marks,

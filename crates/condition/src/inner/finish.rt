@@ -16,7 +16,7 @@ ghost use Rattle.marker.specs.inner.Spans.{remade};
 ghost use Rattle.condition.specs.Builds.{redirected, alone, lone, finished, startOf, summary};
 use crate::Summary;
 use align::inner::step::fair;
-use chart::charts::Head;
+use chart::charts::Heads;
 use chart::inner::pairs::kept;
 use chart::inner::pairs::new_of;
 use chart::inner::pairs::old_of;
@@ -104,20 +104,20 @@ fn used(seen: &[u64]) -> usize
 }
 
 // Whether the new start is kept, or is the new alarm without the old one being the old alarm.
-fn is_alone(old: Head, new: Head, marks: &[u8]) -> bool
+fn is_alone(heads: Heads, marks: &[u8]) -> bool
     requires { ⌜ length (now marks) ≡ 4160 ⌝ }
-    ensures { λ r. ⌜ r ≡ alone old new (now (marks .entry)) ⌝ }
+    ensures { λ r. ⌜ r ≡ alone heads (now (marks .entry)) ⌝ }
 {
-    if is_marked(marks, start_kept(new)) {
+    if is_marked(marks, start_kept(heads)) {
         return true;
     }
-    let first = start_pair(old, new);
-    !fair(old, new, old_of(first), new_of(first))
+    let first = start_pair(heads);
+    !fair(heads, old_of(first), new_of(first))
 }
 
 // The new start alone, kept.
 fn leave_alone(
-    new: Head,
+    heads: Heads,
     marks: &mut [u8],
     targets: &mut [u16],
     sets: &mut [u64],
@@ -125,10 +125,10 @@ fn leave_alone(
 )
     requires { ⌜ Sized (buffers (now marks) (now targets) (now sets) (now waiting)) ⌝ }
     ensures { λ _. ⌜ buffers (now (marks .exit)) (now (targets .exit)) (now (sets .exit)) (now (waiting .exit))
-        ≡ lone new ⌝ }
+        ≡ lone heads ⌝ }
 {
     buffers::fill8(marks, 0);
-    buffers::put8(marks, start_kept(new), 2);
+    buffers::put8(marks, start_kept(heads), 2);
     buffers::fill16(targets, 65535);
     buffers::fill64(sets, 0);
     buffers::fill8(waiting, 0);
@@ -163,8 +163,7 @@ fn count_row(marks: &[u8], i: usize, v: u8) -> usize
 // that were seen are looked at, up to the last word that has one: all that have something in a buffer, the start pair
 // unless its new place is left alone. Whoever has buffers as found hands over a set with all pairs.
 pub fn finish(
-    old: Head,
-    new: Head,
+    heads: Heads,
     marks: &mut [u8],
     targets: &mut [u16],
     sets: &mut [u64],
@@ -173,22 +172,22 @@ pub fn finish(
 ) -> Summary
     requires { ⌜ Sized (buffers (now marks) (now targets) (now sets) (now waiting)) ⌝ }
     requires { ⌜ Covers (now seen) (buffers (now marks) (now targets) (now sets) (now waiting))
-        × (alone old new (now marks) ≡ false → Member (now seen) (startPair old new)) ⌝ }
+        × (alone heads (now marks) ≡ false → Member (now seen) (startPair heads)) ⌝ }
     ensures { λ r. ⌜ (buffers (now (marks .exit)) (now (targets .exit)) (now (sets .exit)) (now (waiting .exit))
-        ≡ finished old new (buffers (now (marks .entry)) (now (targets .entry)) (now (sets .entry))
+        ≡ finished heads (buffers (now (marks .entry)) (now (targets .entry)) (now (sets .entry))
         (now (waiting .entry))))
-        × (r ≡ summary (startOf old new (now (marks .entry))) (now (marks .exit))) ⌝ }
+        × (r ≡ summary (startOf heads (now (marks .entry))) (now (marks .exit))) ⌝ }
 {
-    if is_alone(old, new, &*marks) {
-        leave_alone(new, marks, targets, sets, waiting);
+    if is_alone(heads, &*marks) {
+        leave_alone(heads, marks, targets, sets, waiting);
         return Summary {
-            start: start_kept(new),
+            start: start_kept(heads),
             opened: 0,
             kept: 1,
             covered: 0,
         };
     }
-    let first = start_pair(old, new);
+    let first = start_pair(heads);
     let top = used(seen);
     let cut = &seen[..top];
     redirect_kept(&*marks, targets, cut);

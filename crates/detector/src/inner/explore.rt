@@ -3,7 +3,7 @@ ghost use mathlib.Core.Path.{_≡_};
 ghost use mathlib.Core.List.{List};
 ghost use Prim.Native.Nat.{ℕ};
 ghost use lib.ListN.{length};
-ghost use Rattle.chart.specs.Charts.{charted};
+ghost use Rattle.chart.specs.Compared.{compared};
 ghost use Rattle.chart.specs.Faultless.{FaultlessChart};
 ghost use Rattle.chart.specs.inner.Index.{Indexed};
 ghost use Rattle.chart.specs.Places.{startPair, startKept};
@@ -13,25 +13,18 @@ ghost use Rattle.graph.specs.inner.Tracks.{Covers};
 ghost use Rattle.detector.specs.Turns.{begun, explored};
 use crate::inner::turns;
 use base::Found;
-use chart::charts::Head;
+use chart::charts::Heads;
 use chart::inner::pairs::start_pair;
 use graph::inner::buffers;
 use words::inner::members;
 
 // The start pair alone is in the graph, and waits.
-fn begin(
-    old: Head,
-    new: Head,
-    marks: &mut [u8],
-    targets: &mut [u16],
-    sets: &mut [u64],
-    waiting: &mut [u8],
-)
+fn begin(heads: Heads, marks: &mut [u8], targets: &mut [u16], sets: &mut [u64], waiting: &mut [u8])
     requires { ⌜ Sized (buffers (now marks) (now targets) (now sets) (now waiting)) ⌝ }
-    ensures { λ _. ⌜ ((o n : List ℕ) → buffers (now (marks .exit)) (now (targets .exit)) (now (sets .exit))
-        (now (waiting .exit)) ≡ begun (charted old o) (charted new n)) ⌝ }
+    ensures { λ _. ⌜ buffers (now (marks .exit)) (now (targets .exit)) (now (sets .exit)) (now (waiting .exit))
+        ≡ begun heads ⌝ }
 {
-    let first = start_pair(old, new);
+    let first = start_pair(heads);
     buffers::fill8(marks, 0);
     buffers::put8(marks, first, 1);
     buffers::fill16(targets, 65535);
@@ -43,9 +36,8 @@ fn begin(
 // Takes the lowest waiting pair up, as long as one waits. So that nobody looks at every pair, `waits` lists whoever
 // waits, and `seen` has whoever comes into the graph; what `seen` had before it keeps.
 pub fn explore<'a>(
-    old: Head,
+    heads: Heads,
     old_rows: &'a [u32],
-    new: Head,
     new_rows: &'a [u32],
     index: &[u8; 130],
     marks: &mut [u8],
@@ -54,26 +46,25 @@ pub fn explore<'a>(
     waiting: &mut [u8],
     seen: &mut [u64],
 )
-    requires { ⌜ FaultlessChart (charted old (now «old_rows»)) ⌝ }
-    requires { ⌜ FaultlessChart (charted new (now «new_rows»)) ⌝ }
+    requires { ⌜ FaultlessChart (compared heads (now «old_rows») (now «new_rows») .old) ⌝ }
+    requires { ⌜ FaultlessChart (compared heads (now «old_rows») (now «new_rows») .new) ⌝ }
     requires { ⌜ Indexed (now «old_rows») (now «new_rows») (now index) ⌝ }
     requires { ⌜ Sized (buffers (now marks) (now targets) (now sets) (now waiting)) × (length (now seen) ≡ 64) ⌝ }
     ensures { λ _. ⌜ Covers (now (seen .exit)) (buffers (now (marks .exit)) (now (targets .exit)) (now (sets .exit))
         (now (waiting .exit))) ⌝ }
     ensures { λ _. ⌜ buffers (now (marks .exit)) (now (targets .exit)) (now (sets .exit)) (now (waiting .exit))
-        ≡ explored (charted old (now («old_rows» .entry))) (charted new (now («new_rows» .entry))) ⌝ }
+        ≡ explored (compared heads (now («old_rows» .entry)) (now («new_rows» .entry))) ⌝ }
 {
-    begin(old, new, marks, targets, sets, waiting);
+    begin(heads, marks, targets, sets, waiting);
     let mut waits = [0u64; 65];
-    members::list(&mut waits, start_pair(old, new));
-    members::add(seen, start_pair(old, new));
+    members::list(&mut waits, start_pair(heads));
+    members::add(seen, start_pair(heads));
     loop {
         match turns::lowest(&mut waits, &*waiting) {
             Found::At(n) => {
                 turns::turn(
-                    old,
+                    heads,
                     old_rows,
-                    new,
                     new_rows,
                     index,
                     marks,

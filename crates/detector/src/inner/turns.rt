@@ -3,7 +3,7 @@ ghost use mathlib.Core.Path.{_≡_};
 ghost use mathlib.Core.Option.{some};
 ghost use Prim.Native.Nat.{_<_};
 ghost use lib.ListN.{length, getD};
-ghost use Rattle.chart.specs.Charts.{charted};
+ghost use Rattle.chart.specs.Compared.{compared};
 ghost use Rattle.chart.specs.Faultless.{FaultlessChart};
 ghost use Rattle.chart.specs.inner.Index.{Indexed};
 ghost use Rattle.align.specs.declared.spots.Spot.{Spot};
@@ -19,7 +19,7 @@ use align::inner::step::step;
 use align::spots::Aligned;
 use align::spots::Spot;
 use base::Found;
-use chart::charts::Head;
+use chart::charts::Heads;
 use chart::inner::pairs::kept;
 use chart::inner::pairs::new_of;
 use chart::inner::pairs::old_of;
@@ -27,6 +27,7 @@ use chart::inner::pairs::pair;
 use chart::inner::rows::new_to;
 use chart::inner::rows::rows_of;
 use chart::places::NewPlace;
+use chart::places::OldPlace;
 use chart::places::Place;
 use graph::inner::buffers;
 use graph::inner::graphs;
@@ -84,7 +85,7 @@ pub fn lowest(waits: &mut [u64], waiting: &[u8]) -> Found
 
 // Row r of pair n leads to new place q by a step that came to h.
 fn arrive(
-    old: Head,
+    alarm: OldPlace,
     marks: &mut [u8],
     targets: &mut [u16],
     sets: &mut [u64],
@@ -102,7 +103,7 @@ fn arrive(
     ensures { λ _. ⌜ Tracks (now (waits .exit)) (now (seen .exit))
         (buffers (now (marks .exit)) (now (targets .exit)) (now (sets .exit)) (now (waiting .exit))) ⌝ }
     ensures { λ _. ⌜ buffers (now (marks .exit)) (now (targets .exit)) (now (sets .exit)) (now (waiting .exit))
-        ≡ arrived (old .alarm) (buffers (now (marks .entry)) (now (targets .entry)) (now (sets .entry))
+        ≡ arrived (alarm .0) (buffers (now (marks .entry)) (now (targets .entry)) (now (sets .entry))
         (now (waiting .entry))) n r q h ⌝ }
 {
     let node = kept(q);
@@ -111,13 +112,13 @@ fn arrive(
         return;
     }
     let at = pair(h.place, q);
-    graphs::join(old, marks, sets, waiting, waits, seen, at, h.set);
+    graphs::join(alarm, marks, sets, waiting, waits, seen, at, h.set);
     graphs::aim(&*marks, targets, n, r, at);
 }
 
 // Row r of pair n leads to new place q, by a step that came to a spot or failed.
 fn process(
-    old: Head,
+    alarm: OldPlace,
     marks: &mut [u8],
     targets: &mut [u16],
     sets: &mut [u64],
@@ -136,12 +137,24 @@ fn process(
     ensures { λ _. ⌜ Tracks (now (waits .exit)) (now (seen .exit))
         (buffers (now (marks .exit)) (now (targets .exit)) (now (sets .exit)) (now (waiting .exit))) ⌝ }
     ensures { λ _. ⌜ buffers (now (marks .exit)) (now (targets .exit)) (now (sets .exit)) (now (waiting .exit))
-        ≡ processed (old .alarm) (buffers (now (marks .entry)) (now (targets .entry)) (now (sets .entry))
+        ≡ processed (alarm .0) (buffers (now (marks .entry)) (now (targets .entry)) (now (sets .entry))
         (now (waiting .entry))) n r q (told came) ⌝ }
 {
     match came {
         Aligned::To(h) => {
-            arrive(old, marks, targets, sets, waiting, waits, seen, n, r, q, h);
+            arrive(
+                alarm,
+                marks,
+                targets,
+                sets,
+                waiting,
+                waits,
+                seen,
+                n,
+                r,
+                q,
+                h,
+            );
         }
         Aligned::Failed => {
             graphs::keep(marks, targets, sets, waiting, &*seen, q);
@@ -152,9 +165,8 @@ fn process(
 
 // Row r of pair n, if there is such a row, under the set v.
 fn row<'a>(
-    old: Head,
+    heads: Heads,
     old_rows: &'a [u32],
-    new: Head,
     new_rows: &'a [u32],
     index: &[u8; 130],
     marks: &mut [u8],
@@ -167,8 +179,8 @@ fn row<'a>(
     v: u64,
     r: usize,
 )
-    requires { ⌜ FaultlessChart (charted old (now «old_rows»)) ⌝ }
-    requires { ⌜ FaultlessChart (charted new (now «new_rows»)) ⌝ }
+    requires { ⌜ FaultlessChart (compared heads (now «old_rows») (now «new_rows») .old) ⌝ }
+    requires { ⌜ FaultlessChart (compared heads (now «old_rows») (now «new_rows») .new) ⌝ }
     requires { ⌜ Indexed (now «old_rows») (now «new_rows») (now index) ⌝ }
     requires { ⌜ (n < 4096) × (r < 2) ⌝ }
     requires { ⌜ Sized (buffers (now marks) (now targets) (now sets) (now waiting)) ⌝ }
@@ -176,14 +188,24 @@ fn row<'a>(
     ensures { λ _. ⌜ Tracks (now (waits .exit)) (now (seen .exit))
         (buffers (now (marks .exit)) (now (targets .exit)) (now (sets .exit)) (now (waiting .exit))) ⌝ }
     ensures { λ _. ⌜ buffers (now (marks .exit)) (now (targets .exit)) (now (sets .exit)) (now (waiting .exit))
-        ≡ rowDone (charted old (now («old_rows» .entry))) (charted new (now («new_rows» .entry)))
+        ≡ rowDone (compared heads (now («old_rows» .entry)) (now («new_rows» .entry)))
         (buffers (now (marks .entry)) (now (targets .entry)) (now (sets .entry)) (now (waiting .entry))) n v r ⌝ }
 {
     let part = rows_of(old_rows, new_rows, index, Place::New(new_of(n)));
     if r < part.len() / 6 {
-        let came = step(old, old_rows, new, new_rows, index, old_of(n), v, part, r);
+        let came = step(
+            heads.old,
+            heads.new,
+            old_rows,
+            new_rows,
+            index,
+            old_of(n),
+            v,
+            part,
+            r,
+        );
         process(
-            old,
+            heads.old.alarm,
             marks,
             targets,
             sets,
@@ -211,9 +233,8 @@ fn set_now(marks: &[u8], sets: &[u64], n: usize, v: u64) -> u64
 
 // Takes pair n up.
 pub fn turn<'a>(
-    old: Head,
+    heads: Heads,
     old_rows: &'a [u32],
-    new: Head,
     new_rows: &'a [u32],
     index: &[u8; 130],
     marks: &mut [u8],
@@ -224,8 +245,8 @@ pub fn turn<'a>(
     seen: &mut [u64],
     n: usize,
 )
-    requires { ⌜ FaultlessChart (charted old (now «old_rows»)) ⌝ }
-    requires { ⌜ FaultlessChart (charted new (now «new_rows»)) ⌝ }
+    requires { ⌜ FaultlessChart (compared heads (now «old_rows») (now «new_rows») .old) ⌝ }
+    requires { ⌜ FaultlessChart (compared heads (now «old_rows») (now «new_rows») .new) ⌝ }
     requires { ⌜ Indexed (now «old_rows») (now «new_rows») (now index) ⌝ }
     requires { ⌜ n < 4096 ⌝ }
     requires { ⌜ Sized (buffers (now marks) (now targets) (now sets) (now waiting)) ⌝ }
@@ -233,7 +254,7 @@ pub fn turn<'a>(
     ensures { λ _. ⌜ Tracks (now (waits .exit)) (now (seen .exit))
         (buffers (now (marks .exit)) (now (targets .exit)) (now (sets .exit)) (now (waiting .exit))) ⌝ }
     ensures { λ _. ⌜ buffers (now (marks .exit)) (now (targets .exit)) (now (sets .exit)) (now (waiting .exit))
-        ≡ taken (charted old (now («old_rows» .entry))) (charted new (now («new_rows» .entry)))
+        ≡ taken (compared heads (now («old_rows» .entry)) (now («new_rows» .entry)))
         (buffers (now (marks .entry)) (now (targets .entry)) (now (sets .entry)) (now (waiting .entry))) n ⌝ }
 {
     let mut v = sets[n];
@@ -243,9 +264,8 @@ pub fn turn<'a>(
     while r < 2 {
         v = set_now(&*marks, &*sets, n, v);
         row(
-            old,
+            heads,
             old_rows,
-            new,
             new_rows,
             index,
             marks,

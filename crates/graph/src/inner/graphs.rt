@@ -10,10 +10,8 @@ ghost use Rattle.graph.specs.Buffers.{buffers, marked, cleared, untarget
 ghost use Rattle.graph.specs.inner.Sized.{Sized};
 ghost use Rattle.graph.specs.inner.Tracks.{Covers, listedIf};
 use crate::inner::buffers;
-use chart::charts::Head;
 use chart::inner::pairs::kept;
 use chart::inner::pairs::old_of;
-use chart::inner::pairs::pair;
 use chart::places::NewPlace;
 use chart::places::OldPlace;
 use sets::inner::bits::alone;
@@ -64,7 +62,7 @@ fn leave_all(
         × (now (sets .exit) ≡ cleared q (now (sets .entry)))
         × (now (waiting .exit) ≡ cleared q (now (waiting .entry))) ⌝ }
 {
-    let k = pair(OldPlace(0), q);
+    let k = q.0 as usize;
     if !meets(members::gathered(seen), alone(k as u32)) {
         return;
     }
@@ -118,7 +116,7 @@ fn gain(sets: &mut [u64], n: usize, v: u64)
 // Pair n joins the graph with the set v: it is seen, and in the list if it is to wait. Many pairs are there already
 // with all of v: of these only the mark is written.
 pub fn join(
-    old: Head,
+    alarm: OldPlace,
     marks: &mut [u8],
     sets: &mut [u64],
     waiting: &mut [u8],
@@ -131,11 +129,11 @@ pub fn join(
         × (length (now waiting) ≡ 4096) ⌝ }
     requires { ⌜ (length (now waits) ≡ 65) × (length (now seen) ≡ 64) ⌝ }
     requires { ⌜ (0 < getD (now marks) n 0 → Member (now seen) n) ⌝ }
-    ensures { λ _. ⌜ (now (waits .exit) ≡ listedIf (due (old .alarm) (now (marks .entry)) (now (sets .entry)) n v)
+    ensures { λ _. ⌜ (now (waits .exit) ≡ listedIf (due (alarm .0) (now (marks .entry)) (now (sets .entry)) n v)
         (now (waits .entry)) n)
         × (now (seen .exit) ≡ added (now (seen .entry)) n) ⌝ }
     ensures { λ _. ⌜ ((t : List ℕ) → buffers (now (marks .exit)) t (now (sets .exit)) (now (waiting .exit))
-        ≡ join (old .alarm) (buffers (now (marks .entry)) t (now (sets .entry)) (now (waiting .entry))) n v) ⌝ }
+        ≡ join (alarm .0) (buffers (now (marks .entry)) t (now (sets .entry)) (now (waiting .entry))) n v) ⌝ }
 {
     let there = is_marked(&*marks, n);
     buffers::put8(marks, n, 1);
@@ -144,7 +142,7 @@ pub fn join(
     }
     members::add(seen, n);
     gain(sets, n, v);
-    if !old_of(n).is(old.alarm) {
+    if !old_of(n).is(alarm) {
         buffers::put8(waiting, n, 1);
         members::list(waits, n);
     }

@@ -7,10 +7,10 @@ ghost use Rattle.operations.specs.Operations.{withConstant, right, holds
 ghost use Rattle.operations.specs.Trials.{alike, partner, compares, inside, own, seats, trial, bound, points, shown, shownBy, together, never, implies};
 ghost use Rattle.operations.specs.inner.ShortWays.{paired, fixed, disjoint, independent, canBeBelow, canBeAbove, repeated, meetsBoth};
 use crate::Operation;
-use crate::inner::meaning::related_in;
 use crate::inner::meaning::key;
 use crate::inner::meaning::minus;
 use crate::inner::meaning::plus;
+use crate::inner::meaning::related_in;
 use crate::inner::meaning::when_above;
 use crate::inner::meaning::when_below;
 use crate::inner::meaning::when_equal;

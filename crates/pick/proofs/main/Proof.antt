@@ -22,26 +22,26 @@ enum-known-r c = search needs
 refuse-requires : tie.Need-refuse-requires
 refuse-requires c κs = refused-near _ (c .before .before .before .before .before .charts .ensures) _ (c .before .r .given .1)
 
-enum-known-head : tie.Need-enum-known-head
-enum-known-head c = search needs
+enum-known-heads : tie.Need-enum-known-heads
+enum-known-heads c = search needs
 
 mul-m : tie.Need-mul-m
-mul-m c = let f = few-rows _ (c .before .before .before .before .before .charts .ensures) _ _ _ _ (c .before .head .given .1) in omega (arith, f .0)
+mul-m c = let f = few-rows _ (c .before .before .before .before .before .charts .ensures) _ _ _ (c .before .heads .given .1) in omega (arith, f .0)
 
 mul-n : tie.Need-mul-n
-mul-n c = let f = few-rows _ (c .before .before .before .before .before .charts .ensures) _ _ _ _ (c .before .head .given .1) in omega (arith, f .1)
+mul-n c = let f = few-rows _ (c .before .before .before .before .before .charts .ensures) _ _ _ (c .before .heads .given .1) in omega (arith, f .1)
 
 array-share-prefix-old : tie.Need-array-share-prefix-old
-array-share-prefix-old c = let f = few-rows _ (c .before .before .before .before .before .charts .ensures) _ _ _ _ (c .before .head .given .1) in omega (arith, f .0)
+array-share-prefix-old c = let f = few-rows _ (c .before .before .before .before .before .charts .ensures) _ _ _ (c .before .heads .given .1) in omega (arith, f .0)
 
 slice-aggregate-show : tie.Need-slice-aggregate-show
-slice-aggregate-show c = let f = few-rows _ (c .before .before .before .before .before .before .charts .ensures) _ _ _ _ (c .before .before .head .given .1) in sym (length-take-le _ (c .before .before .before .before .before .before .charts .last .0) (omega (arith, f .0)))
+slice-aggregate-show c = let f = few-rows _ (c .before .before .before .before .before .before .charts .ensures) _ _ _ (c .before .before .heads .given .1) in sym (length-take-le _ (c .before .before .before .before .before .before .charts .last .0) (omega (arith, f .0)))
 
 array-share-prefix-new : tie.Need-array-share-prefix-new
-array-share-prefix-new c = let f = few-rows _ (c .before .before .before .before .before .before .charts .ensures) _ _ _ _ (c .before .before .head .given .1) in omega (arith, f .1)
+array-share-prefix-new c = let f = few-rows _ (c .before .before .before .before .before .before .charts .ensures) _ _ _ (c .before .before .heads .given .1) in omega (arith, f .1)
 
 slice-aggregate-show-2 : tie.Need-slice-aggregate-show-2
-slice-aggregate-show-2 c = let f = few-rows _ (c .before .before .before .before .before .before .before .charts .ensures) _ _ _ _ (c .before .before .before .head .given .1) in sym (length-take-le _ (c .before .before .before .before .before .before .before .charts .last .1 .0) (omega (arith, f .1)))
+slice-aggregate-show-2 c = let f = few-rows _ (c .before .before .before .before .before .before .before .charts .ensures) _ _ _ (c .before .before .before .heads .given .1) in sym (length-take-le _ (c .before .before .before .before .before .before .before .charts .last .1 .0) (omega (arith, f .1)))
 
 show-requires : tie.Need-show-requires
 show-requires c κs = search needs
@@ -61,7 +61,7 @@ main-spec =
     charts-requires
     enum-known-r
     refuse-requires
-    enum-known-head
+    enum-known-heads
     mul-m
     mul-n
     array-share-prefix-old

@@ -37,6 +37,9 @@ same-length-3 c = search needs
 returns-2 : tie.Need-returns-2
 returns-2 c = new-refused (c .before .before .before .before .before .before .before .before .before .before .before .before .before .before .before .before .before .before .args .old-text .now) (c .before .before .before .before .before .before .before .before .before .before .before .before .before .before .before .before .before .before .args .new-text .now) (c .before .before .before .before .before .before .before .before .before .before .before .before .before .before .before .before .before .before .args .old .now) _ (c .before .before .before .before .before .before .before .before .before .before .before .before .before .before .before .before .before .before .args .new .now) _ (c .before .before .before .before .before .before .before .before .before .before .before .before .read .ensures .0) _ _ _ _ (c .before .before .before .before .before .before .before .before .head .given .1) (c .before .before .before .before .before .read2 .ensures .0) _ (c .before .r2 .given .1)
 
+both-heads-requires : tie.Need-both-heads-requires
+both-heads-requires c κs = search needs
+
 same-length-4 : tie.Need-same-length-4
 same-length-4 c = search needs
 
@@ -44,7 +47,7 @@ same-length-5 : tie.Need-same-length-5
 same-length-5 c = search needs
 
 returns-3 : tie.Need-returns-3
-returns-3 c = both-charts (c .before .before .before .before .before .before .before .before .before .before .before .before .before .before .before .before .before .before .args .old-text .now) (c .before .before .before .before .before .before .before .before .before .before .before .before .before .before .before .before .before .before .args .new-text .now) (c .before .before .before .before .before .before .before .before .before .before .before .before .before .before .before .before .before .before .args .old .now) _ (c .before .before .before .before .before .before .before .before .before .before .before .before .before .before .before .before .before .before .args .new .now) _ (c .before .before .before .before .before .before .before .before .before .before .before .before .read .ensures .0) _ _ _ _ (c .before .before .before .before .before .before .before .before .head .given .1) (c .before .before .before .before .before .read2 .ensures .0) _ _ (c .before .other .given .1)
+returns-3 c = both-charts (c .before .before .before .before .before .before .before .before .before .before .before .before .before .before .before .before .before .before .before .args .old-text .now) (c .before .before .before .before .before .before .before .before .before .before .before .before .before .before .before .before .before .before .before .args .new-text .now) (c .before .before .before .before .before .before .before .before .before .before .before .before .before .before .before .before .before .before .before .args .old .now) _ (c .before .before .before .before .before .before .before .before .before .before .before .before .before .before .before .before .before .before .before .args .new .now) _ (c .before .before .before .before .before .before .before .before .before .before .before .before .before .read .ensures .0) _ _ _ _ (c .before .before .before .before .before .before .before .before .before .head .given .1) (c .before .before .before .before .before .before .read2 .ensures .0) _ _ (c .before .before .other .given .1) (c .both-heads .ensures)
 
 pub read-both-spec : {M : Type 1} → statement M
 read-both-spec =
@@ -56,6 +59,7 @@ read-both-spec =
     read-requires-2
     enum-known-r-2
     enum-known-other
+    both-heads-requires
     same-length
     returns
     same-length-2

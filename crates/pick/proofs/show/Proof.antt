@@ -24,13 +24,13 @@ enum-known-r : tie.Need-enum-known-r
 enum-known-r c = search needs
 
 refuse-requires : tie.Need-refuse-requires
-refuse-requires c κs = refused-fits _ _ _ (c .before .before .before .before .before .before .before .build .ensures .0) (c .before .r .given .1) .position
+refuse-requires c κs = refused-fits _ _ (c .before .before .before .before .before .before .before .build .ensures .0) (c .before .r .given .1) .position
 
 enum-known-s : tie.Need-enum-known-s
 enum-known-s c = search needs
 
 head-requires : tie.Need-head-requires
-head-requires c κs = done-small _ _ _ (c .before .before .before .before .before .before .before .build .ensures .0) (c .before .s .given .1)
+head-requires c κs = done-small _ _ (c .before .before .before .before .before .before .before .build .ensures .0) (c .before .s .given .1)
 
 transitions-requires : tie.Need-transitions-requires
 transitions-requires c κs = search needs

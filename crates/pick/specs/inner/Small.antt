@@ -5,5 +5,5 @@ use Rattle.pick.specs.declared.Both.the-variants as answer
 
 -- the row counts are those of faultless charts, and a position is a u32
 abbrev pub Few : Both → Type 0
-Few (answer.Charts old rows new more) = (rows ≤ 128) × (more ≤ 128)
+Few (answer.Charts heads rows more) = (rows ≤ 128) × (more ≤ 128)
 Few (answer.Refused r) = r .position < 2 ^ 32

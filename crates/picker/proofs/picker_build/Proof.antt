@@ -1,8 +1,11 @@
 -- `picker::picker_build` meets its contract. Assumes nothing.
-use Rattle.picker.proofs.Answers.{packs, makes, build-answers, built-passes, built-returned}
+use Rattle.picker.proofs.Answers.{packs, makes, build-answers, built-passes, built-returned, lent-is}
 use borrow.Author.Needs.{needs}
 use Rattle.picker.proofs.picker_build.Statement.{statement}
 use Rattle.picker.proofs.picker_build.Tie as tie
+
+both-heads-requires : tie.Need-both-heads-requires
+both-heads-requires c κs = search needs
 
 build-requires : tie.Need-build-requires
 build-requires c κs = search needs
@@ -11,7 +14,7 @@ of-built-requires : tie.Need-of-built-requires
 of-built-requires c κs = search needs
 
 packed-requires : tie.Need-packed-requires
-packed-requires c κs = packs (build-answers _ _ _ (c .before .before .before .before .before .before .before .before .before .build .ensures .0) (c .of-built .ensures))
+packed-requires c κs = packs (build-answers _ _ (c .before .before .before .before .before .before .before .before .before .build .ensures .0) (c .of-built .ensures))
 
 same-length : tie.Need-same-length
 same-length c = search needs
@@ -27,16 +30,18 @@ same-length-4 c = search needs
 
 returns : tie.Need-returns
 returns c =
-    let b = c .before .before .before .before .before .before .before .before .before .before .build .ensures in
+    rw (← lent-is _ _ _ _ (c .before .before .before .before .before .before .before .before .before .before .before .before .before .before .before .both-heads .ensures))
+    (let b = c .before .before .before .before .before .before .before .before .before .before .build .ensures in
     let i = c .before .of-built .ensures in
-    let A = build-answers _ _ _ (b .0) i in
+    let A = build-answers _ _ (b .0) i in
     let e = c .packed .ensures in
-    (makes A e, (b .1 .0, (λ l. built-passes i (packs A) e l _ _ _ _ _ (b .1 .1 .0), λ l. built-returned i (packs A) e l _ _ _ _ _ (b .1 .1 .1))))
+    (makes A e, (b .1 .0, (λ l. built-passes i (packs A) e l _ _ _ _ (b .1 .1 .0), λ l. built-returned i (packs A) e l _ _ _ _ (b .1 .1 .1)))))
 
 pub picker-build-spec : {M : Type 1} → statement M
 picker-build-spec =
     tie.close
     (tie.spec
+    both-heads-requires
     build-requires
     of-built-requires
     packed-requires

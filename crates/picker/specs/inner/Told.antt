@@ -20,4 +20,4 @@ pub record Below (f : Four) : Type 0 where
 
 -- a chart that is read, as the reader tells it
 abbrev pub ofHeading : Heading → Four
-ofHeading h = record { a = h .places; b = h .alarm; c = h .rows; d = 0 }
+ofHeading h = record { a = h .head .places; b = h .head .alarm; c = h .rows; d = 0 }

@@ -17,7 +17,7 @@ use Rattle.text.specs.declared.inner.table.Reach.{Reach}
 use Rattle.text.specs.declared.inner.table.Reach.the-variants as reach
 use Rattle.text.specs.Causes.{unfit}
 use Rattle.text.specs.Fields.{itemAt}
-use Rattle.text.specs.Texts.{Heading}
+use Rattle.text.specs.Texts.{Heading, headIn, countIn}
 
 -- ---- fields into a table
 -- the numbers of a field that fits and of those after it; none of one that does not fit
@@ -50,9 +50,9 @@ reached (reach.Past p) at = p
 reached (reach.Unfit c p) at = at
 
 -- ---- the first record
--- "n, alarm, row count": the first three of its numbers
+-- what it tells, by its numbers: head and row count
 unfoldable pub recordOf : Reach → List ℕ → First
-recordOf (reach.Past p) l = first.Record (record { places = getD l 0 0; alarm = getD l 1 0 }) (getD l 2 0) p
+recordOf (reach.Past p) l = first.Record (headIn l) (countIn l) p
 recordOf (reach.Unfit c p) l = first.Unfit c p
 
 unfoldable pub firstAt : List ℕ → ℕ → First
@@ -84,5 +84,5 @@ answered (b ∷ s) (first.Record head count at) (reach.Past p) end =
 
 -- what the code's answer says
 unfoldable pub toldParsed : Parsed → Answer Heading
-toldParsed (parsed.Chart head rows) = given (record { places = head .places; alarm = head .alarm; rows = rows })
+toldParsed (parsed.Chart head rows) = given (record { head = head; rows = rows })
 toldParsed (parsed.Unfit c p) = unfit c p

@@ -2,16 +2,16 @@
 use mathlib.Core.Path.{ap}
 use Rattle.align.proofs.Moves.{Walk, walk-begins, walk-over, walk-ends, next-below, walk-twice, walk-on}
 use Rattle.align.specs.inner.Told.{toldOnward}
-use Rattle.chart.specs.Charts.{charted}
+use Rattle.chart.specs.Compared.{compared}
 use borrow.Author.Needs.{needs}
 use Rattle.align.proofs.inner.follow.follow.Statement.{statement}
 use Rattle.align.proofs.inner.follow.follow.Tie as tie
 
 abbrev Inv-loop : tie.InvT-loop
-Inv-loop old old-rows new-rows index at₀ met₀ left₀ at met left = Walk (charted old old-rows) at₀ at met left
+Inv-loop heads old-rows new-rows index at₀ met₀ left₀ at met left = Walk (compared heads old-rows new-rows) at₀ at met left
 
 abbrev μ-loop : tie.MeasureT-loop
-μ-loop old old-rows new-rows index at₀ met₀ left₀ at met left = left
+μ-loop heads old-rows new-rows index at₀ met₀ left₀ at met left = left
 
 bit-requires : tie.Need-bit-requires Inv-loop μ-loop
 bit-requires c κs = search needs

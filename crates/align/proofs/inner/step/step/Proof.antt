@@ -16,7 +16,7 @@ arrived-requires c κs = search needs
 
 returns : tie.Need-returns
 unfolding step
-returns c = c .arrived .ensures ∙ ap₂ (arrived _ _) (λ i. record { 0 = c .before .before .new-to .ensures i }) (c .before .moved .ensures)
+returns c = c .arrived .ensures ∙ ap₂ (arrived _) (λ i. record { 0 = c .before .before .new-to .ensures i }) (c .before .moved .ensures)
 
 pub step-spec : {M : Type 1} → statement M
 step-spec = tie.close (tie.spec new-to-requires moved-requires arrived-requires returns)

@@ -10,13 +10,13 @@ start-fits-requires : tie.Need-start-fits-requires
 start-fits-requires c κs = search needs
 
 returns : tie.Need-returns
-returns c = start-broken _ _ (recordOf _ _ _ _) (c .before .start-fits .ensures) (not-true _ (c .if1 .taken))
+returns c = start-broken _ (recordOf _ _ _ _) (c .before .start-fits .ensures) (not-true _ (c .if1 .taken))
 
 first-fault-requires : tie.Need-first-fault-requires
 first-fault-requires c κs = search needs
 
 returns-2 : tie.Need-returns-2
-returns-2 c = targets-judged _ _ (recordOf _ _ _ _) (c .before .before .start-fits .ensures) (not-false _ (c .before .if1 .left)) (c .first-fault .ensures)
+returns-2 c = targets-judged _ (recordOf _ _ _ _) (c .before .before .start-fits .ensures) (not-false _ (c .before .if1 .left)) (c .first-fault .ensures)
 
 pub broken-spec : {M : Type 1} → statement M
 broken-spec = tie.close (tie.spec start-fits-requires returns first-fault-requires returns-2)

@@ -5,7 +5,7 @@ use Rattle.records.specs.Records.{graphOf}
 use Rattle.checker.specs.Checks.{pairFault}
 use Rattle.base.specs.Options.{firstOf, missing}
 use Rattle.base.proofs.Options.{first-at, none-all}
-use Rattle.chart.specs.Charts.{charted}
+use Rattle.chart.specs.Compared.{compared}
 use Rattle.checker.proofs.Targets.{passed-over}
 use mathlib.Core.Option.{none}
 use Prim.Native.Nat.{_-_, _≤_}
@@ -15,10 +15,10 @@ use Rattle.checker.proofs.inner.rules.first_fault.Statement.{statement}
 use Rattle.checker.proofs.inner.rules.first_fault.Tie as tie
 
 abbrev Inv-loop : tie.InvT-loop
-Inv-loop old old-rows new new-rows index marks targets sets m₀ m = (m ≤ 4096) × (firstOf m (pairFault (charted old old-rows) (charted new new-rows) (graphOf marks targets sets)) ≡ none)
+Inv-loop heads old-rows new-rows index marks targets sets m₀ m = (m ≤ 4096) × (firstOf m (pairFault (compared heads old-rows new-rows) (graphOf marks targets sets)) ≡ none)
 
 abbrev μ-loop : tie.MeasureT-loop
-μ-loop old old-rows new new-rows index marks targets sets m₀ m = 4096 - m
+μ-loop heads old-rows new-rows index marks targets sets m₀ m = 4096 - m
 
 loop-holds : tie.Need-loop-holds Inv-loop μ-loop
 unfolding firstOf
@@ -40,7 +40,7 @@ loop-less : tie.Need-loop-less Inv-loop μ-loop
 loop-less c = omega arith
 
 loop-again : tie.Need-loop-again Inv-loop μ-loop
-loop-again c = (omega arith, passed-over _ _ (graphOf _ _ _) (c .before .before .before .before .before .loop .m) (c .next-pair .result) (c .before .before .before .before .before .loop .inv .1) (c .before .before .before .pair-fault .ensures) (sym (c .before .before .is-nothing .ensures) ∙ not-false _ (c .before .if1 .left)) (c .next-pair .ensures .2))
+loop-again c = (omega arith, passed-over _ (graphOf _ _ _) (c .before .before .before .before .before .loop .m) (c .next-pair .result) (c .before .before .before .before .before .loop .inv .1) (c .before .before .before .pair-fault .ensures) (sym (c .before .before .is-nothing .ensures) ∙ not-false _ (c .before .if1 .left)) (c .next-pair .ensures .2))
 
 returns-2 : tie.Need-returns-2 Inv-loop μ-loop
 returns-2 c = none-all _ _ _ (c .before .loop .inv .0) (c .loop-test .left) (c .before .loop .inv .1)

@@ -13,7 +13,7 @@ shared-slice-read-if1 : tie.Need-shared-slice-read-if1
 shared-slice-read-if1 c = search needs
 
 returns : tie.Need-returns
-returns c = absent _ _ (graphOf _ _ _) _ (c .if1 .taken)
+returns c = absent _ (graphOf _ _ _) _ (c .if1 .taken)
 
 new-of-requires : tie.Need-new-of-requires
 new-of-requires c κs = search needs
@@ -25,7 +25,7 @@ rows-fault-requires : tie.Need-rows-fault-requires
 rows-fault-requires c κs = (c .before .before .before .before .before .before .before .before .before .pre .0, (c .before .before .before .before .before .before .before .before .before .pre .1 .0, (c .before .before .before .before .before .before .before .before .before .pre .1 .1, part-of _ _ (c .before .new-of .ensures) (c .rows-of .ensures))))
 
 returns-2 : tie.Need-returns-2
-returns-2 c = present _ _ (graphOf _ _ _) _ (c .before .before .before .if1 .left) (c .before .before .new-of .ensures) (c .before .rows-of .ensures) (c .rows-fault .ensures)
+returns-2 c = present _ (graphOf _ _ _) _ (c .before .before .before .if1 .left) (c .before .before .new-of .ensures) (c .before .rows-of .ensures) (c .rows-fault .ensures)
 
 pub pair-fault-spec : {M : Type 1} → statement M
 pair-fault-spec =

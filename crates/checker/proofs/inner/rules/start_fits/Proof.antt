@@ -13,7 +13,7 @@ shared-slice-read-if2 : tie.Need-shared-slice-read-if2
 shared-slice-read-if2 c = omega (arith, c .before .before .start-pair .ensures, c .before .before .before .before .pre)
 
 returns : tie.Need-returns
-returns c = start-unmarked _ _ _ _ (c .before .before .before .start-pair .ensures) (c .before .before .if1 .taken) (c .if2 .taken)
+returns c = start-unmarked _ _ _ (c .before .before .before .start-pair .ensures) (c .before .before .if1 .taken) (c .if2 .taken)
 
 old-of-requires : tie.Need-old-of-requires
 old-of-requires c κs = omega (arith, c .before .before .before .start-pair .ensures)
@@ -25,7 +25,7 @@ fair-requires : tie.Need-fair-requires
 fair-requires c κs = search needs
 
 returns-2 : tie.Need-returns-2
-returns-2 c = start-pair _ _ _ _ (c .before .before .before .before .before .before .start-pair .ensures) (c .before .before .before .before .before .if1 .taken) (c .before .before .before .if2 .left) (c .before .before .old-of .ensures) (c .before .new-of .ensures) (c .fair .ensures)
+returns-2 c = start-pair _ _ _ (c .before .before .before .before .before .before .start-pair .ensures) (c .before .before .before .before .before .if1 .taken) (c .before .before .before .if2 .left) (c .before .before .old-of .ensures) (c .before .new-of .ensures) (c .fair .ensures)
 
 start-kept-requires : tie.Need-start-kept-requires
 start-kept-requires c κs = search needs
@@ -34,10 +34,10 @@ shared-slice-read-result : tie.Need-shared-slice-read-result
 shared-slice-read-result c = omega (arith, c .before .before .start-kept .ensures, c .before .before .before .before .before .before .pre)
 
 returns-3 : tie.Need-returns-3
-returns-3 c = start-kept _ _ _ _ (c .before .before .start-kept .ensures) (c .before .if3 .taken) refl
+returns-3 c = start-kept _ _ _ (c .before .before .start-kept .ensures) (c .before .if3 .taken) refl
 
 returns-4 : tie.Need-returns-4
-returns-4 c = start-none _ _ _ _ (c .before .before .before .start-pair .ensures) (c .before .start-kept .ensures) (c .before .before .if1 .left) (c .if3 .left)
+returns-4 c = start-none _ _ _ (c .before .before .before .start-pair .ensures) (c .before .start-kept .ensures) (c .before .before .if1 .left) (c .if3 .left)
 
 pub start-fits-spec : {M : Type 1} → statement M
 start-fits-spec =

@@ -14,10 +14,10 @@ use Rattle.checker.proofs.inner.shape.marks_fit.Statement.{statement}
 use Rattle.checker.proofs.inner.shape.marks_fit.Tie as tie
 
 abbrev Inv-loop : tie.InvT-loop
-Inv-loop old new marks p₀ p = (p ≤ 65) × (every (64 * p) (λ n. bool (markFits old new n (getD marks n 0))) ≡ true)
+Inv-loop heads marks p₀ p = (p ≤ 65) × (every (64 * p) (λ n. bool (markFits heads n (getD marks n 0))) ≡ true)
 
 abbrev μ-loop : tie.MeasureT-loop
-μ-loop old new marks p₀ p = 65 - p
+μ-loop heads marks p₀ p = 65 - p
 
 loop-holds : tie.Need-loop-holds Inv-loop μ-loop
 unfolding every

@@ -14,7 +14,7 @@ line-fits-requires : tie.Need-line-fits-requires
 line-fits-requires c κs = search needs
 
 returns : tie.Need-returns
-returns c = place-kept (c .before .before .before .before .args .old) (c .before .before .before .before .args .new) (c .before .before .before .before .args .marks .now) (c .before .before .before .before .args .p) (c .before .before .shown .result) (c .before .before .shown .ensures .1) (c .before .if1 .taken) (c .line-fits .ensures)
+returns c = place-kept (c .before .before .before .before .args .heads) (c .before .before .before .before .args .marks .now) (c .before .before .before .before .args .p) (c .before .before .shown .result) (c .before .before .shown .ensures .1) (c .before .if1 .taken) (c .line-fits .ensures)
 
 shown-requires-2 : tie.Need-shown-requires-2
 shown-requires-2 c κs = search needs
@@ -23,13 +23,13 @@ line-fits-requires-2 : tie.Need-line-fits-requires-2
 line-fits-requires-2 c κs = search needs
 
 returns-2 : tie.Need-returns-2
-returns-2 c = place-pairs (c .before .before .before .before .before .before .args .old) (c .before .before .before .before .before .before .args .new) (c .before .before .before .before .before .before .args .marks .now) (c .before .before .before .before .before .before .args .p) (c .before .before .before .before .shown .result) (c .before .before .before .before .shown .ensures .1) (c .before .before .shown2 .result) (c .before .before .before .before .before .before .pre .0) (c .before .before .before .if1 .left) (c .before .before .shown2 .ensures .1) (c .before .if2 .taken) (c .line-fits2 .ensures)
+returns-2 c = place-pairs (c .before .before .before .before .before .before .args .heads) (c .before .before .before .before .before .before .args .marks .now) (c .before .before .before .before .before .before .args .p) (c .before .before .before .before .shown .result) (c .before .before .before .before .shown .ensures .1) (c .before .before .shown2 .result) (c .before .before .before .before .before .before .pre .0) (c .before .before .before .if1 .left) (c .before .before .shown2 .ensures .1) (c .before .if2 .taken) (c .line-fits2 .ensures)
 
 blank-requires : tie.Need-blank-requires
 blank-requires c κs = search needs
 
 returns-3 : tie.Need-returns-3
-returns-3 c = place-none (c .before .before .before .before .before .before .args .old) (c .before .before .before .before .before .before .args .new) (c .before .before .before .before .before .before .args .marks .now) (c .before .before .before .before .before .before .args .p) (c .before .before .before .before .shown .result) (c .before .before .before .before .shown .ensures .1) (c .before .before .shown2 .result) (c .before .before .before .before .before .before .pre .0) (c .before .before .before .if1 .left) (c .before .before .shown2 .ensures .1) (c .before .if2 .left) (c .blank .ensures)
+returns-3 c = place-none (c .before .before .before .before .before .before .args .heads) (c .before .before .before .before .before .before .args .marks .now) (c .before .before .before .before .before .before .args .p) (c .before .before .before .before .shown .result) (c .before .before .before .before .shown .ensures .1) (c .before .before .shown2 .result) (c .before .before .before .before .before .before .pre .0) (c .before .before .before .if1 .left) (c .before .before .shown2 .ensures .1) (c .before .if2 .left) (c .blank .ensures)
 
 pub place-fits-spec : {M : Type 1} → statement M
 place-fits-spec =

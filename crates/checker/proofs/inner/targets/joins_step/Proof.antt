@@ -29,16 +29,16 @@ new-to-requires : tie.Need-new-to-requires
 new-to-requires c κs = search needs
 
 joins-requires : tie.Need-joins-requires
-joins-requires c κs = (c .before .before .before .before .before .before .before .before .before .before .before .before .before .pre .0 .marks-length, c .before .before .before .before .before .before .before .before .before .before .before .before .before .pre .0 .sets-length, row-below _ (c .before .before .before .before .before .before .before .before .before .before .before .before .before .pre .0 .new-faultless) _ _ (c .before .before .before .before .before .before .before .before .before .before .before .before .before .pre .1 .1 .1) (c .before .before .before .before .before .before .before .before .before .before .before .before .before .pre .1 .1 .2) (c .new-to .ensures), stepped-below _ _ (graphOf (c .before .before .before .before .before .before .before .before .before .before .before .before .before .args .marks .now) (c .before .before .before .before .before .before .before .before .before .before .before .before .before .args .targets .now) (c .before .before .before .before .before .before .before .before .before .before .before .before .before .args .sets .now)) _ _ _ 0 (c .before .before .before .before .before .before .old-of .ensures) (c .before .before .before .before .step .ensures) _ (c .before .before .before .before .before .before .before .before .before .before .before .before .before .pre .0 .old-faultless) (c .before .before .before .before .before .before .before .before .before .before .before .before .before .pre .1 .1 .0) (ap stepTold (c .before .before .h .given .1)))
+joins-requires c κs = (c .before .before .before .before .before .before .before .before .before .before .before .before .before .pre .0 .marks-length, c .before .before .before .before .before .before .before .before .before .before .before .before .before .pre .0 .sets-length, row-below _ (c .before .before .before .before .before .before .before .before .before .before .before .before .before .pre .0 .new-faultless) _ _ (c .before .before .before .before .before .before .before .before .before .before .before .before .before .pre .1 .1 .1) (c .before .before .before .before .before .before .before .before .before .before .before .before .before .pre .1 .1 .2) (c .new-to .ensures), stepped-below _ (graphOf (c .before .before .before .before .before .before .before .before .before .before .before .before .before .args .marks .now) (c .before .before .before .before .before .before .before .before .before .before .before .before .before .args .targets .now) (c .before .before .before .before .before .before .before .before .before .before .before .before .before .args .sets .now)) _ _ _ 0 (c .before .before .before .before .before .before .old-of .ensures) (c .before .before .before .before .step .ensures) _ (c .before .before .before .before .before .before .before .before .before .before .before .before .before .pre .0 .old-faultless) (c .before .before .before .before .before .before .before .before .before .before .before .before .before .pre .1 .1 .0) (ap stepTold (c .before .before .h .given .1)))
 
 enum-told : tie.Need-enum-told
 enum-told c = search needs
 
 returns : tie.Need-returns
-returns c = joins-stepped _ _ (graphOf (c .before .before .before .before .before .before .before .before .before .before .before .before .before .before .args .marks .now) (c .before .before .before .before .before .before .before .before .before .before .before .before .before .before .args .targets .now) (c .before .before .before .before .before .before .before .before .before .before .before .before .before .before .args .sets .now)) _ _ _ _ (c .before .before .before .before .before .before .before .old-of .ensures) (c .before .before .before .before .before .step .ensures) _ (ap stepTold (c .before .before .before .h .given .1)) (c .before .new-to .ensures) (c .joins .ensures)
+returns c = joins-stepped _ (graphOf (c .before .before .before .before .before .before .before .before .before .before .before .before .before .before .args .marks .now) (c .before .before .before .before .before .before .before .before .before .before .before .before .before .before .args .targets .now) (c .before .before .before .before .before .before .before .before .before .before .before .before .before .before .args .sets .now)) _ _ _ _ (c .before .before .before .before .before .before .before .old-of .ensures) (c .before .before .before .before .before .step .ensures) _ (ap stepTold (c .before .before .before .h .given .1)) (c .before .new-to .ensures) (c .joins .ensures)
 
 returns-2 : tie.Need-returns-2
-returns-2 c = joins-failed _ _ (graphOf (c .before .before .before .before .before .before .before .before .before .before .before .args .marks .now) (c .before .before .before .before .before .before .before .before .before .before .before .args .targets .now) (c .before .before .before .before .before .before .before .before .before .before .before .args .sets .now)) _ _ _ _ (c .before .before .before .before .old-of .ensures) (c .before .before .step .ensures) (ap stepTold (c .enum-told .given .1))
+returns-2 c = joins-failed _ (graphOf (c .before .before .before .before .before .before .before .before .before .before .before .args .marks .now) (c .before .before .before .before .before .before .before .before .before .before .before .args .targets .now) (c .before .before .before .before .before .before .before .before .before .before .before .args .sets .now)) _ _ _ _ (c .before .before .before .before .old-of .ensures) (c .before .before .step .ensures) (ap stepTold (c .enum-told .given .1))
 
 pub joins-step-spec : {M : Type 1} → statement M
 joins-step-spec =

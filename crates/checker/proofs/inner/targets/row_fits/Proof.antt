@@ -28,13 +28,13 @@ leads-requires : tie.Need-leads-requires
 leads-requires c κs = (c .before .before .before .before .before .before .before .pre .0, (c .before .before .before .before .before .before .before .pre .1 .0, (c .before .before .before .before .before .before .before .pre .1 .1 .0, c .before .before .before .before .before .before .before .pre .1 .1 .1, c .before .before .before .before .before .before .before .pre .1 .1 .2)))
 
 returns : tie.Need-returns
-returns c = row-astray _ _ (graphOf _ _ _) _ _ _ (c .before .leads .ensures) (not-true _ (c .if1 .taken))
+returns c = row-astray _ (graphOf _ _ _) _ _ _ (c .before .leads .ensures) (not-true _ (c .if1 .taken))
 
 ranked-requires : tie.Need-ranked-requires
 ranked-requires c κs = (c .before .before .before .before .before .before .before .before .before .pre .0 .marks-length, c .before .before .before .before .before .before .before .before .before .pre .1 .1 .0, fits-at _ _ (c .before .before .before .before .before .before .before .before .before .pre .0 .targets-fit) (omega arith))
 
 returns-2 : tie.Need-returns-2
-returns-2 c = row-ranked _ _ (graphOf _ _ _) _ _ _ (c .before .before .leads .ensures) (not-false _ (c .before .if1 .left)) (c .ranked .ensures)
+returns-2 c = row-ranked _ (graphOf _ _ _) _ _ _ (c .before .before .leads .ensures) (not-false _ (c .before .if1 .left)) (c .ranked .ensures)
 
 pub row-fits-spec : {M : Type 1} → statement M
 row-fits-spec =

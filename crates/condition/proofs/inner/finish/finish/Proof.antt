@@ -28,7 +28,7 @@ same-length-4 : tie.Need-same-length-4
 same-length-4 c = search needs
 
 returns : tie.Need-returns
-returns c = (search finish-alone, summed-alone _ _ _ (c .before .before .before .before .before .before .before .before .before .before .before .before .before .before .before .is-alone .ensures) (c .before .before .before .before .before .before .before .before .before .before .before .before .before .before .if1 .taken) (c .start-kept .ensures) (c .before .before .before .before .before .before .before .before .before .leave-alone .ensures))
+returns c = (search finish-alone, summed-alone _ _ (c .before .before .before .before .before .before .before .before .before .before .before .before .before .before .before .is-alone .ensures) (c .before .before .before .before .before .before .before .before .before .before .before .before .before .before .if1 .taken) (c .start-kept .ensures) (c .before .before .before .before .before .before .before .before .before .leave-alone .ensures))
 
 start-pair-requires : tie.Need-start-pair-requires
 start-pair-requires c κs = search needs
@@ -61,7 +61,7 @@ same-length-6 : tie.Need-same-length-6
 same-length-6 c = search needs
 
 returns-2 : tie.Need-returns-2
-returns-2 c = (search finish-joint, summed-joint _ _ _ (c .before .before .before .before .before .before .before .before .before .before .before .before .before .before .before .before .is-alone .ensures) _ _ (c .before .before .before .before .before .before .before .before .before .before .before .before .before .before .before .if1 .left) (c .before .before .before .before .before .before .before .before .before .before .before .before .before .before .start-pair .ensures) (c .before .before .before .before .before .before .before .before .before .before .before .before .before .before .before .before .before .before .before .before .before .before .before .pre .0 .marks) (c .before .before .before .before .before .before .before .before .before .redirect-kept .kept .1 .0 ∙ c .before .before .before .before .before .before .before .before .before .before .before .before .before .before .before .before .before .before .before .before .before .before .before .pre .0 .targets) (c .before .before .before .before .rank .ensures) (c .count-row .ensures))
+returns-2 c = (search finish-joint, summed-joint _ _ (c .before .before .before .before .before .before .before .before .before .before .before .before .before .before .before .before .is-alone .ensures) _ _ (c .before .before .before .before .before .before .before .before .before .before .before .before .before .before .before .if1 .left) (c .before .before .before .before .before .before .before .before .before .before .before .before .before .before .start-pair .ensures) (c .before .before .before .before .before .before .before .before .before .before .before .before .before .before .before .before .before .before .before .before .before .before .before .pre .0 .marks) (c .before .before .before .before .before .before .before .before .before .redirect-kept .kept .1 .0 ∙ c .before .before .before .before .before .before .before .before .before .before .before .before .before .before .before .before .before .before .before .before .before .before .before .pre .0 .targets) (c .before .before .before .before .rank .ensures) (c .count-row .ensures))
 
 pub finish-spec : {M : Type 1} → statement M
 finish-spec =

@@ -1,6 +1,6 @@
 -- `detector::inner::turns::turn` meets its contract. The invariant: the rows before r are done. Assumes nothing.
 use Prim.Native.Nat.{_-_}
-use Rattle.chart.specs.Charts.{charted}
+use Rattle.chart.specs.Compared.{compared}
 use Rattle.graph.specs.Buffers.{buffers}
 use Rattle.detector.proofs.Rows.{Turning, turn-begins, turn-row, turn-done, unwait-sized, unwait-kept-up}
 use native.Mathlib.Omega.{arith}
@@ -9,11 +9,11 @@ use Rattle.detector.proofs.inner.turns.turn.Statement.{statement}
 use Rattle.detector.proofs.inner.turns.turn.Tie as tie
 
 abbrev Inv-loop : tie.InvT-loop
-Inv-loop old old-rows new new-rows index marks₀ targets₀ sets₀ waiting₀ waits₀ seen₀ n v₀ r₀ marks targets sets waiting waits seen v r =
-    Turning (charted old old-rows) (charted new new-rows) (buffers marks₀ targets₀ sets₀ waiting₀) n r v (buffers marks targets sets waiting) waits seen
+Inv-loop heads old-rows new-rows index marks₀ targets₀ sets₀ waiting₀ waits₀ seen₀ n v₀ r₀ marks targets sets waiting waits seen v r =
+    Turning (compared heads old-rows new-rows) (buffers marks₀ targets₀ sets₀ waiting₀) n r v (buffers marks targets sets waiting) waits seen
 
 abbrev μ-loop : tie.MeasureT-loop
-μ-loop old old-rows new new-rows index marks₀ targets₀ sets₀ waiting₀ waits₀ seen₀ n v₀ r₀ marks targets sets waiting waits seen v r = 2 - r
+μ-loop heads old-rows new-rows index marks₀ targets₀ sets₀ waiting₀ waits₀ seen₀ n v₀ r₀ marks targets sets waiting waits seen v r = 2 - r
 
 mul-v : tie.Need-mul-v Inv-loop μ-loop
 mul-v c = search needs
@@ -28,7 +28,7 @@ remove-requires : tie.Need-remove-requires Inv-loop μ-loop
 remove-requires c κs = search needs
 
 loop-holds : tie.Need-loop-holds Inv-loop μ-loop
-loop-holds c = turn-begins _ _ _ _ (unwait-sized _ (c .before .before .before .before .before .before .before .before .before .before .before .before .before .before .before .before .before .pre .1 .1 .1 .1 .0) (c .before .before .before .before .before .before .put8 .ensures)) (unwait-kept-up _ (c .before .before .before .before .before .before .before .before .before .before .before .before .before .before .before .before .before .pre .1 .1 .1 .0) (c .before .before .before .before .before .before .before .before .before .before .before .before .before .before .before .before .before .pre .1 .1 .1 .1 .0) (c .before .before .before .before .before .before .before .before .before .before .before .before .before .before .before .before .before .pre .1 .1 .1 .1 .1) (c .before .before .before .before .before .before .put8 .ensures) (c .before .before .remove .ensures))
+loop-holds c = turn-begins _ _ _ (unwait-sized _ (c .before .before .before .before .before .before .before .before .before .before .before .before .before .before .before .before .before .pre .1 .1 .1 .1 .0) (c .before .before .before .before .before .before .put8 .ensures)) (unwait-kept-up _ (c .before .before .before .before .before .before .before .before .before .before .before .before .before .before .before .before .before .pre .1 .1 .1 .0) (c .before .before .before .before .before .before .before .before .before .before .before .before .before .before .before .before .before .pre .1 .1 .1 .1 .0) (c .before .before .before .before .before .before .before .before .before .before .before .before .before .before .before .before .before .pre .1 .1 .1 .1 .1) (c .before .before .before .before .before .before .put8 .ensures) (c .before .before .remove .ensures))
 
 set-now-requires : tie.Need-set-now-requires Inv-loop μ-loop
 set-now-requires c κs = search (needs, c .before .before .before .loop .inv .sized)
@@ -43,7 +43,7 @@ loop-less : tie.Need-loop-less Inv-loop μ-loop
 loop-less c = omega arith
 
 loop-again : tie.Need-loop-again Inv-loop μ-loop
-loop-again c = turn-row _ _ _ _ _ (c .before .before .before .before .before .before .before .before .before .before .before .before .before .before .before .before .before .before .before .before .before .before .before .loop .inv) (c .before .before .before .before .before .before .before .before .before .before .before .before .before .before .before .before .before .before .before .before .before .before .loop-test .taken) (c .before .before .before .before .before .before .before .before .before .before .before .before .before .before .before .before .before .before .before .set-now .ensures) (c .before .before .before .before .before .before .before .before .before .before .before .before .row .ensures) (record { marks = search needs; targets = search needs; sets = search needs; waiting = search needs })
+loop-again c = turn-row _ _ _ _ (c .before .before .before .before .before .before .before .before .before .before .before .before .before .before .before .before .before .before .before .before .before .before .before .loop .inv) (c .before .before .before .before .before .before .before .before .before .before .before .before .before .before .before .before .before .before .before .before .before .before .loop-test .taken) (c .before .before .before .before .before .before .before .before .before .before .before .before .before .before .before .before .before .before .before .set-now .ensures) (c .before .before .before .before .before .before .before .before .before .before .before .before .row .ensures) (record { marks = search needs; targets = search needs; sets = search needs; waiting = search needs })
 
 same-length : tie.Need-same-length Inv-loop μ-loop
 same-length c = search needs
@@ -64,7 +64,7 @@ same-length-6 : tie.Need-same-length-6 Inv-loop μ-loop
 same-length-6 c = search needs
 
 returns : tie.Need-returns Inv-loop μ-loop
-returns c = turn-done _ _ _ _ _ _ _ (c .before .before .before .before .before .before .before .before .put8 .ensures) (c .before .loop .inv) (c .loop-test .left)
+returns c = turn-done _ _ _ _ _ _ (c .before .before .before .before .before .before .before .before .put8 .ensures) (c .before .loop .inv) (c .loop-test .left)
 
 pub turn-spec : {M : Type 1} → statement M
 turn-spec =

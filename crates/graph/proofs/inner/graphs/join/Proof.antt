@@ -32,7 +32,7 @@ returns c =
     let b = M .is-marked .ensures in
     let h = c .before .holds-all .ensures in
     let l = M .before .before .slice-known5 .given (A .n / 64) in
-    let seen = held-seen (A .old .alarm) (A .marks .now) (A .sets .now) (A .n) (A .v) b h (c .if1 .taken) (A .seen .now) (omega (arith, l)) (S .pre .1 .1) in
+    let seen = held-seen (A .alarm .0) (A .marks .now) (A .sets .now) (A .n) (A .v) b h (c .if1 .taken) (A .seen .now) (omega (arith, l)) (S .pre .1 .1) in
     ((search held-listed, seen), search held-join)
 
 add-requires : tie.Need-add-requires
@@ -75,7 +75,7 @@ returns-2 c =
     let E = I .before .before .before .before .before .before .before .before .before .before in
     let M = E .before .before .before .before .before .before .before in
     let A = M .before .before .before .before .before .before .before .args in
-    due-is (A .old .alarm) (A .marks .now) (A .sets .now) (A .n) (A .v) (M .is-marked .ensures) (E .before .holds-all .ensures) (E .if1 .left) (I .before .old-of .ensures) (I .is .ensures)
+    due-is (A .alarm .0) (A .marks .now) (A .sets .now) (A .n) (A .v) (M .is-marked .ensures) (E .before .holds-all .ensures) (E .if1 .left) (I .before .old-of .ensures) (I .is .ensures)
     in
     ((search listed-yes, search needs), search join-yes)
 
@@ -95,7 +95,7 @@ returns-3 c =
     let E = I .before .before .before .before .before .before .before .before .before .before in
     let M = E .before .before .before .before .before .before .before in
     let A = M .before .before .before .before .before .before .before .args in
-    due-is (A .old .alarm) (A .marks .now) (A .sets .now) (A .n) (A .v) (M .is-marked .ensures) (E .before .holds-all .ensures) (E .if1 .left) (I .before .old-of .ensures) (I .is .ensures)
+    due-is (A .alarm .0) (A .marks .now) (A .sets .now) (A .n) (A .v) (M .is-marked .ensures) (E .before .holds-all .ensures) (E .if1 .left) (I .before .old-of .ensures) (I .is .ensures)
     in
     ((search listed-no, search needs), search join-no)
 

@@ -15,8 +15,8 @@ Inv-loop marks₀ targets₀ sets₀ waiting₀ seen k p₀ marks targets sets w
 abbrev μ-loop : tie.MeasureT-loop
 μ-loop marks₀ targets₀ sets₀ waiting₀ seen k p₀ marks targets sets waiting p = 64 - p
 
-pair-requires : tie.Need-pair-requires Inv-loop μ-loop
-pair-requires c κs = search needs
+cast-k : tie.Need-cast-k Inv-loop μ-loop
+cast-k c = search needs
 
 gathered-requires : tie.Need-gathered-requires Inv-loop μ-loop
 gathered-requires c κs = search needs
@@ -31,7 +31,7 @@ meets-requires : tie.Need-meets-requires Inv-loop μ-loop
 meets-requires c κs = search needs
 
 returns : tie.Need-returns Inv-loop μ-loop
-returns c = left-none (c .before .before .before .before .before .before .before .before .before .before .pre .1 .1) (omega (arith, c .before .before .before .before .pair .ensures)) (c .before .before .before .gathered .ensures) (c .before .before .alone .ensures) (c .before .meets .ensures) (not-true _ (c .if1 .taken))
+returns c = left-none (c .before .before .before .before .before .before .before .before .before .before .pre .1 .1) (omega arith) (c .before .before .before .gathered .ensures) (c .before .before .alone .ensures) (c .before .meets .ensures) (not-true _ (c .if1 .taken))
 
 loop-holds : tie.Need-loop-holds Inv-loop μ-loop
 loop-holds c = going-none _ _
@@ -58,9 +58,8 @@ loop-again : tie.Need-loop-again Inv-loop μ-loop
 loop-again c =
     let I = c .before .before .before .loop .inv in
     let P = c .before .before .before .before .before .before .before .before .before .before .before .before .before .before .pre in
-    let k = c .before .before .before .before .before .before .before .before .pair .ensures in
-    ⊎-elim (λ w. going-same (going-seen I (P .1 .0) (omega (arith, k, P .0)) (search needs) (omega (arith, k)) (w .5 .ensures)) (w .14) (w .15) (w .16) (w .17))
-    (λ w. going-same (going-unseen I (P .1 .0) (omega (arith, k, P .0)) (search needs) (omega (arith, k)) (P .1 .1) (c .before .has .ensures) (w .0 .left)) (w .1) (w .2) (w .3) (w .4))
+    ⊎-elim (λ w. going-same (going-seen I (P .1 .0) (P .0) (search needs) (omega arith) (w .5 .ensures)) (w .14) (w .15) (w .16) (w .17))
+    (λ w. going-same (going-unseen I (P .1 .0) (P .0) (search needs) (omega arith) (P .1 .1) (c .before .has .ensures) (w .0 .left)) (w .1) (w .2) (w .3) (w .4))
     (c .if2 .came)
 
 same-length : tie.Need-same-length Inv-loop μ-loop
@@ -76,7 +75,7 @@ same-length-4 : tie.Need-same-length-4 Inv-loop μ-loop
 same-length-4 c = search needs
 
 returns-2 : tie.Need-returns-2 Inv-loop μ-loop
-returns-2 c = left-all (omega (arith, c .before .before .before .before .before .before .pair .ensures)) (c .before .loop .inv) (search needs)
+returns-2 c = left-all (omega arith) (c .before .loop .inv) (search needs)
 
 pub leave-all-spec : {M : Type 1} → statement M
 leave-all-spec =
@@ -84,7 +83,7 @@ leave-all-spec =
     (tie.spec
     Inv-loop
     μ-loop
-    pair-requires
+    cast-k
     gathered-requires
     cast-alone
     alone-requires
