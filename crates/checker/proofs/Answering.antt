@@ -1,6 +1,7 @@
 -- The refusal that is due, step by step, as the code comes upon it. Assumes nothing.
 use mathlib.Core.Path.{_≡_, refl, sym, ap, _∙_}
 use mathlib.Core.Bool.{Bool, true, false}
+use mathlib.Core.List.{List}
 use mathlib.Core.Option.{Option, none, some, Option·none-ne-some, Option·some-injective}
 use Prim.Native.Nat.{ℕ}
 use Rattle.base.specs.Options.{firstOf}
@@ -21,6 +22,7 @@ use Rattle.checker.specs.inner.Admitted.{Admitted}
 use Rattle.checker.specs.Checks.{told, sized, ruleAt, pairFault, broken, ruleFault, recordFault, refusal}
 use Rattle.checker.specs.Promise.{Promise}
 use Rattle.checker.proofs.Demand3.{demand-3-first}
+use Rattle.chart.specs.inner.Prepared.{Prepared}
 use Rattle.chart.specs.Compared.{Compared, headsOf}
 
 -- answers that say the same are the same
@@ -52,12 +54,11 @@ module _ (X : Compared) (R : Record) where
     rules-judged u h = rw (sym e ∙ u) (ap ruleAt h)
 
     -- what the rules are judged upon
-    pub admitted : b ≡ true → FaultlessChart (X .old) → FaultlessChart (X .new) → Says (sized (R .graph)) → Admitted X (R .graph)
+    pub admitted : {index : List ℕ} → b ≡ true → Prepared X index → Says (sized (R .graph)) → Admitted X index (R .graph)
     unfolding shaped
-    admitted u F H z =
+    admitted u P z =
         record {
-          old-faultless = F;
-          new-faultless = H;
+          prepared = P;
           marks-length = z .0;
           targets-length = z .1 .0;
           sets-length = z .1 .1;

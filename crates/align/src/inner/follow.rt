@@ -6,8 +6,7 @@ ghost use Prim.Native.Nat.{_<_};
 ghost use Rattle.operations.specs.Operations.{operandsFit};
 ghost use Rattle.chart.specs.Charts.{size, operation};
 ghost use Rattle.chart.specs.Compared.{compared};
-ghost use Rattle.chart.specs.Faultless.{FaultlessChart};
-ghost use Rattle.chart.specs.inner.Index.{Indexed};
+ghost use Rattle.chart.specs.inner.Prepared.{Prepared};
 ghost use Rattle.align.specs.Steps.{along, onward, followed};
 ghost use Rattle.align.specs.inner.Told.{toldOnward, toldFollowed};
 use crate::inner::seek;
@@ -42,8 +41,7 @@ fn onward<'a>(
     index: &[u8; 130],
     h: Spot,
 ) -> Onward
-    requires { ⌜ FaultlessChart (compared heads (now «old_rows») (now «new_rows») .old) ⌝ }
-    requires { ⌜ Indexed (now «old_rows») (now «new_rows») (now index) ⌝ }
+    requires { ⌜ Prepared (compared heads (now «old_rows») (now «new_rows»)) (now index) ⌝ }
     requires { ⌜ h .place .0 < 64 ⌝ }
     ensures { λ r. ⌜ toldOnward r ≡ onward (compared heads (now («old_rows» .entry)) (now («new_rows» .entry))) h ⌝ }
 {
@@ -66,8 +64,7 @@ pub fn follow<'a>(
     index: &[u8; 130],
     h: Spot,
 ) -> Followed
-    requires { ⌜ FaultlessChart (compared heads (now «old_rows») (now «new_rows») .old) ⌝ }
-    requires { ⌜ Indexed (now «old_rows») (now «new_rows») (now index) ⌝ }
+    requires { ⌜ Prepared (compared heads (now «old_rows») (now «new_rows»)) (now index) ⌝ }
     requires { ⌜ h .place .0 < 64 ⌝ }
     ensures { λ r. ⌜ toldFollowed r
         ≡ followed (compared heads (now («old_rows» .entry)) (now («new_rows» .entry))) h ⌝ }

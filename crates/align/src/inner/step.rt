@@ -6,8 +6,7 @@ ghost use Rattle.base.specs.Says.{bool};
 ghost use Rattle.operations.specs.Operations.{isKnown, isAssignment, isAssumption, same, operandsFit};
 ghost use Rattle.chart.specs.Charts.{size, to, operation};
 ghost use Rattle.chart.specs.Compared.{compared};
-ghost use Rattle.chart.specs.Faultless.{FaultlessChart};
-ghost use Rattle.chart.specs.inner.Index.{Indexed};
+ghost use Rattle.chart.specs.inner.Prepared.{Prepared};
 ghost use Rattle.align.specs.Steps.{find, rewritten, assigned, matched, counterpart, assumed, moved, fair, arrived, rowsAt, step};
 ghost use Rattle.align.specs.inner.Told.{told};
 use crate::inner::follow::follow;
@@ -53,8 +52,7 @@ fn assigned<'a>(
     part: &'a [u32],
     j: usize,
 ) -> Spot
-    requires { ⌜ FaultlessChart (compared heads (now «old_rows») (now «new_rows») .old) ⌝ }
-    requires { ⌜ Indexed (now «old_rows») (now «new_rows») (now index) ⌝ }
+    requires { ⌜ Prepared (compared heads (now «old_rows») (now «new_rows»)) (now index) ⌝ }
     requires { ⌜ h .place .0 < 64 ⌝ }
     requires { ⌜ (j < size (now part)) × (isAssignment (operation (now part) j) ≡ true)
         × (operandsFit (operation (now part) j) ≡ true) ⌝ }
@@ -106,8 +104,7 @@ fn assumed<'a>(
     part: &'a [u32],
     j: usize,
 ) -> Aligned
-    requires { ⌜ FaultlessChart (compared heads (now «old_rows») (now «new_rows») .old) ⌝ }
-    requires { ⌜ Indexed (now «old_rows») (now «new_rows») (now index) ⌝ }
+    requires { ⌜ Prepared (compared heads (now «old_rows») (now «new_rows»)) (now index) ⌝ }
     requires { ⌜ h .place .0 < 64 ⌝ }
     requires { ⌜ (j < size (now part)) × (isAssumption (operation (now part) j) ≡ true)
         × (operandsFit (operation (now part) j) ≡ true) ⌝ }
@@ -137,8 +134,7 @@ fn moved<'a>(
     part: &'a [u32],
     j: usize,
 ) -> Aligned
-    requires { ⌜ FaultlessChart (compared heads (now «old_rows») (now «new_rows») .old) ⌝ }
-    requires { ⌜ Indexed (now «old_rows») (now «new_rows») (now index) ⌝ }
+    requires { ⌜ Prepared (compared heads (now «old_rows») (now «new_rows»)) (now index) ⌝ }
     requires { ⌜ h .place .0 < 64 ⌝ }
     requires { ⌜ (j < size (now part)) × (isKnown (operation (now part) j) ≡ true)
         × (operandsFit (operation (now part) j) ≡ true) ⌝ }
@@ -192,8 +188,7 @@ pub fn step<'a>(
     part: &'a [u32],
     j: usize,
 ) -> Aligned
-    requires { ⌜ FaultlessChart (compared (record { old = old; new = new }) (now «old_rows») (now «new_rows») .old) ⌝ }
-    requires { ⌜ Indexed (now «old_rows») (now «new_rows») (now index) ⌝ }
+    requires { ⌜ Prepared (compared (record { old = old; new = new }) (now «old_rows») (now «new_rows»)) (now index) ⌝ }
     requires { ⌜ p .0 < 64 ⌝ }
     requires { ⌜ (j < size (now part)) × (isKnown (operation (now part) j) ≡ true)
         × (operandsFit (operation (now part) j) ≡ true) ⌝ }

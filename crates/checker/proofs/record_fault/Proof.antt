@@ -23,7 +23,9 @@ index-requires : tie.Need-index-requires
 index-requires c κs = (indexable _ (c .before .before .before .before .before .before .before .pre .0), indexable _ (c .before .before .before .before .before .before .before .pre .1 .0))
 
 broken-requires : tie.Need-broken-requires
-broken-requires c κs = (admitted _ (recordOf _ _ _ _) (c .before .before .before .shaped .ensures) (not-false _ (c .before .before .if1 .left)) (c .before .before .before .before .before .before .before .before .before .pre .0) (c .before .before .before .before .before .before .before .before .before .pre .1 .0) (c .before .before .before .before .before .before .before .before .before .pre .1 .1), c .before .index .ensures)
+broken-requires c κs =
+    let p = c .before .before .before .before .before .before .before .before .before .pre in
+    admitted _ (recordOf _ _ _ _) (c .before .before .before .shaped .ensures) (not-false _ (c .before .before .if1 .left)) (record { old = p .0; new = p .1 .0; indexed = c .before .index .ensures }) (p .1 .1)
 
 enum-known-position : tie.Need-enum-known-position
 enum-known-position c = search needs

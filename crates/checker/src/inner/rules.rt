@@ -6,7 +6,6 @@ ghost use Rattle.base.specs.Options.{missing, firstOf};
 ghost use Rattle.base.specs.Says.{bool};
 ghost use Rattle.chart.specs.Compared.{compared};
 ghost use Rattle.chart.specs.Charts.{leaving};
-ghost use Rattle.chart.specs.inner.Index.{Indexed};
 ghost use Rattle.chart.specs.Places.{newOf};
 ghost use Rattle.base.specs.inner.Found.{toldFound};
 ghost use Rattle.records.specs.Records.{graphOf, recordOf};
@@ -68,9 +67,8 @@ fn target_fault<'a>(
     rows: &'a [u32],
     k: usize,
 ) -> Found
-    requires { ⌜ Admitted (compared heads (now «old_rows») (now «new_rows»))
+    requires { ⌜ Admitted (compared heads (now «old_rows») (now «new_rows»)) (now index)
         (graphOf (now marks) (now targets) (now sets)) ⌝ }
-    requires { ⌜ Indexed (now «old_rows») (now «new_rows») (now index) ⌝ }
     requires { ⌜ (m < 4096) × (now rows ≡ leaving (now «new_rows») (newOf m .0)) × (k < 2) ⌝ }
     ensures { λ r. ⌜ toldFound r ≡ targetFault (compared heads (now («old_rows» .entry)) (now («new_rows» .entry)))
         (graphOf (now (marks .entry)) (now (targets .entry)) (now (sets .entry))) m (now (rows .entry)) k ⌝ }
@@ -109,9 +107,8 @@ fn rows_fault<'a>(
     m: usize,
     rows: &'a [u32],
 ) -> Found
-    requires { ⌜ Admitted (compared heads (now «old_rows») (now «new_rows»))
+    requires { ⌜ Admitted (compared heads (now «old_rows») (now «new_rows»)) (now index)
         (graphOf (now marks) (now targets) (now sets)) ⌝ }
-    requires { ⌜ Indexed (now «old_rows») (now «new_rows») (now index) ⌝ }
     requires { ⌜ (m < 4096) × (now rows ≡ leaving (now «new_rows») (newOf m .0)) ⌝ }
     ensures { λ r. ⌜ toldFound r ≡ rowsFault (compared heads (now («old_rows» .entry)) (now («new_rows» .entry)))
         (graphOf (now (marks .entry)) (now (targets .entry)) (now (sets .entry))) m (now (rows .entry)) ⌝ }
@@ -149,9 +146,8 @@ fn pair_fault<'a>(
     sets: &[u64],
     m: usize,
 ) -> Found
-    requires { ⌜ Admitted (compared heads (now «old_rows») (now «new_rows»))
+    requires { ⌜ Admitted (compared heads (now «old_rows») (now «new_rows»)) (now index)
         (graphOf (now marks) (now targets) (now sets)) ⌝ }
-    requires { ⌜ Indexed (now «old_rows») (now «new_rows») (now index) ⌝ }
     requires { ⌜ m < 4096 ⌝ }
     ensures { λ r. ⌜ toldFound r ≡ pairFault (compared heads (now («old_rows» .entry)) (now («new_rows» .entry)))
         (graphOf (now (marks .entry)) (now (targets .entry)) (now (sets .entry))) m ⌝ }
@@ -249,9 +245,8 @@ fn first_fault<'a>(
     targets: &[u16],
     sets: &[u64],
 ) -> Found
-    requires { ⌜ Admitted (compared heads (now «old_rows») (now «new_rows»))
+    requires { ⌜ Admitted (compared heads (now «old_rows») (now «new_rows»)) (now index)
         (graphOf (now marks) (now targets) (now sets)) ⌝ }
-    requires { ⌜ Indexed (now «old_rows») (now «new_rows») (now index) ⌝ }
     ensures { λ r. ⌜ toldFound r ≡ firstOf 4096 (pairFault (compared heads (now («old_rows» .entry)) (now («new_rows» .entry)))
         (graphOf (now (marks .entry)) (now (targets .entry)) (now (sets .entry)))) ⌝ }
 {
@@ -277,9 +272,8 @@ pub fn broken<'a>(
     targets: &[u16],
     sets: &[u64],
 ) -> Found
-    requires { ⌜ Admitted (compared heads (now «old_rows») (now «new_rows»))
+    requires { ⌜ Admitted (compared heads (now «old_rows») (now «new_rows»)) (now index)
         (graphOf (now marks) (now targets) (now sets)) ⌝ }
-    requires { ⌜ Indexed (now «old_rows») (now «new_rows») (now index) ⌝ }
     ensures { λ r. ⌜ toldFound r ≡ broken (compared heads (now («old_rows» .entry)) (now («new_rows» .entry)))
         (recordOf start (now (marks .entry)) (now (targets .entry)) (now (sets .entry))) ⌝ }
 {

@@ -7,7 +7,6 @@ ghost use Rattle.base.specs.Says.{bool, Says};
 ghost use Rattle.base.specs.Tests.{within};
 ghost use Rattle.chart.specs.Compared.{compared};
 ghost use Rattle.chart.specs.Charts.{size, to, operation, leaving};
-ghost use Rattle.chart.specs.inner.Index.{Indexed};
 ghost use Rattle.chart.specs.Places.{newOf};
 ghost use Rattle.align.specs.Steps.{step};
 ghost use Rattle.records.specs.Records.{graphOf};
@@ -108,9 +107,8 @@ fn joins_step<'a>(
     k: usize,
     t: usize,
 ) -> bool
-    requires { ⌜ Admitted (compared heads (now «old_rows») (now «new_rows»))
+    requires { ⌜ Admitted (compared heads (now «old_rows») (now «new_rows»)) (now index)
         (graphOf (now marks) (now targets) (now sets)) ⌝ }
-    requires { ⌜ Indexed (now «old_rows») (now «new_rows») (now index) ⌝ }
     requires { ⌜ (m < 4096) × (now rows ≡ leaving (now «new_rows») (newOf m .0)) × (k < size (now rows)) ⌝ }
     ensures { λ r. ⌜ r ≡ joinsStep (now (marks .entry)) (now (sets .entry)) (record { 0 = to (now (rows .entry)) k }) t
         (step (compared heads (now («old_rows» .entry)) (now («new_rows» .entry)))
@@ -147,9 +145,8 @@ fn leads<'a>(
     k: usize,
     t: usize,
 ) -> bool
-    requires { ⌜ Admitted (compared heads (now «old_rows») (now «new_rows»))
+    requires { ⌜ Admitted (compared heads (now «old_rows») (now «new_rows»)) (now index)
         (graphOf (now marks) (now targets) (now sets)) ⌝ }
-    requires { ⌜ Indexed (now «old_rows») (now «new_rows») (now index) ⌝ }
     requires { ⌜ (m < 4096) × (now rows ≡ leaving (now «new_rows») (newOf m .0)) × (k < size (now rows)) ⌝ }
     ensures { λ r. ⌜ r ≡ bool (leads (compared heads (now («old_rows» .entry)) (now («new_rows» .entry)))
         (graphOf (now (marks .entry)) (now (targets .entry)) (now (sets .entry))) m (operation (now (rows .entry)) k)
@@ -191,9 +188,8 @@ pub fn row_fits<'a>(
     rows: &'a [u32],
     k: usize,
 ) -> bool
-    requires { ⌜ Admitted (compared heads (now «old_rows») (now «new_rows»))
+    requires { ⌜ Admitted (compared heads (now «old_rows») (now «new_rows»)) (now index)
         (graphOf (now marks) (now targets) (now sets)) ⌝ }
-    requires { ⌜ Indexed (now «old_rows») (now «new_rows») (now index) ⌝ }
     requires { ⌜ (m < 4096) × (now rows ≡ leaving (now «new_rows») (newOf m .0)) × (k < size (now rows)) × (k < 2) ⌝ }
     ensures { λ r. ⌜ r ≡ bool (rowFits (compared heads (now («old_rows» .entry)) (now («new_rows» .entry)))
         (graphOf (now (marks .entry)) (now (targets .entry)) (now (sets .entry))) m (now (rows .entry)) k) ⌝ }

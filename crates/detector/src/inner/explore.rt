@@ -4,8 +4,7 @@ ghost use mathlib.Core.List.{List};
 ghost use Prim.Native.Nat.{ℕ};
 ghost use lib.ListN.{length};
 ghost use Rattle.chart.specs.Compared.{compared};
-ghost use Rattle.chart.specs.Faultless.{FaultlessChart};
-ghost use Rattle.chart.specs.inner.Index.{Indexed};
+ghost use Rattle.chart.specs.inner.Prepared.{Prepared};
 ghost use Rattle.chart.specs.Places.{startPair, startKept};
 ghost use Rattle.graph.specs.Buffers.{buffers};
 ghost use Rattle.graph.specs.inner.Sized.{Sized};
@@ -46,9 +45,7 @@ pub fn explore<'a>(
     waiting: &mut [u8],
     seen: &mut [u64],
 )
-    requires { ⌜ FaultlessChart (compared heads (now «old_rows») (now «new_rows») .old) ⌝ }
-    requires { ⌜ FaultlessChart (compared heads (now «old_rows») (now «new_rows») .new) ⌝ }
-    requires { ⌜ Indexed (now «old_rows») (now «new_rows») (now index) ⌝ }
+    requires { ⌜ Prepared (compared heads (now «old_rows») (now «new_rows»)) (now index) ⌝ }
     requires { ⌜ Sized (buffers (now marks) (now targets) (now sets) (now waiting)) × (length (now seen) ≡ 64) ⌝ }
     ensures { λ _. ⌜ Covers (now (seen .exit)) (buffers (now (marks .exit)) (now (targets .exit)) (now (sets .exit))
         (now (waiting .exit))) ⌝ }

@@ -4,8 +4,7 @@ ghost use mathlib.Core.Option.{some};
 ghost use Prim.Native.Nat.{_<_};
 ghost use lib.ListN.{length, getD};
 ghost use Rattle.chart.specs.Compared.{compared};
-ghost use Rattle.chart.specs.Faultless.{FaultlessChart};
-ghost use Rattle.chart.specs.inner.Index.{Indexed};
+ghost use Rattle.chart.specs.inner.Prepared.{Prepared};
 ghost use Rattle.align.specs.declared.spots.Spot.{Spot};
 ghost use Rattle.align.specs.inner.Told.{told};
 ghost use Rattle.base.specs.inner.Found.{toldFound};
@@ -179,9 +178,7 @@ fn row<'a>(
     v: u64,
     r: usize,
 )
-    requires { ⌜ FaultlessChart (compared heads (now «old_rows») (now «new_rows») .old) ⌝ }
-    requires { ⌜ FaultlessChart (compared heads (now «old_rows») (now «new_rows») .new) ⌝ }
-    requires { ⌜ Indexed (now «old_rows») (now «new_rows») (now index) ⌝ }
+    requires { ⌜ Prepared (compared heads (now «old_rows») (now «new_rows»)) (now index) ⌝ }
     requires { ⌜ (n < 4096) × (r < 2) ⌝ }
     requires { ⌜ Sized (buffers (now marks) (now targets) (now sets) (now waiting)) ⌝ }
     requires { ⌜ Tracks (now waits) (now seen) (buffers (now marks) (now targets) (now sets) (now waiting)) ⌝ }
@@ -245,9 +242,7 @@ pub fn turn<'a>(
     seen: &mut [u64],
     n: usize,
 )
-    requires { ⌜ FaultlessChart (compared heads (now «old_rows») (now «new_rows») .old) ⌝ }
-    requires { ⌜ FaultlessChart (compared heads (now «old_rows») (now «new_rows») .new) ⌝ }
-    requires { ⌜ Indexed (now «old_rows») (now «new_rows») (now index) ⌝ }
+    requires { ⌜ Prepared (compared heads (now «old_rows») (now «new_rows»)) (now index) ⌝ }
     requires { ⌜ n < 4096 ⌝ }
     requires { ⌜ Sized (buffers (now marks) (now targets) (now sets) (now waiting)) ⌝ }
     requires { ⌜ Tracks (now waits) (now seen) (buffers (now marks) (now targets) (now sets) (now waiting)) ⌝ }

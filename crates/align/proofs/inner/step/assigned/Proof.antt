@@ -14,7 +14,7 @@ use Rattle.align.proofs.inner.step.assigned.Statement.{statement}
 use Rattle.align.proofs.inner.step.assigned.Tie as tie
 
 rows-of-requires : tie.Need-rows-of-requires
-rows-of-requires c κs = (c .before .before .before .before .pre .1 .0, (ascends _ (c .before .before .before .before .pre .0), c .before .before .before .before .pre .1 .1 .0))
+rows-of-requires c κs = (c .before .before .before .before .pre .0 .indexed, (ascends _ (c .before .before .before .before .pre .0 .old), c .before .before .before .before .pre .1 .0))
 
 same-requires : tie.Need-same-requires
 same-requires c κs = search needs
@@ -30,7 +30,7 @@ operation-at-requires c κs = search needs
 
 rewritten-requires : tie.Need-rewritten-requires
 rewritten-requires c κs =
-    let p = c .before .before .before .before .before .before .before .before .before .before .before .pre .1 .1 .1 in
+    let p = c .before .before .before .before .before .before .before .before .before .before .before .pre .1 .1 in
     subst (λ (o : Operation). (isAssignment o ≡ true) × (operandsFit o ≡ true)) (sym (c .operation-at .ensures)) (p .1, p .2)
 
 enum-told : tie.Need-enum-told
@@ -40,7 +40,7 @@ a-at-requires : tie.Need-a-at-requires
 a-at-requires c κs = search needs
 
 with-requires : tie.Need-with-requires
-with-requires c κs = subst (λ (a : ℕ). a < 64) (sym (c .a-at .ensures)) (fit-a _ (c .before .before .before .before .before .before .before .before .before .pre .1 .1 .1 .2))
+with-requires c κs = subst (λ (a : ℕ). a < 64) (sym (c .a-at .ensures)) (fit-a _ (c .before .before .before .before .before .before .before .before .before .pre .1 .1 .2))
 
 returns : tie.Need-returns
 returns c = assigned-equal _ _ _ (c .before .before .before .before .before .before .before .rows-of .ensures) (c .before .before .before .before .before .before .same .ensures) (ap toldFound (c .before .before .before .before .k .given .1)) (c .before .before .old-to .ensures) (c .before .operation-at .ensures) (c .rewritten .ensures)

@@ -19,10 +19,10 @@ new-of-requires : tie.Need-new-of-requires
 new-of-requires c κs = search needs
 
 rows-of-requires : tie.Need-rows-of-requires
-rows-of-requires c κs = (c .before .before .before .before .before .before .before .before .pre .1 .0, (ascends _ (c .before .before .before .before .before .before .before .before .pre .0 .new-faultless), (let e = ap (λ (q : NewPlace). q .0) (c .new-of .ensures) in omega arith)))
+rows-of-requires c κs = (c .before .before .before .before .before .before .before .before .pre .0 .prepared .indexed, (ascends _ (c .before .before .before .before .before .before .before .before .pre .0 .prepared .new), (let e = ap (λ (q : NewPlace). q .0) (c .new-of .ensures) in omega arith)))
 
 rows-fault-requires : tie.Need-rows-fault-requires
-rows-fault-requires c κs = (c .before .before .before .before .before .before .before .before .before .pre .0, (c .before .before .before .before .before .before .before .before .before .pre .1 .0, (c .before .before .before .before .before .before .before .before .before .pre .1 .1, part-of _ _ (c .before .new-of .ensures) (c .rows-of .ensures))))
+rows-fault-requires c κs = (c .before .before .before .before .before .before .before .before .before .pre .0, (c .before .before .before .before .before .before .before .before .before .pre .1, part-of _ _ (c .before .new-of .ensures) (c .rows-of .ensures)))
 
 returns-2 : tie.Need-returns-2
 returns-2 c = present _ (graphOf _ _ _) _ (c .before .before .before .if1 .left) (c .before .before .new-of .ensures) (c .before .rows-of .ensures) (c .rows-fault .ensures)

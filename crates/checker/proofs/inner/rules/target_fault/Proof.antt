@@ -9,7 +9,7 @@ returns : tie.Need-returns
 returns c = no-row _ (graphOf _ _ _) _ _ _ (c .if1 .taken)
 
 row-fits-requires : tie.Need-row-fits-requires
-row-fits-requires c κs = (c .before .before .before .before .before .before .before .pre .0, (c .before .before .before .before .before .before .before .pre .1 .0, (c .before .before .before .before .before .before .before .pre .1 .1 .0, c .before .before .before .before .before .before .before .pre .1 .1 .1, c .if1 .left, c .before .before .before .before .before .before .before .pre .1 .1 .2)))
+row-fits-requires c κs = (c .before .before .before .before .before .before .before .pre .0, (c .before .before .before .before .before .before .before .pre .1 .0, c .before .before .before .before .before .before .before .pre .1 .1, c .if1 .left, c .before .before .before .before .before .before .before .pre .1 .2))
 
 returns-2 : tie.Need-returns-2
 returns-2 c = row-fine _ (graphOf _ _ _) _ _ _ (c .before .before .if1 .left) (c .before .row-fits .ensures) (c .if2 .taken)

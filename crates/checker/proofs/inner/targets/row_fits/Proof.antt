@@ -25,13 +25,13 @@ cast-t : tie.Need-cast-t
 cast-t c = omega (arith, c .shared-slice-known7 .given (2 * (c .before .before .before .before .before .before .before .args .m) + c .before .before .before .before .before .before .before .args .k))
 
 leads-requires : tie.Need-leads-requires
-leads-requires c κs = (c .before .before .before .before .before .before .before .pre .0, (c .before .before .before .before .before .before .before .pre .1 .0, (c .before .before .before .before .before .before .before .pre .1 .1 .0, c .before .before .before .before .before .before .before .pre .1 .1 .1, c .before .before .before .before .before .before .before .pre .1 .1 .2)))
+leads-requires c κs = (c .before .before .before .before .before .before .before .pre .0, (c .before .before .before .before .before .before .before .pre .1 .0, c .before .before .before .before .before .before .before .pre .1 .1, c .before .before .before .before .before .before .before .pre .1 .2))
 
 returns : tie.Need-returns
 returns c = row-astray _ (graphOf _ _ _) _ _ _ (c .before .leads .ensures) (not-true _ (c .if1 .taken))
 
 ranked-requires : tie.Need-ranked-requires
-ranked-requires c κs = (c .before .before .before .before .before .before .before .before .before .pre .0 .marks-length, c .before .before .before .before .before .before .before .before .before .pre .1 .1 .0, fits-at _ _ (c .before .before .before .before .before .before .before .before .before .pre .0 .targets-fit) (omega arith))
+ranked-requires c κs = (c .before .before .before .before .before .before .before .before .before .pre .0 .marks-length, c .before .before .before .before .before .before .before .before .before .pre .1 .0, fits-at _ _ (c .before .before .before .before .before .before .before .before .before .pre .0 .targets-fit) (omega arith))
 
 returns-2 : tie.Need-returns-2
 returns-2 c = row-ranked _ (graphOf _ _ _) _ _ _ (c .before .before .leads .ensures) (not-false _ (c .before .if1 .left)) (c .ranked .ensures)
