@@ -9,12 +9,12 @@ use native.Mathlib.Omega.{arith}
 use lib.Bits.{or-zero-l}
 use Rattle.base.proofs.OnSome.{on-at}
 use Rattle.chart.specs.Faultless.{FaultlessChart}
+use Rattle.chart.specs.Compared.{Compared}
 use Rattle.align.specs.declared.spots.Spot.{Spot}
 use Rattle.sets.specs.Sets.{bit, alone, joined, with, meets}
 use Rattle.align.specs.Steps.{onward, follow, followed}
 use Rattle.sets.proofs.Sets.{In, bit-none, bit-or, bit-pow-other, alone-here, with-here, meet-none}
 use Rattle.align.proofs.Moves.{follow-ends, follow-twice, follow-on, onward-below}
-use Rattle.chart.specs.Compared.{Compared}
 
 -- how many of the first k places have not been come to
 unmet : ℕ → ℕ → ℕ

@@ -21,7 +21,7 @@ use Rattle.operations.specs.Trials.{implication}
 use Rattle.operations.proofs.Exact.{implication-means}
 use Rattle.chart.specs.declared.places.OldPlace.{OldPlace}
 use Rattle.chart.specs.declared.places.NewPlace.{NewPlace}
-use Rattle.chart.specs.Charts.{Chart, size, operation}
+use Rattle.chart.specs.Charts.{size, operation}
 use Rattle.chart.specs.Faultless.{FaultlessChart}
 use Rattle.chart.specs.Runs.{lets, after}
 use Rattle.align.specs.declared.spots.Spot.{Spot}

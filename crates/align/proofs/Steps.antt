@@ -11,7 +11,7 @@ use Rattle.operations.specs.Operations.{isAssignment, isAssumption, same}
 use Rattle.operations.specs.Trials.{implication}
 use Rattle.chart.specs.declared.places.OldPlace.{OldPlace}
 use Rattle.chart.specs.declared.places.NewPlace.{NewPlace}
-use Rattle.chart.specs.Charts.{Chart, size, to, operation}
+use Rattle.chart.specs.Charts.{size, to, operation}
 use Rattle.chart.specs.Faultless.{FaultlessChart}
 use Rattle.align.specs.declared.spots.Spot.{Spot}
 use Rattle.sets.specs.Sets.{alone, with, without, meets}

@@ -12,6 +12,7 @@ use Rattle.base.proofs.Answers.{different}
 use Rattle.base.proofs.Says.{says}
 use Rattle.base.proofs.Tests.{T-true}
 use Rattle.chart.proofs.Words.{Words}
+use Rattle.chart.specs.Compared.{Compared, headsOf}
 use Rattle.chart.specs.Faults.{judged}
 use Rattle.chart.specs.Faultless.{FaultlessChart}
 use Rattle.chart.proofs.Faultless.{both-faultless}
@@ -28,7 +29,6 @@ use Rattle.paper.proofs.Theorem.{demand-2}
 use Rattle.builder.specs.declared.answers.Built.{Built}
 use Rattle.builder.specs.declared.answers.Built.the-variants as builts
 use Rattle.builder.specs.Answers.{told, lent, refusal, answered, left}
-use Rattle.chart.specs.Compared.{Compared, headsOf}
 
 -- answers that say the same are the same
 pub told-one : (x y : Built) → told x ≡ told y → x ≡ y

@@ -12,6 +12,7 @@ use Rattle.base.proofs.Counts.{count-most}
 use Rattle.base.proofs.Fits.{unless-fits}
 use Rattle.base.proofs.OnSome.{OnSome}
 use Rattle.chart.proofs.Bounds.{judged-fits}
+use Rattle.chart.specs.Compared.{Compared}
 use Rattle.records.specs.Records.{Record}
 use Rattle.checker.specs.Rules.{startFits}
 use Rattle.checker.specs.Checks.{refusal as checkRefusal}
@@ -25,7 +26,6 @@ use Rattle.builder.specs.Answers.{told, lent, refusal, answered}
 use Rattle.builder.specs.inner.Small.{Small}
 use Rattle.builder.proofs.Passing.{record-passes}
 use Rattle.builder.proofs.Answering.{accepted}
-use Rattle.chart.specs.Compared.{Compared}
 
 -- ---- a record that passes
 module _ (X : Compared) (R : Record) (e : checkRefusal X R ≡ none) where

@@ -9,6 +9,7 @@ use Rattle.base.specs.Says.{bool}
 use Rattle.base.proofs.Says.{said}
 use Rattle.base.proofs.Tests.{is-true}
 use Rattle.chart.proofs.Words.{Words}
+use Rattle.chart.specs.Compared.{Compared}
 use Rattle.chart.specs.Faultless.{FaultlessChart}
 use Rattle.chart.proofs.Faultless.{none-judged}
 use Rattle.records.specs.Records.{Record, recordOf}
@@ -22,7 +23,6 @@ use Rattle.condition.specs.Builds.{recorded, summary}
 use Rattle.builder.proofs.Passing.{record-passes}
 use Rattle.builder.specs.Answers.{lent, refusal, answered, left}
 use Rattle.builder.proofs.Answering.{accepted}
-use Rattle.chart.specs.Compared.{Compared}
 
 pub first-half : (X : Compared) → Words (X .old .table) → Words (X .new .table) → (R : Record)
     → checkRefusal X R ≡ none → Promise X R

@@ -15,6 +15,7 @@ use Rattle.base.proofs.Says.{said}
 use Rattle.base.proofs.Tests.{T-true}
 use Rattle.base.proofs.Walks.{same-at}
 use Rattle.chart.specs.Charts.{size, operation}
+use Rattle.chart.specs.Compared.{Compared, headsOf}
 use Rattle.chart.specs.Faultless.{FaultlessChart}
 use Rattle.chart.specs.Places.{keptNumber, oldOf, newOf}
 use Rattle.align.specs.declared.spots.Spot.{Spot}
@@ -30,7 +31,6 @@ use Rattle.detector.proofs.Invariant.{ToStep, explored-inv}
 use Rattle.marker.proofs.Marks.{rank-there, Final}
 use Rattle.condition.proofs.Left.{far, to-kept, not-kept, Keeps, Ends, starts, targets-length, target-at, marks as leftMarks, left as leftGraph, final as leftFinal, here, ends, steps, node-two, is-there, recorded-lone, recorded-joint}
 use Rattle.checker.proofs.Passes.{Rules, passes}
-use Rattle.chart.specs.Compared.{Compared, headsOf}
 
 -- ---- a build whose start is the start pair
 module _ (X : Compared) (F : FaultlessChart (X .old)) (H : FaultlessChart (X .new)) (joint : alone (headsOf X) (explored X .marks) ≡ false) where

@@ -13,8 +13,8 @@ pub record Compared : Type 0 where
   pub old : Chart
   pub new : Chart
 
--- ---- as the code has it: both heads by value, beside the two lent tables. "An old place number is never taken for a new
--- one": the alarm in each head is a place of that chart
+-- ---- as the code has it: both heads by value, beside the two lent tables. "An old place number is never taken for a
+-- new one": the alarm in each head is a place of that chart
 -- the old chart's head as any chart's
 abbrev pub oldHead : OldHead → Head
 oldHead h = record { places = h .places; alarm = h .alarm .0 }

@@ -1,5 +1,6 @@
--- The definitions that the contracts of the crate cite: read those of `operations` first, then Charts, Runs,
--- Compared, Places, Faults, Lookup. Conflicts and Faultless are what theorems compare the faults with; `inner` helps inner functions.
+-- The definitions that the contracts of the crate cite: read those of `operations` first, then Charts, Runs, Compared,
+-- Places, Faults, Lookup. Conflicts and Faultless are what theorems compare the faults with; `inner` helps inner
+-- functions.
 pub mod Charts
 pub mod Compared
 pub mod Places

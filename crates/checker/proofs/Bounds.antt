@@ -12,13 +12,13 @@ use Rattle.base.specs.inner.Fits.{Fits}
 use Rattle.base.proofs.Fits.{named-fits, due-fits}
 use Rattle.base.proofs.OnSome.{OnSome, when-on, or-on, first-on}
 use Rattle.chart.specs.Charts.{size, leaving}
+use Rattle.chart.specs.Compared.{Compared, headsOf}
 use Rattle.chart.specs.Faults.{judged}
 use Rattle.chart.specs.Places.{newOf}
 use Rattle.chart.proofs.Bounds.{judged-fits}
 use Rattle.records.specs.Records.{Graph, Record, mark, index}
 use Rattle.checker.specs.Rules.{shaped, startFits, rowFits}
 use Rattle.checker.specs.Checks.{sized, ruleAt, targetFault, rowsFault, pairFault, broken, ruleFault, recordFault, refusal}
-use Rattle.chart.specs.Compared.{Compared, headsOf}
 
 -- a position
 abbrev Near : ℕ → Type 0

@@ -18,6 +18,7 @@ use Rattle.operations.specs.declared.Operation.{Operation}
 use Rattle.operations.specs.Values.{Values}
 use Rattle.chart.specs.declared.places.NewPlace.{NewPlace}
 use Rattle.chart.specs.Charts.{Chart, size, from, to, operation, row}
+use Rattle.chart.specs.Compared.{Compared, headsOf}
 use Rattle.chart.proofs.Words.{Words}
 use Rattle.chart.specs.Places.{oldOf, newOf}
 use Rattle.chart.specs.Runs.{State, lets, after, taken, begin, ready}
@@ -35,7 +36,6 @@ use Rattle.checker.specs.Rules.{startFits, keeps, joins, joinsStep, rank
 use Rattle.checker.specs.Checks.{refusal}
 use Rattle.checker.specs.Promise.{Promise}
 use Rattle.checker.proofs.Passed.{Passed, passed}
-use Rattle.chart.specs.Compared.{Compared, headsOf}
 
 -- ---- covered from here on
 abbrev three : Graph → ℕ → Bool

@@ -16,6 +16,7 @@ use Rattle.base.proofs.Options.{both-missing, not-due, none-of}
 use Rattle.base.proofs.Says.{says}
 use Rattle.base.proofs.Tests.{T-true, not-both}
 use Rattle.chart.specs.Charts.{size, leaving}
+use Rattle.chart.specs.Compared.{Compared, headsOf}
 use Rattle.chart.specs.Faults.{judged}
 use Rattle.chart.specs.Faultless.{FaultlessChart}
 use Rattle.chart.specs.Places.{newOf}
@@ -23,7 +24,6 @@ use Rattle.chart.proofs.Faultless.{both-faultless}
 use Rattle.records.specs.Records.{Record, mark}
 use Rattle.checker.specs.Rules.{markFits, marksFit, shaped, startFits, rowFits}
 use Rattle.checker.specs.Checks.{sized, ruleAt, targetFault, rowsFault, pairFault, broken, ruleFault, recordFault, refusal}
-use Rattle.chart.specs.Compared.{Compared, headsOf}
 
 pub record Passed (X : Compared) (R : Record) : Type 0 where
   pub old-faultless : FaultlessChart (X .old)

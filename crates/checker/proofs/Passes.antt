@@ -11,14 +11,14 @@ use Rattle.base.specs.Says.{Test, bool, Says}
 use Rattle.base.proofs.Options.{none-everywhere}
 use Rattle.base.proofs.Says.{said}
 use Rattle.base.proofs.Tests.{is-true}
-use Rattle.chart.specs.Charts.{Chart, size, leaving}
+use Rattle.chart.specs.Charts.{size, leaving}
+use Rattle.chart.specs.Compared.{Compared, headsOf}
 use Rattle.chart.specs.Faultless.{FaultlessChart}
 use Rattle.chart.specs.Places.{newOf}
 use Rattle.chart.proofs.Faultless.{none-judged}
 use Rattle.records.specs.Records.{Graph, Record, mark}
 use Rattle.checker.specs.Rules.{shaped, startFits, rowFits}
 use Rattle.checker.specs.Checks.{sized, targetFault, rowsFault, pairFault, broken, ruleFault, recordFault, refusal}
-use Rattle.chart.specs.Compared.{Compared, headsOf}
 
 -- a test passes where what it says is so
 met : (t : Test) → Says t → bool t ≡ true

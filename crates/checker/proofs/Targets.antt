@@ -4,7 +4,7 @@ use mathlib.Core.Bool.{Bool, true, false, not}
 use mathlib.Core.Logic.{inl, inr}
 use mathlib.Core.List.{List}
 use mathlib.Core.Option.{Option, none, some}
-use Prim.Native.Nat.{ℕ, _+_, _*_, _/_, _%_, _≤_, _<_}
+use Prim.Native.Nat.{ℕ, _/_, _%_, _≤_, _<_}
 use native.Mathlib.Decide.{ℕ-discrete, decLt}
 use native.Mathlib.Omega.{arith}
 use borrow.Author.Tests.{eq-eqb, ne-eqb, lt-ltb, le-ltb}
@@ -22,6 +22,7 @@ use Rattle.operations.specs.Operations.{isKnown, operandsFit}
 use Rattle.chart.specs.declared.places.OldPlace.{OldPlace}
 use Rattle.chart.specs.declared.places.NewPlace.{NewPlace}
 use Rattle.chart.specs.Charts.{Chart, size, to, operation, leaving}
+use Rattle.chart.specs.Compared.{Compared}
 use Rattle.chart.specs.Faultless.{FaultlessChart}
 use Rattle.chart.specs.Places.{pairNumber, keptNumber, oldOf, newOf}
 use Rattle.align.specs.declared.spots.Spot.{Spot}
@@ -32,7 +33,6 @@ use Rattle.chart.proofs.Parts.{part-right}
 use Rattle.records.specs.Records.{Graph, mark, setAt, target, index}
 use Rattle.checker.specs.Rules.{targetFits, keeps, joins, joinsStep, restsAt, ranked, leads, rowFits, spot}
 use Rattle.checker.specs.Checks.{targetFault, rowsFault, pairFault}
-use Rattle.chart.specs.Compared.{Compared}
 
 -- a place is known by its number
 abbrev placed : {q : NewPlace} {x : ℕ} → q .0 ≡ x → q ≡ record { 0 = x }
@@ -76,18 +76,18 @@ module _ (marks : List ℕ) (q : NewPlace) (t : ℕ) {k : Bool} (some : t ≡ 65
   unfolding restsAt
   rests-nowhere u l = rw (ne-eqb t 65535 some, sym e ∙ u, le-ltb t 4096 l)
 
-  -- the target is a pair of q exactly if the pair of its old place with q is the target itself
-  module _ {p : OldPlace} {n : ℕ} (u : k ≡ false) (l : t < 4096) (f : p ≡ oldOf t) (g : n ≡ pairNumber p q) where
-    with-q : n ≡ 64 * (t / 64) + q .0
-    with-q = g ∙ ap (λ (p : OldPlace). pairNumber p q) f
+  -- the target is a pair of q exactly if its new place is q
+  module _ {p : NewPlace} {a : Bool} (u : k ≡ false) (l : t < 4096) (f : p ≡ newOf t) (g : a ≡ eqb (p .0) (q .0)) where
+    of-q : eqb (t % 64) (q .0) ≡ a
+    of-q = sym (g ∙ ap (λ (p : NewPlace). eqb (p .0) (q .0)) f)
 
-    pub rests-elsewhere : (t ≡ n → ⊥) → q .0 < 64 → false ≡ bool (restsAt marks q t)
+    pub rests-elsewhere : a ≡ false → false ≡ bool (restsAt marks q t)
     unfolding restsAt
-    rests-elsewhere v b = rw (ne-eqb t 65535 some, sym e ∙ u, lt-ltb t 4096 l, ne-eqb (t % 64) (q .0) (λ w. v (omega (arith, with-q))))
+    rests-elsewhere v = rw (ne-eqb t 65535 some, sym e ∙ u, lt-ltb t 4096 l, of-q ∙ v)
 
-    pub rests-present : {r : Bool} → t ≡ n → q .0 < 64 → r ≡ not (eqb (getD marks t 0) 0) → r ≡ bool (restsAt marks q t)
+    pub rests-present : {r : Bool} → a ≡ true → r ≡ not (eqb (getD marks t 0) 0) → r ≡ bool (restsAt marks q t)
     unfolding restsAt
-    rests-present v b h = rw (ne-eqb t 65535 some, sym e ∙ u, lt-ltb t 4096 l, eq-eqb (t % 64) (q .0) (omega (arith, with-q))) h
+    rests-present v h = rw (ne-eqb t 65535 some, sym e ∙ u, lt-ltb t 4096 l, of-q ∙ v) h
 
 -- ---- marks in order
 pub ranked-none : (marks : List ℕ) (m t : ℕ) → t ≡ 65535 → true ≡ bool (ranked marks m t)

@@ -32,7 +32,8 @@ abbrev pub markFits : Heads → ℕ → ℕ → Test
 markFits heads n x =
     eq x 0
     or below (newOf n .0) (heads .new .places)
-    and (below n 4096 and below (oldOf n .0) (heads .old .places) and (eq x 1 or eq x 3 or eq x 4) or le 4096 n and eq x 2)
+    and (below n 4096 and below (oldOf n .0) (heads .old .places) and (eq x 1 or eq x 3 or eq x 4)
+    or le 4096 n and eq x 2)
 
 -- so of the marks of all nodes: "marks (4,160 bytes)"
 unfoldable pub marksFit : Heads → List ℕ → Test

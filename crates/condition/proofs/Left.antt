@@ -13,6 +13,7 @@ use Rattle.base.specs.Says.{Test, bool, Says}
 use Rattle.base.proofs.Says.{says}
 use Rattle.base.proofs.Tests.{T-true, or-false}
 use Rattle.chart.specs.Charts.{size}
+use Rattle.chart.specs.Compared.{Compared, headsOf}
 use Rattle.chart.specs.Faultless.{FaultlessChart}
 use Rattle.chart.specs.Places.{keptNumber, oldOf, newOf, oldStart, newStart}
 use Rattle.align.specs.Steps.{fair}
@@ -29,7 +30,6 @@ use Rattle.detector.proofs.Turns.{leads-below}
 use Rattle.detector.proofs.Measure.{nothing-waits}
 use Rattle.detector.proofs.Invariant.{ToKept, ToPair, ToStep, Led, Stepped, explored-inv}
 use Rattle.marker.proofs.Marks.{rank-there, Final, final-marks}
-use Rattle.chart.specs.Compared.{Compared, headsOf}
 
 -- ---- the final targets
 map-at : (f : ℕ → ℕ) (l : List ℕ) (j : ℕ) → j < length l → getD (map f l) j 0 ≡ f (getD l j 0)

@@ -7,6 +7,7 @@ use Prim.Native.Nat.{ℕ, _+_, _<_}
 use native.Mathlib.Omega.{arith}
 use native.Mathlib.Decide.{ℕ-discrete}
 use Rattle.chart.specs.Charts.{size}
+use Rattle.chart.specs.Compared.{Compared, headsOf}
 use Rattle.chart.specs.Faultless.{FaultlessChart}
 use Rattle.chart.specs.Places.{pairNumber, keptNumber, oldOf, newOf}
 use Rattle.align.specs.declared.spots.Spot.{Spot}
@@ -20,7 +21,6 @@ use Rattle.detector.proofs.Turns.{leads-below}
 use Rattle.marker.proofs.Marks.{rank-there, Final}
 use Rattle.marker.proofs.Least.{Closed, least-open, Reached, covered-reached}
 use Rattle.condition.proofs.Left.{starts, targets-length, marks, left, final, steps}
-use Rattle.chart.specs.Compared.{Compared, headsOf}
 
 -- unless the start is the lone kept node
 module _ (X : Compared) (F : FaultlessChart (X .old)) (H : FaultlessChart (X .new)) (joint : alone (headsOf X) (explored X .marks) ≡ false) where

@@ -9,6 +9,7 @@ use Rattle.base.proofs.Ones.{one-only}
 use Rattle.base.proofs.Repeat.{Going, less-by, again-by, done-by}
 use Rattle.base.proofs.Walks.{same-at, zeros-at}
 use Rattle.chart.specs.declared.charts.Heads.{Heads}
+use Rattle.chart.specs.Compared.{Compared, headsOf}
 use Rattle.chart.specs.Faultless.{FaultlessChart}
 use Rattle.base.specs.declared.Found.{Found}
 use Rattle.base.specs.declared.Found.the-variants as founds
@@ -26,7 +27,6 @@ use Rattle.graph.proofs.Graphs.{Shaped}
 use Rattle.graph.proofs.Parts.{graph-eq}
 use Rattle.detector.proofs.Turns.{next-waits}
 use Rattle.detector.proofs.Measure.{weight, turns, begun-shaped, begun-weight}
-use Rattle.chart.specs.Compared.{Compared, headsOf}
 
 -- four buffers that were filled, and two that were then written, are a graph that has begun
 pub begun-is : (heads : Heads) {m t s w m₁ m₂ t₁ s₁ w₁ w₂ : List ℕ} {first : ℕ} → Sized (buffers m t s w) → first ≡ startPair heads

@@ -15,6 +15,7 @@ use Rattle.base.proofs.Repeat.{repeated-keeps}
 use Rattle.base.proofs.Walks.{zeros-at, same-at}
 use Rattle.chart.specs.declared.places.NewPlace.{NewPlace}
 use Rattle.chart.specs.Charts.{size}
+use Rattle.chart.specs.Compared.{Compared, headsOf}
 use Rattle.chart.specs.Faultless.{FaultlessChart}
 use Rattle.chart.specs.Places.{pairNumber, keptNumber, oldOf, newOf}
 use Rattle.align.specs.declared.spots.Spot.{Spot}
@@ -29,7 +30,6 @@ use Rattle.align.proofs.Steps.{Fits}
 use Rattle.graph.proofs.Graphs.{markAt, setAt, waitAt, targetAt, Shaped, keep-node, keep-nodes, keep-kept, keep-mark, keep-set, keep-wait, keep-target, keep-mark-other, keep-set-other, keep-wait-other, keep-target-other, keep-shaped, aimed, by-aim, aimed-shaped, join-mark, join-set, join-due, join-not-due, join-mark-other, join-set-other, join-wait-other, join-there, join-target, join-shaped, held, not-due-why, unwait-shaped}
 use Rattle.detector.proofs.Turns.{by-row, set-now, set-now-small, leads-below, step-of-fits, next-waits}
 use Rattle.detector.proofs.Measure.{begun-shaped}
-use Rattle.chart.specs.Compared.{Compared, headsOf}
 
 -- ---- a set that has gained another holds what it held, and the other
 module _ (s v : ℕ) (a : s < 2 ^ 64) (b : v < 2 ^ 64) where

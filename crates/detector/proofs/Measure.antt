@@ -13,6 +13,7 @@ use Rattle.base.proofs.Walks.{small-set, zeros-at}
 use Rattle.base.proofs.Repeat.{Falls, rests, repeated-keeps}
 use Rattle.chart.specs.declared.places.NewPlace.{NewPlace}
 use Rattle.chart.specs.Charts.{size}
+use Rattle.chart.specs.Compared.{Compared, headsOf}
 use Rattle.chart.specs.Faultless.{FaultlessChart}
 use Rattle.chart.specs.Places.{pairNumber, keptNumber, newOf}
 use Rattle.sets.specs.Sets.{joined}
@@ -23,7 +24,6 @@ use Rattle.align.proofs.Steps.{Fits}
 use Rattle.sets.proofs.Sets.{join-small}
 use Rattle.graph.proofs.Graphs.{markAt, setAt, waitAt, Shaped, marked-yes, marked-no, marked-same, keep-node, keep-nodes, keep-wait, keep-mark-other, keep-set-other, keep-wait-other, keep-shaped, aimed, by-aim, aimed-shaped, join-mark, join-set, join-due, join-not-due, join-mark-other, join-set-other, join-wait-other, join-shaped, join-more, grown, due-why, unwait-shaped}
 use Rattle.detector.proofs.Turns.{by-row, set-now-small, leads-below, step-of-fits, next-waits, none-waits}
-use Rattle.chart.specs.Compared.{Compared, headsOf}
 
 -- what a pair has left: nothing more where its new place is kept; else twice the number of sets above its own, and its flag
 rest : Bool → Bool → ℕ → ℕ

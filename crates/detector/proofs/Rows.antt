@@ -11,6 +11,7 @@ use Rattle.operations.specs.Operations.{isKnown, operandsFit}
 use Rattle.chart.specs.declared.places.OldPlace.{OldPlace}
 use Rattle.chart.specs.declared.places.NewPlace.{NewPlace}
 use Rattle.chart.specs.Charts.{Chart, size, to, operation, leaving}
+use Rattle.chart.specs.Compared.{Compared}
 use Rattle.chart.specs.Faultless.{FaultlessChart}
 use Rattle.chart.specs.Places.{oldOf, newOf}
 use Rattle.align.specs.declared.spots.Spot.{Spot}
@@ -26,7 +27,6 @@ use Rattle.detector.specs.Turns.{rowsOf, leadsTo, setNow, stepOf, proces
 use Rattle.graph.proofs.Graphs.{marked-yes, marked-no}
 use Rattle.graph.proofs.Tracking.{unwait-tracks}
 use Rattle.detector.proofs.Turns.{step-of-fits}
-use Rattle.chart.specs.Compared.{Compared}
 
 -- ---- the part of the new table that leaves the pair's new place
 module _ (new : Chart) (n r : ℕ) {q′ : NewPlace} {part : List ℕ} (a : q′ ≡ newOf n) (b : part ≡ leaving (new .table) (q′ .0)) where

@@ -11,6 +11,7 @@ use lib.ListN.{length, getD}
 use Rattle.base.proofs.OnSome.{on-at}
 use Rattle.base.proofs.Walks.{first-is, none-passes}
 use Rattle.chart.specs.Charts.{size, operation}
+use Rattle.chart.specs.Compared.{Compared}
 use Rattle.chart.specs.Faultless.{FaultlessChart}
 use Rattle.chart.specs.Places.{pairNumber, keptNumber, oldOf, newOf}
 use Rattle.align.specs.declared.spots.Spot.{Spot}
@@ -19,7 +20,6 @@ use Rattle.detector.specs.Turns.{rowsOf, leadsTo, lowest, next, setNow, 
 use Rattle.align.proofs.Steps.{Fits, step-fits}
 use Rattle.chart.proofs.Parts.{row-to, row-a}
 use Rattle.graph.proofs.Graphs.{markAt, setAt, waitAt, marked-yes, marked-no, is-marked, not-marked, Shaped}
-use Rattle.chart.specs.Compared.{Compared}
 
 module _ (X : Compared) (g : Buffers) (n v r : ℕ) where
   no-row : size (rowsOf (X .new) n) ≤ r → rowDone X g n v r ≡ g

@@ -52,8 +52,8 @@ unfoldable pub processed : ℕ → Buffers → ℕ → ℕ → NewPlace → Opti
 processed alarm g n r q none = aim (keep g q) n r (keptNumber q)
 processed alarm g n r q (some h) = arrived alarm g n r q h
 
--- line 1: "Waiting: node 0, set empty, in the graph, even where place 0 is the old alarm." "What these held before has no
--- effect."
+-- line 1: "Waiting: node 0, set empty, in the graph, even where place 0 is the old alarm." "What these held before has
+-- no effect."
 unfoldable pub begun : Heads → Buffers
 begun heads =
     buffers (set (replicate 4160 0) (startPair heads) 1) (replicate 8192 65535) (replicate 4096 0)

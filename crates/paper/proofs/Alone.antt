@@ -9,6 +9,7 @@ use Rattle.base.proofs.Ones.{one-there, one-only}
 use Rattle.base.proofs.Tests.{T-true}
 use Rattle.base.proofs.Walks.{zeros-at, same-at}
 use Rattle.chart.specs.Places.{keptNumber}
+use Rattle.chart.specs.Compared.{Compared}
 use Rattle.records.specs.Records.{Record, recordOf, mark, index}
 use Rattle.chart.proofs.Starts.{firstKept}
 use Rattle.paper.specs.Nodes.{SetOf, _isIn_, Pair, Node, aligned, indicator, Edge, onlyNode, number, nodeNumber, NodeNumbered}
@@ -17,7 +18,6 @@ use Rattle.paper.specs.Algorithm1.{Search}
 use Rattle.paper.specs.Returned.{Marked, Targeted, IsGraph, IsCondition}
 use Rattle.paper.proofs.Members.{in-first, only-node, the-node, number-below}
 use Rattle.paper.proofs.Searching.{within, first-found, node-below}
-use Rattle.chart.specs.Compared.{Compared}
 
 module _ (X : Compared) where
   abbrev pub single : Record

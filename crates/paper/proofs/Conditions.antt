@@ -9,6 +9,7 @@ use native.Mathlib.Decide.{decLt}
 use lib.ListN.{List·getD-eq-default}
 use Rattle.base.proofs.Tests.{T-true}
 use Rattle.chart.specs.Places.{keptNumber, newOf}
+use Rattle.chart.specs.Compared.{Compared, headsOf}
 use Rattle.chart.proofs.Words.{Words}
 use Rattle.chart.specs.Faultless.{FaultlessChart}
 use Rattle.records.specs.Records.{mark, target}
@@ -29,7 +30,6 @@ use Rattle.paper.proofs.Members.{in-first, in-second, not-in, in-or-not
 use Rattle.paper.proofs.Searching.{within, first-found, closed}
 use Rattle.paper.proofs.Rows.{Reads}
 use Rattle.paper.proofs.Returning.{built-graph, left-mark, mark-most, whole-graph}
-use Rattle.chart.specs.Compared.{Compared, headsOf}
 
 module _ (X : Compared) (F′ : FaultlessChart (X .old)) (H : FaultlessChart (X .new)) (wn : Words (X .new .table)) (last : State) (reads : Reads X last (explored X))
     (joint : alone (headsOf X) (explored X .marks) ≡ false) where

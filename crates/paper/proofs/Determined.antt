@@ -8,6 +8,7 @@ use native.Mathlib.Decide.{ℕ-discrete, decLt}
 use lib.ListN.{getD}
 use lib.Seq.{ext-getD}
 use Rattle.chart.proofs.Words.{Words}
+use Rattle.chart.specs.Compared.{Compared}
 use Rattle.chart.specs.Faultless.{FaultlessChart}
 use Rattle.records.specs.Records.{Record, recordOf, mark, setAt, target, index}
 use Rattle.condition.specs.Builds.{recorded}
@@ -19,7 +20,6 @@ use Rattle.paper.proofs.Members.{in-or-not, number-is, numbered}
 use Rattle.paper.proofs.Searching.{nodeOf, nodeOf-numbered}
 use Rattle.paper.proofs.Rounds.{ended-read}
 use Rattle.paper.proofs.Theorem.{read-ends}
-use Rattle.chart.specs.Compared.{Compared}
 
 -- ---- two records of one graph and one condition
 module _ (G : DifferenceGraph) (Vδ : Pair → ℕ) (Q : SetOf Node) where

@@ -15,6 +15,7 @@ use Rattle.base.proofs.Tests.{or-false}
 use Rattle.chart.specs.declared.places.NewPlace.{NewPlace}
 use Rattle.chart.specs.Places.{keptNumber, newOf}
 use Rattle.chart.specs.Charts.{size, to, operation, leaving}
+use Rattle.chart.specs.Compared.{Compared}
 use Rattle.records.specs.Records.{index}
 use Rattle.graph.specs.Buffers.{Buffers, keep, aim}
 use Rattle.graph.specs.inner.Sized.{Sized}
@@ -23,7 +24,6 @@ use Rattle.graph.proofs.Graphs.{markAt, keep-target-other, by-aim}
 use Rattle.paper.specs.Nodes.{SetOf, _isIn_, _isNotIn_, _plus_, Pair, Node, aligned, indicator, Edge, edge, onlyPlace, onlyEdge, pairOf}
 use Rattle.align.proofs.Successors.{successor}
 use Rattle.paper.proofs.Members.{in-either, in-first, in-neither, only-edge, the-edge, other-edge, other-pair}
-use Rattle.chart.specs.Compared.{Compared}
 
 module _ (X : Compared) where
   -- an edge leads where its row does: to a place of Δ, or to the one successor that the pair has by it

@@ -13,6 +13,7 @@ use Rattle.operations.specs.Assumptions.{Operands}
 use Rattle.operations.specs.Operations.{isAssignment, same}
 use Rattle.chart.specs.declared.places.OldPlace.{OldPlace}
 use Rattle.chart.specs.Charts.{operation}
+use Rattle.chart.specs.Compared.{Compared}
 use Rattle.chart.proofs.Words.{Words}
 use Rattle.chart.specs.Faultless.{FaultlessChart}
 use Rattle.align.specs.declared.spots.Spot.{Spot}
@@ -27,7 +28,6 @@ use Rattle.paper.specs.Lines5to18.{IsWith, onlyOld, InG, Line13, Loop, l
 use Rattle.paper.proofs.Members.{in-either, in-first, in-second, not-in, in-or-not}
 use Rattle.paper.proofs.Stepping.{same-self, onlyOld-is, unmet, unmet-less, unmet-few, row-edge, no-edge, an-edge, edge-operands, no-match, a-match}
 use Rattle.paper.proofs.Single.{at, with-is, without-is, does-meet, does-not, one-assignment, one-match, onward-is, onward-none}
-use Rattle.chart.specs.Compared.{Compared}
 
 module _ (X : Compared) (F : FaultlessChart (X .old)) (words : Words (X .old .table)) where
   -- ---- lines 12 to 14: any walk is the one that the step follows

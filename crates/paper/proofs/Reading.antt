@@ -13,6 +13,7 @@ use lib.ListN.{getD, set}
 use lib.Seq.{getD-set-same, getD-set-other}
 use Rattle.base.proofs.Tests.{and-true, and-false, or-false}
 use Rattle.chart.specs.declared.places.NewPlace.{NewPlace}
+use Rattle.chart.specs.Compared.{Compared}
 use Rattle.chart.specs.Places.{keptNumber, newOf}
 use Rattle.sets.specs.Sets.{joined}
 use Rattle.graph.specs.Buffers.{Buffers, marked, keep, due, join, unwait}
@@ -21,7 +22,6 @@ use Rattle.graph.proofs.Graphs.{setAt, marked-yes, marked-no, marked-same, keep
 use Rattle.paper.specs.Nodes.{SetOf, _isIn_, _isNotIn_, _plus_, Pair, onlyPlace, onlyPair, withPlace, pairOf, Numbered}
 use Rattle.paper.specs.Algorithm2.{State, toPlace, line29, toPair, popped}
 use Rattle.paper.proofs.Members.{in-either, only-pair, numbered, same-pair, other-pair}
-use Rattle.chart.specs.Compared.{Compared}
 
 -- ---- waitlist, N_l, Δ and V_δ
 -- the buffers clear the sets of pairs that leave the graph, and V_δ does not: they are the same where the new place is

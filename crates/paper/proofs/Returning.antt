@@ -15,6 +15,7 @@ use Rattle.chart.specs.declared.places.NewPlace.{NewPlace}
 use Rattle.chart.specs.declared.places.OldPlace.{OldPlace}
 use Rattle.chart.specs.Places.{keptNumber, newOf}
 use Rattle.chart.specs.Charts.{size}
+use Rattle.chart.specs.Compared.{Compared, headsOf}
 use Rattle.chart.proofs.Words.{Words}
 use Rattle.chart.specs.Faultless.{FaultlessChart}
 use Rattle.chart.proofs.Parts.{two-at-most}
@@ -34,7 +35,6 @@ use Rattle.paper.proofs.Members.{not-in, pair-is, number-is, number-bel
 use Rattle.paper.proofs.Edges as reading
 use Rattle.paper.proofs.Rows.{Reads}
 use Rattle.paper.proofs.Searching.{node-below, nodeOf, nodeOf-numbered}
-use Rattle.chart.specs.Compared.{Compared, headsOf}
 
 -- ---- "At the end a target whose new place is kept becomes that kept node."
 record Turned (m : List ℕ) (t : ℕ) : Type 0 where

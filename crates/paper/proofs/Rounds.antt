@@ -16,6 +16,7 @@ use Rattle.base.proofs.Repeat.{Going, repeated-keeps, again-by, done-by}
 use Rattle.base.proofs.Walks.{zeros-at, same-at, first-is}
 use Rattle.chart.specs.Places.{keptNumber, oldOf, newOf}
 use Rattle.chart.specs.Charts.{size, operation}
+use Rattle.chart.specs.Compared.{Compared, headsOf}
 use Rattle.chart.proofs.Words.{Words}
 use Rattle.chart.specs.Faultless.{FaultlessChart}
 use Rattle.align.specs.declared.spots.Spot.{Spot}
@@ -34,7 +35,6 @@ use Rattle.paper.specs.Algorithm2 as algorithm2
 use Rattle.paper.proofs.Members.{not-in, only-pair, numbered, same-pair, other-pair, pair-is, number-below}
 use Rattle.paper.proofs.Reading.{pop-sets}
 use Rattle.paper.proofs.Rows.{Reads, InHand, unwait-hand, Row, stepped, any-read, cameTo}
-use Rattle.chart.specs.Compared.{Compared, headsOf}
 
 module _ (X : Compared) (F : FaultlessChart (X .old)) (G : FaultlessChart (X .new)) where
   -- ---- the loop of line 4 by its last edge

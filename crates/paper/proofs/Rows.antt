@@ -16,6 +16,7 @@ use Rattle.operations.specs.Assumptions.{Operands}
 use Rattle.chart.specs.declared.places.NewPlace.{NewPlace}
 use Rattle.chart.specs.Places.{pairNumber, keptNumber, oldOf, newOf}
 use Rattle.chart.specs.Charts.{size, operation}
+use Rattle.chart.specs.Compared.{Compared, headsOf}
 use Rattle.chart.proofs.Words.{Words}
 use Rattle.chart.specs.Faultless.{FaultlessChart}
 use Rattle.align.specs.declared.spots.Spot.{Spot}
@@ -37,7 +38,6 @@ use Rattle.paper.proofs.Stepping.{step-lines}
 use Rattle.paper.proofs.Outcomes.{one-outcome}
 use Rattle.paper.proofs.Reading.{Sets, keep-sets, kept-sets, join-sets}
 use Rattle.paper.proofs.Edges.{Sound, Edges, keep-edges, aim-edges, added}
-use Rattle.chart.specs.Compared.{Compared, headsOf}
 
 -- a store of a target changes nothing else
 module _ (g : Buffers) (n r t : ℕ) where

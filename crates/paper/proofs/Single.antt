@@ -17,6 +17,7 @@ use Rattle.operations.specs.Assumptions.{NeverHolds, Implies, Meets}
 use Rattle.operations.specs.Operations.{isAssignment}
 use Rattle.chart.specs.declared.places.OldPlace.{OldPlace}
 use Rattle.chart.specs.Charts.{operation}
+use Rattle.chart.specs.Compared.{Compared}
 use Rattle.chart.proofs.Words.{Words}
 use Rattle.chart.specs.Charts as charts
 use Rattle.chart.specs.Conflicts.{Opposite}
@@ -30,7 +31,6 @@ use Rattle.chart.proofs.Taken.{not-assignment}
 use Rattle.paper.specs.Lines5to18.{Has, Meet, IsWith, IsWithout, InG, Line13, Line15}
 use Rattle.paper.proofs.Members.{in-or-not}
 use Rattle.paper.proofs.Stepping.{is-with, is-without, meeting, not-meeting, row-edge, no-edge, an-edge}
-use Rattle.chart.specs.Compared.{Compared}
 
 abbrev pub at : OldPlace → ℕ → Spot
 at p s = record { place = p; set = s }

@@ -27,6 +27,7 @@ use Rattle.operations.specs.Trials.{implication}
 use Rattle.operations.proofs.Exact.{implication-means}
 use Rattle.chart.specs.declared.places.OldPlace.{OldPlace}
 use Rattle.chart.specs.Charts.{size, from, to, operation}
+use Rattle.chart.specs.Compared.{Compared}
 use Rattle.chart.proofs.Words.{Words}
 use Rattle.chart.specs.Faultless.{FaultlessChart}
 use Rattle.align.specs.declared.spots.Spot.{Spot}
@@ -41,7 +42,6 @@ use Rattle.chart.proofs.Parts.{before, stands, same-row, row-of, row-same, row-
 use Rattle.paper.specs.Nodes.{SetOf, _isIn_, emptySet, _plus_}
 use Rattle.paper.specs.Lines5to18.{Meet, IsWith, IsWithout, onlyOld, InG, Line13, Loop, line12, line14, Lines11to14, Line15, Lines5to18, line7, line8, line10, line16, line17, line18, line13-cut}
 use Rattle.paper.proofs.Members.{in-first, in-second}
-use Rattle.chart.specs.Compared.{Compared}
 
 -- ---- sets
 pub is-with : (s v : ℕ) → IsWith s v (with s v)

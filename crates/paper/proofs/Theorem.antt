@@ -11,6 +11,7 @@ use native.Mathlib.Omega.{arith}
 use lib.Dec.{eqb}
 use lib.ListN.{length-map}
 use Rattle.chart.proofs.Words.{Words}
+use Rattle.chart.specs.Compared.{Compared, headsOf}
 use Rattle.chart.specs.Faultless.{FaultlessChart}
 use Rattle.records.specs.Records.{Record, recordOf}
 use Rattle.graph.specs.Buffers.{Buffers, buffers, marked}
@@ -35,7 +36,6 @@ use Rattle.paper.proofs.Rounds.{explored-ran}
 use Rattle.paper.proofs.Returning.{whole-graph}
 use Rattle.paper.proofs.Conditions.{whole-condition}
 use Rattle.paper.proofs.Alone.{lone-graph, lone-condition}
-use Rattle.chart.specs.Compared.{Compared, headsOf}
 
 -- the graph that is returned, and one run of Algorithm 1 on it
 pub record Ends (R : Record) (G : DifferenceGraph) (Vδ : Pair → ℕ) : Type 0 where

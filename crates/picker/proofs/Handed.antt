@@ -18,6 +18,7 @@ use Rattle.base.proofs.Fits.{named-fits}
 use Rattle.base.proofs.Options.{missing-none}
 use Rattle.base.proofs.Tests.{and-true}
 use Rattle.chart.specs.Charts.{Chart, size, leaving}
+use Rattle.chart.specs.Compared.{Compared}
 use Rattle.chart.specs.Faults.{refusal}
 use Rattle.chart.specs.Lookup.{openTo, lookup}
 use Rattle.chart.proofs.Faultless.{faultless}
@@ -27,7 +28,6 @@ use Rattle.picker.specs.Numbers.{number, one}
 use Rattle.picker.specs.Lookups.{lookedUp, handed, ofRows}
 use Rattle.picker.specs.inner.Told.{Below}
 use Rattle.picker.proofs.Answers.{one-below}
-use Rattle.chart.specs.Compared.{Compared}
 
 -- the refusal of another length than 12
 pub length-fits : {r : Refusal} → r ≡ sole 21 0 → Fits r

@@ -8,11 +8,11 @@ use lib.Seq.{take-all}
 use Rattle.base.specs.Answers.{Answer, given, refused}
 use Rattle.base.proofs.Answers.{different}
 use Rattle.chart.specs.Charts.{Chart}
+use Rattle.chart.specs.Compared.{Compared}
 use Rattle.chart.proofs.Faultless.{faultless}
 use Rattle.text.specs.Texts.{readText}
 use Rattle.text.proofs.Theorems.{read-exactly}
 use Rattle.report.specs.Printed.{bothOf, bothRead}
-use Rattle.chart.specs.Compared.{Compared}
 
 -- both charts were read
 newIn : Compared → Answer Compared → Chart

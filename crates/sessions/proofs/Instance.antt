@@ -7,6 +7,7 @@ use mathlib.Core.Option.{none}
 use Prim.Native.Nat.{ℕ}
 use lib.ListN.{set, replicate}
 use Rattle.chart.specs.Charts.{Chart}
+use Rattle.chart.specs.Compared.{Compared}
 use Rattle.chart.specs.Faults.{refusal as chartRefusal}
 use Rattle.chart.specs.Runs.{begin, run, reaches}
 use Rattle.chart.proofs.Faultless.{faultless}
@@ -33,7 +34,6 @@ use Rattle.graph.specs.Buffers as graph-buffers
 use Rattle.detector.specs.Turns as detector-turns
 use Rattle.marker.specs.Marks as marker-marks
 use Rattle.condition.specs.Builds as condition-builds
-use Rattle.chart.specs.Compared.{Compared}
 
 -- both charts, `3,2,2,0,0,0 0,1,0,0,0,1 1,2,0,1,0,2`: two assignments, one after the other, lead to the alarm
 abbrev pub C : Chart

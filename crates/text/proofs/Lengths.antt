@@ -10,6 +10,7 @@ use native.Mathlib.Omega.{arith}
 use lib.ListN.{length, getD, take, length-append}
 use Rattle.base.specs.Answers.{Answer, given, refused}
 use Rattle.base.specs.Chains.{andThen}
+use Rattle.chart.specs.declared.charts.Head.{Head}
 use Rattle.chart.specs.Charts.{Chart, charted}
 use Rattle.chart.specs.Faults.{refusal}
 use Rattle.chart.proofs.Faultless.{faultless}
@@ -23,7 +24,6 @@ use Rattle.text.proofs.Puts.{closing-length}
 use Rattle.text.proofs.Positions.{stops, fields-stop}
 use Rattle.text.proofs.Cut.{cut-length, cut-fields}
 use Rattle.text.proofs.Told.{whole-after, whole-end, few-counted, parsed-some}
-use Rattle.chart.specs.declared.charts.Head.{Head}
 
 -- ---- what is written
 

@@ -24,7 +24,8 @@ whole text at C = elim (ltb at (length text)) [ true ↦ unfit Records at | fals
 -- "then the rows": as many as the first record counts, and then the end of the text
 unfoldable pub rowsAt : List ℕ → ℕ → Head → ℕ → Answer Chart
 rowsAt text at head count =
-    andThen (fieldsAt (6 * count) 6 text at []) (λ (rows : Span). whole text (rows .next) (charted head (rows .numbers)))
+    andThen (fieldsAt (6 * count) 6 text at [])
+    (λ (rows : Span). whole text (rows .next) (charted head (rows .numbers)))
 
 -- "The first record is n, alarm, row count, 0, 0, 0": the head that its numbers tell
 abbrev pub headIn : List ℕ → Head

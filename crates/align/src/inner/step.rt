@@ -174,9 +174,9 @@ fn arrived(heads: Heads, q: NewPlace, came: Aligned) -> Aligned
     }
 }
 
-// The aligned step from an old place and its set by row j of the part. Both heads, the place and the set come apart, each
-// in a register: heads together would be written to memory for each step, and place and set as a spot would be written
-// narrow and read back wide, which stalls.
+// The aligned step from an old place and its set by row j of the part. Both heads, the place and the set come apart,
+// each in a register: heads together would be written to memory for each step, and place and set as a spot would be
+// written narrow and read back wide, which stalls.
 pub fn step<'a>(
     old: OldHead,
     new: NewHead,

@@ -247,7 +247,8 @@ fn first_fault<'a>(
 ) -> Found
     requires { ⌜ Admitted (compared heads (now «old_rows») (now «new_rows»)) (now index)
         (graphOf (now marks) (now targets) (now sets)) ⌝ }
-    ensures { λ r. ⌜ toldFound r ≡ firstOf 4096 (pairFault (compared heads (now («old_rows» .entry)) (now («new_rows» .entry)))
+    ensures { λ r. ⌜ toldFound r
+        ≡ firstOf 4096 (pairFault (compared heads (now («old_rows» .entry)) (now («new_rows» .entry)))
         (graphOf (now (marks .entry)) (now (targets .entry)) (now (sets .entry)))) ⌝ }
 {
     let mut m = 0;

@@ -17,6 +17,7 @@ use align::spots::Aligned;
 use align::spots::Spot;
 use chart::charts::Heads;
 use chart::inner::pairs::kept;
+use chart::inner::pairs::new_of;
 use chart::inner::pairs::old_of;
 use chart::inner::pairs::pair;
 use chart::inner::rows::new_to;
@@ -63,7 +64,7 @@ fn rests_at(marks: &[u8], q: NewPlace, t: usize) -> bool
     if 4096 <= t {
         return false;
     }
-    if t != pair(old_of(t), q) {
+    if !new_of(t).is(q) {
         return false;
     }
     marks[t] != 0

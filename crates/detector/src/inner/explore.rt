@@ -1,11 +1,8 @@
 // Algorithm 2 from its beginning until no pair waits.
 ghost use mathlib.Core.Path.{_≡_};
-ghost use mathlib.Core.List.{List};
-ghost use Prim.Native.Nat.{ℕ};
 ghost use lib.ListN.{length};
 ghost use Rattle.chart.specs.Compared.{compared};
 ghost use Rattle.chart.specs.inner.Prepared.{Prepared};
-ghost use Rattle.chart.specs.Places.{startPair, startKept};
 ghost use Rattle.graph.specs.Buffers.{buffers};
 ghost use Rattle.graph.specs.inner.Sized.{Sized};
 ghost use Rattle.graph.specs.inner.Tracks.{Covers};

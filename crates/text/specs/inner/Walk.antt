@@ -4,7 +4,7 @@ use mathlib.Core.List.{List, [], _∷_, _++_}
 use mathlib.Core.Bool.{true, false}
 use Prim.Native.Nat.{ℕ, zero, suc, _*_}
 use lib.Dec.{ltb}
-use lib.ListN.{length, getD, drop}
+use lib.ListN.{length, drop}
 use Rattle.base.specs.Answers.{Answer, given}
 use Rattle.text.specs.declared.causes.Cause.the-variants.{NoBytes, Records}
 use Rattle.text.specs.declared.fields.Field.{Field}
