@@ -14,7 +14,7 @@ pub record Chart : Type 0 where
   pub head : Head
   pub table : List ℕ
 
--- "a count of places n, an alarm place, and rows [..] in a lent table", as the code has them: the head beside the table
+-- as the code has it: the head by value, beside the "lent table"
 abbrev pub charted : Head → List ℕ → Chart
 charted h t = record { head = h; table = t }
 

@@ -8,31 +8,37 @@ use Rattle.chart.specs.declared.charts.NewHead.{NewHead}
 use Rattle.chart.specs.declared.charts.Heads.{Heads}
 use Rattle.chart.specs.Charts.{Chart, charted}
 
--- "compares two charts of a route check, the old one and the amended one"
+-- "both charts": variables "are shared by number between both charts", places are not
 pub record Compared : Type 0 where
   pub old : Chart
   pub new : Chart
 
--- ---- as the code has it: both heads by value, beside the two lent tables. "An old place number is never taken for a
--- new one": the alarm in each head is a place of that chart
--- the old chart's head as any chart's
-abbrev pub oldHead : OldHead → Head
-oldHead h = record { places = h .places; alarm = h .alarm .0 }
+-- "both charts", each by itself
+abbrev pub both : Chart → Chart → Compared
+both old new = record { old = old; new = new }
 
--- the new chart's head as any chart's
-abbrev pub newHead : NewHead → Head
-newHead h = record { places = h .places; alarm = h .alarm .0 }
+-- ---- as the code has it: both heads by value, beside the two lent tables
 
--- both charts: "a count of places n, an alarm place, and rows [..] in a lent table" of each
+-- "An old place number is never taken for a new one": the alarm in the old head is an old place. The same head as a
+-- sole chart's
+abbrev pub soleOld : OldHead → Head
+soleOld old = record { places = old .places; alarm = old .alarm .0 }
+
+-- the alarm in the new head is a new place. The same head as a sole chart's
+abbrev pub soleNew : NewHead → Head
+soleNew new = record { places = new .places; alarm = new .alarm .0 }
+
+-- "both charts": of each "a count of places n, an alarm place, and rows [..] in a lent table"
 abbrev pub compared : Heads → List ℕ → List ℕ → Compared
-compared h t u = record { old = charted (oldHead (h .old)) t; new = charted (newHead (h .new)) u }
+compared heads old-table new-table =
+    both (charted (soleOld (heads .old)) old-table) (charted (soleNew (heads .new)) new-table)
 
--- the other way round: both heads, each by itself "a count of places n, an alarm place"
+-- the other way round, of two heads that came one by one: "a count of places n, an alarm place" of each
 abbrev pub bothHeads : Head → Head → Heads
-bothHeads h g =
+bothHeads old new =
     record {
-      old = record { places = h .places; alarm = record { 0 = h .alarm } };
-      new = record { places = g .places; alarm = record { 0 = g .alarm } };
+      old = record { places = old .places; alarm = record { 0 = old .alarm } };
+      new = record { places = new .places; alarm = record { 0 = new .alarm } };
     }
 
 -- both heads of what is compared

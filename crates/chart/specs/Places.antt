@@ -4,7 +4,7 @@ use Rattle.chart.specs.declared.charts.Heads.{Heads}
 use Rattle.chart.specs.declared.places.OldPlace.{OldPlace}
 use Rattle.chart.specs.declared.places.NewPlace.{NewPlace}
 use Rattle.chart.specs.Charts.{start}
-use Rattle.chart.specs.Compared.{oldHead, newHead}
+use Rattle.chart.specs.Compared.{soleOld, soleNew}
 
 -- "the pair (old p, new q) is 64 × p + q"
 abbrev pub pairNumber : OldPlace → NewPlace → ℕ
@@ -25,16 +25,16 @@ newOf pair = record { 0 = pair % 64 }
 -- ---- the start
 -- "the start is place 0": that of the old chart
 abbrev pub oldStart : Heads → OldPlace
-oldStart h = record { 0 = start (oldHead (h .old)) }
+oldStart heads = record { 0 = start (soleOld (heads .old)) }
 
 -- that of the new chart
 abbrev pub newStart : Heads → NewPlace
-newStart h = record { 0 = start (newHead (h .new)) }
+newStart heads = record { 0 = start (soleNew (heads .new)) }
 
 -- "Start 0": the pair of both starts
 abbrev pub startPair : Heads → ℕ
-startPair h = pairNumber (oldStart h) (newStart h)
+startPair heads = pairNumber (oldStart heads) (newStart heads)
 
 -- "Start 4,096": the new start, kept
 abbrev pub startKept : Heads → ℕ
-startKept h = keptNumber (newStart h)
+startKept heads = keptNumber (newStart heads)

@@ -1,6 +1,6 @@
 // The heads of charts, and what judging a chart answers.
 ghost use mathlib.Core.Path.{_≡_};
-ghost use Rattle.chart.specs.Compared.{oldHead, newHead, bothHeads};
+ghost use Rattle.chart.specs.Compared.{soleOld, soleNew, bothHeads};
 use crate::places::NewPlace;
 use crate::places::OldPlace;
 use base::Refusal;
@@ -55,7 +55,7 @@ pub fn both_heads(old: Head, new: Head) -> Heads
 impl OldHead {
     // As any chart's head: by itself a chart is judged alike, old or new.
     pub fn head(self) -> Head
-        ensures { λ r. ⌜ r ≡ oldHead self ⌝ }
+        ensures { λ r. ⌜ r ≡ soleOld self ⌝ }
     {
         Head {
             places: self.places,
@@ -67,7 +67,7 @@ impl OldHead {
 impl NewHead {
     // As any chart's head: by itself a chart is judged alike, old or new.
     pub fn head(self) -> Head
-        ensures { λ r. ⌜ r ≡ newHead self ⌝ }
+        ensures { λ r. ⌜ r ≡ soleNew self ⌝ }
     {
         Head {
             places: self.places,

@@ -5,7 +5,7 @@ use Prim.Native.Nat.{ℕ}
 use Rattle.base.specs.Answers.{Answer, given, refused}
 use Rattle.base.specs.Chains.{andThen, mapped}
 use Rattle.chart.specs.Charts.{Chart}
-use Rattle.chart.specs.Compared.{Compared, oldHead, newHead}
+use Rattle.chart.specs.Compared.{Compared, soleOld, soleNew}
 use Rattle.text.specs.Texts.{Heading, heading, filled}
 use Rattle.pick.specs.declared.Both.{Both}
 use Rattle.pick.specs.declared.Both.the-variants as answer
@@ -24,8 +24,8 @@ headings X = record { old = heading (X .old); new = heading (X .new) }
 unfoldable pub toldBoth : Both → Answer Headings
 toldBoth (answer.Charts heads rows more) =
     given (record {
-      old = record { head = oldHead (heads .old); rows = rows };
-      new = record { head = newHead (heads .new); rows = more };
+      old = record { head = soleOld (heads .old); rows = rows };
+      new = record { head = soleNew (heads .new); rows = more };
     })
 toldBoth (answer.Refused r) = refused r
 

@@ -31,10 +31,10 @@ use Rattle.builder.proofs.Bounds.{build-fits}
 use Rattle.picker.specs.declared.Four.{Four}
 use Rattle.picker.specs.declared.Answer.{Answer as Coded}
 use Rattle.picker.specs.declared.Answer.the-variants.{Given, Refused}
-use Rattle.picker.specs.Numbers.{chartOf, number, one, ofChart, ofText, zeros, ofBuild, bothLent}
+use Rattle.picker.specs.Numbers.{chartOf, number, one, ofChart, ofText, zeros, ofBuild}
 use Rattle.picker.specs.inner.Told.{told, Below, ofHeading}
 use Rattle.picker.proofs.Numbers.{given-low, first, refused-high}
-use Rattle.chart.specs.Compared.{Compared, compared, bothHeads}
+use Rattle.chart.specs.Compared.{Compared, compared, bothHeads, both}
 use Rattle.chart.specs.declared.charts.Head.{Head}
 use Rattle.chart.specs.declared.charts.Heads.{Heads}
 use Rattle.checker.specs.Promise.{Promise}
@@ -104,10 +104,10 @@ none-due none h e = refl
 none-due (some r) h e = absurd (omega (arith, refused-high r h))
 
 -- ---- two charts, whose heads are made of the numbers lent
-pub lent-is : (o n : Head) (t u : List ℕ) {h : Heads} → h ≡ bothHeads o n → compared h t u ≡ bothLent (charted o t) (charted n u)
+pub lent-is : (o n : Head) (t u : List ℕ) {h : Heads} → h ≡ bothHeads o n → compared h t u ≡ both (charted o t) (charted n u)
 lent-is o n t u e = ap (λ (h : Heads). compared h t u) e
 
-pub lent-promise : (o n : Head) (t u : List ℕ) (R : Record) {h : Heads} → h ≡ bothHeads o n → Promise (compared h t u) R → Promise (bothLent (charted o t) (charted n u)) R
+pub lent-promise : (o n : Head) (t u : List ℕ) (R : Record) {h : Heads} → h ≡ bothHeads o n → Promise (compared h t u) R → Promise (both (charted o t) (charted n u)) R
 lent-promise o n t u R e p = subst (λ (X : Compared). Promise X R) (lent-is o n t u e) p
 
 -- ---- a build

@@ -4,7 +4,6 @@ use Prim.Native.Nat.{ℕ, _+_, _*_, _^_}
 use lib.ListN.{length}
 use Rattle.base.specs.Answers.{Answer, given, refused}
 use Rattle.chart.specs.Charts.{Chart, charted, size}
-use Rattle.chart.specs.Compared.{Compared}
 use Rattle.condition.specs.declared.Summary.{Summary}
 use Rattle.picker.specs.declared.Four.{Four}
 
@@ -12,10 +11,6 @@ use Rattle.picker.specs.declared.Four.{Four}
 -- lent, two numbers beside its table
 abbrev pub chartOf : ℕ → ℕ → List ℕ → Chart
 chartOf places alarm table = charted (record { places = places; alarm = alarm }) table
-
--- both charts as they are lent: what is compared
-abbrev pub bothLent : Chart → Chart → Compared
-bothLent old new = record { old = old; new = new }
 
 -- include/picker.h, "Answers": "A refusal is number * 2^56 + chart * 2^48 + position; a success is below 2^56, a + b *
 -- 2^14 + c * 2^28 + d * 2^42."

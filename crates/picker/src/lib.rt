@@ -7,6 +7,7 @@ ghost use lib.ListN.{length};
 ghost use Rattle.base.specs.Chains.{mapped};
 ghost use Rattle.base.specs.Refusals.{unless};
 ghost use Rattle.base.specs.inner.Fits.{FitsOr};
+ghost use Rattle.chart.specs.Compared.{both, bothHeads};
 ghost use Rattle.chart.specs.Faults.{refusal as chartRefusal, told as toldJudged};
 ghost use Rattle.text.specs.Texts.{readInto, filled, toldRead};
 ghost use Rattle.text.specs.Written.{writing, printed, toldWrote};
@@ -17,12 +18,13 @@ ghost use Rattle.graph.specs.Buffers.{buffers};
 ghost use Rattle.paper.specs.Returned.{Returned};
 ghost use Rattle.builder.specs.Answers.{answered, left, told as toldBuilt};
 ghost use Rattle.picker.specs.Lookups.{lookedUp, handed, ofRows};
-ghost use Rattle.picker.specs.Numbers.{chartOf, bothLent, number, one, ofChart, ofText, zeros, ofBuild};
+ghost use Rattle.picker.specs.Numbers.{chartOf, number, one, ofChart, ofText, zeros, ofBuild};
 ghost use Rattle.picker.specs.inner.Told.{told, Below, ofHeading};
 use base::Refusal;
 use base::sole;
 use builder::answers::Built;
 use chart::charts::Head;
+use chart::charts::Heads;
 use chart::charts::Judged;
 use chart::charts::both_heads;
 use checker::answers::Checked;
@@ -131,6 +133,22 @@ fn of_built(answer: Built) -> Answer
     }
 }
 
+// Both heads, of the numbers that are lent beside the two tables.
+fn lent_heads(old_places: u32, old_alarm: u32, new_places: u32, new_alarm: u32) -> Heads
+    ensures { λ r. ⌜ r ≡ bothHeads (record { places = «old_places»; alarm = «old_alarm» })
+        (record { places = «new_places»; alarm = «new_alarm» }) ⌝ }
+{
+    let old = Head {
+        places: old_places,
+        alarm: old_alarm,
+    };
+    let new = Head {
+        places: new_places,
+        alarm: new_alarm,
+    };
+    both_heads(old, new)
+}
+
 // The chart of a text, its rows at the front of the table: places, alarm, rows, 0.
 #[no_mangle]
 pub extern "C" fn picker_read(text: &[u8], table: &mut [u32]) -> u64
@@ -173,26 +191,18 @@ pub extern "C" fn picker_lookup<'a>(
     rows: &mut [u32],
 ) -> u64
     ensures { λ r. ⌜ (r ≡ number (mapped ofRows (lookedUp
-        (bothLent (chartOf «old_places» «old_alarm» (now («old_rows» .entry)))
+        (both (chartOf «old_places» «old_alarm» (now («old_rows» .entry)))
         (chartOf «new_places» «new_alarm» (now («new_rows» .entry))))
         chart place (now (rows .entry)))))
         × (now (rows .exit) ≡ handed (lookedUp
-        (bothLent (chartOf «old_places» «old_alarm» (now («old_rows» .entry)))
+        (both (chartOf «old_places» «old_alarm» (now («old_rows» .entry)))
         (chartOf «new_places» «new_alarm» (now («new_rows» .entry))))
         chart place (now (rows .entry))) (now (rows .entry))) ⌝ }
 {
     if rows.len() != 12 {
         return packed(Answer::Refused(sole(21, 0)));
     }
-    let old = Head {
-        places: old_places,
-        alarm: old_alarm,
-    };
-    let new = Head {
-        places: new_places,
-        alarm: new_alarm,
-    };
-    let heads = both_heads(old, new);
+    let heads = lent_heads(old_places, old_alarm, new_places, new_alarm);
     let part = chart::lookup(heads, old_rows, new_rows, chart, place);
     copy(part, rows);
     packed(Answer::Given(one(part.len() / 6)))
@@ -214,23 +224,15 @@ pub extern "C" fn picker_check<'a>(
     sets: &[u64],
 ) -> u64
     ensures is { λ r. ⌜ r ≡ number (unless (refusal
-        (bothLent (chartOf «old_places» «old_alarm» (now («old_rows» .entry)))
+        (both (chartOf «old_places» «old_alarm» (now («old_rows» .entry)))
         (chartOf «new_places» «new_alarm» (now («new_rows» .entry))))
         (recordOf start (now (marks .entry)) (now (targets .entry)) (now (sets .entry)))) zeros) ⌝ }
     ensures promise { λ r. ⌜ (r ≡ 0 → Promise
-        (bothLent (chartOf «old_places» «old_alarm» (now («old_rows» .entry)))
+        (both (chartOf «old_places» «old_alarm» (now («old_rows» .entry)))
         (chartOf «new_places» «new_alarm» (now («new_rows» .entry))))
         (recordOf start (now (marks .entry)) (now (targets .entry)) (now (sets .entry)))) ⌝ }
 {
-    let old = Head {
-        places: old_places,
-        alarm: old_alarm,
-    };
-    let new = Head {
-        places: new_places,
-        alarm: new_alarm,
-    };
-    let heads = both_heads(old, new);
+    let heads = lent_heads(old_places, old_alarm, new_places, new_alarm);
     packed(of_checked(checker::check(heads, old_rows, new_rows, start, marks, targets, sets)))
 }
 
@@ -250,32 +252,24 @@ pub extern "C" fn picker_build<'a>(
     waiting: &mut [u8],
 ) -> u64
     ensures answer { λ r. ⌜ r ≡ number (mapped ofBuild (answered
-        (bothLent (chartOf «old_places» «old_alarm» (now («old_rows» .entry)))
+        (both (chartOf «old_places» «old_alarm» (now («old_rows» .entry)))
         (chartOf «new_places» «new_alarm» (now («new_rows» .entry))))
         (buffers (now (marks .entry)) (now (targets .entry)) (now (sets .entry)) (now (waiting .entry))))) ⌝ }
     ensures leaves { λ _. ⌜ buffers
         (now (marks .exit)) (now (targets .exit)) (now (sets .exit)) (now (waiting .exit))
         ≡ left
-        (bothLent (chartOf «old_places» «old_alarm» (now («old_rows» .entry)))
+        (both (chartOf «old_places» «old_alarm» (now («old_rows» .entry)))
         (chartOf «new_places» «new_alarm» (now («new_rows» .entry))))
         (buffers (now (marks .entry)) (now (targets .entry)) (now (sets .entry)) (now (waiting .entry))) ⌝ }
     ensures passes { λ r. ⌜ (r < 2 ^ 56 → refusal
-        (bothLent (chartOf «old_places» «old_alarm» (now («old_rows» .entry)))
+        (both (chartOf «old_places» «old_alarm» (now («old_rows» .entry)))
         (chartOf «new_places» «new_alarm» (now («new_rows» .entry))))
         (recordOf (r % 2 ^ 14) (now (marks .exit)) (now (targets .exit)) (now (sets .exit))) ≡ none) ⌝ }
     ensures algorithms { λ r. ⌜ (r < 2 ^ 56 → Returned
-        (bothLent (chartOf «old_places» «old_alarm» (now («old_rows» .entry)))
+        (both (chartOf «old_places» «old_alarm» (now («old_rows» .entry)))
         (chartOf «new_places» «new_alarm» (now («new_rows» .entry))))
         (recordOf (r % 2 ^ 14) (now (marks .exit)) (now (targets .exit)) (now (sets .exit)))) ⌝ }
 {
-    let old = Head {
-        places: old_places,
-        alarm: old_alarm,
-    };
-    let new = Head {
-        places: new_places,
-        alarm: new_alarm,
-    };
-    let heads = both_heads(old, new);
+    let heads = lent_heads(old_places, old_alarm, new_places, new_alarm);
     packed(of_built(builder::build(heads, old_rows, new_rows, marks, targets, sets, waiting)))
 }

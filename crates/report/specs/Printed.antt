@@ -5,7 +5,7 @@ use Rattle.base.specs.Answers.{Answer, given, refused}
 use Rattle.base.specs.declared.Refusal.{Refusal}
 use Rattle.base.specs.Chains.{andThen, mapped}
 use Rattle.chart.specs.Charts.{Chart}
-use Rattle.chart.specs.Compared.{Compared}
+use Rattle.chart.specs.Compared.{Compared, both}
 use Rattle.text.specs.Texts.{readText}
 use Rattle.records.specs.Records.{Record}
 use Rattle.condition.specs.declared.Summary.{Summary}
@@ -25,7 +25,7 @@ ofNew (refused r) = refused (inNew r)
 
 -- "the program finishes old.csv before new.csv": what is read of the two texts
 unfoldable pub bothOf : Answer Chart → Answer Chart → Answer Compared
-bothOf old new = andThen old (λ (O : Chart). andThen (ofNew new) (λ (N : Chart). given (record { old = O; new = N })))
+bothOf old new = andThen old (λ (O : Chart). andThen (ofNew new) (λ (N : Chart). given (both O N)))
 
 -- the charts of both files, by their bytes: "A file that can't be read counts as one without bytes."
 unfoldable pub bothRead : List ℕ → List ℕ → Answer Compared

@@ -22,7 +22,7 @@ use Rattle.chart.specs.Faultless.{FaultlessChart}
 use Rattle.chart.proofs.Bounds.{fault-fits, refusal-fits}
 use Rattle.chart.proofs.Faultless.{faultless}
 use Rattle.text.specs.declared.causes.Cause.{Cause}
-use Rattle.text.specs.declared.causes.Cause.the-variants.{NoBytes, Byte, Number, Records, RowCount}
+use Rattle.text.specs.declared.causes.Cause.the-variants.{NoBytes, BadByte, BadNumber, WrongEnd, ManyRows}
 use Rattle.text.specs.Causes.{causeNumber}
 use Rattle.text.specs.Fields.{itemAt}
 use Rattle.text.specs.Files.{U32s}
@@ -36,13 +36,13 @@ use Rattle.text.proofs.Theorems.{read-exactly, text-positions}
 
 -- ---- the numbers of a text's refusals
 
--- each is one
+-- the number of each cause is one
 cause-named : (c : Cause) → T (within 1 255 (causeNumber c))
 cause-named NoBytes = tt
-cause-named Byte = tt
-cause-named Number = tt
-cause-named Records = tt
-cause-named RowCount = tt
+cause-named BadByte = tt
+cause-named BadNumber = tt
+cause-named WrongEnd = tt
+cause-named ManyRows = tt
 
 -- a refusal has a number, of the sole chart
 abbrev Sole : {A : Type 0} → Answer A → Type 0

@@ -102,11 +102,11 @@ unfolding value
 value-most x [] = omega arith
 value-most x (d ∷ ds) = omega (arith, value-most (x * 10 + d) ds)
 
-ended-zero : (sort : Kind) (first at d : ℕ) (ds : List ℕ) → Unfit cause.Number first ≡ ended sort first at 0 (d ∷ ds)
+ended-zero : (sort : Kind) (first at d : ℕ) (ds : List ℕ) → Unfit cause.BadNumber first ≡ ended sort first at 0 (d ∷ ds)
 unfolding ended
 ended-zero sort first at d ds = refl
 
-ended-above : (sort : Kind) (first at x d : ℕ) (ds : List ℕ) → (x ≡ 0 → ⊥) → 4294967295 < x * 10 + d → Unfit cause.Number first ≡ ended sort first at x (d ∷ ds)
+ended-above : (sort : Kind) (first at x d : ℕ) (ds : List ℕ) → (x ≡ 0 → ⊥) → 4294967295 < x * 10 + d → Unfit cause.BadNumber first ≡ ended sort first at x (d ∷ ds)
 unfolding ended bounded value
 ended-above sort first at x d ds n h =
     rw (ne-eqb x 0 n, ended, lt-leb (value (x * 10 + d) ds) 4294967295 (omega (arith, value-most (x * 10 + d) ds)), bounded)
@@ -147,7 +147,7 @@ pub record Counting (sort : Kind) (text : List ℕ) (first x at : ℕ) : Type 0 
   pub inside : at ≤ length text
 
 module _ (sort : Kind) (text : List ℕ) (first x : ℕ) where
-  pub number-none : TellsDigit x (byteAt text first) → 9 < x → Unfit cause.Byte first ≡ numberAt sort text first
+  pub number-none : TellsDigit x (byteAt text first) → 9 < x → Unfit cause.BadByte first ≡ numberAt sort text first
   unfolding numberAt numberOf
   number-none t h = rw (digits-none text first (t .none h))
 
@@ -169,12 +169,12 @@ module _ (sort : Kind) (text : List ℕ) (first x : ℕ) where
       here : digitOf (byteAt text at) ≤ 9
       here = let e = t .is h in omega arith
 
-      pub number-zero : x ≡ 0 → Unfit cause.Number first ≡ numberAt sort text first
+      pub number-zero : x ≡ 0 → Unfit cause.BadNumber first ≡ numberAt sort text first
       number-zero z =
           rw (c .is, digits-more text at here, z) (ended-zero sort first at (digitOf (byteAt text at)) (digits (drop (at + 1) text)))
 
       module _ (n : x ≡ 0 → ⊥) (r : Bool) (e : r ≡ leb (x * 10 + d) 4294967295) where
-        pub number-above : not r ≡ true → Unfit cause.Number first ≡ numberAt sort text first
+        pub number-above : not r ≡ true → Unfit cause.BadNumber first ≡ numberAt sort text first
         number-above f =
             let i = t .is h in
             let g = leb-false (x * 10 + d) 4294967295 (sym e ∙ not-true r f) in
@@ -200,7 +200,7 @@ module _ (sort s : Kind) (first next x : ℕ) (i : s ≡ sort) where
   unfolding judged
   judge-count e h = rw (← i, e, le-leb x 128 h, judged)
 
-  pub judge-many : s ≡ Count → 128 < x → Unfit cause.RowCount first ≡ judged sort first next x
+  pub judge-many : s ≡ Count → 128 < x → Unfit cause.ManyRows first ≡ judged sort first next x
   unfolding judged
   judge-many e h = rw (← i, e, lt-leb x 128 h, judged)
 
@@ -208,7 +208,7 @@ module _ (sort s : Kind) (first next x : ℕ) (i : s ≡ sort) where
   unfolding judged
   judge-spare e h = rw (← i, e, eq-eqb x 0 h, judged)
 
-  pub judge-used : s ≡ Spare → (x ≡ 0 → ⊥) → Unfit cause.Number first ≡ judged sort first next x
+  pub judge-used : s ≡ Spare → (x ≡ 0 → ⊥) → Unfit cause.BadNumber first ≡ judged sort first next x
   unfolding judged
   judge-used e h = rw (← i, e, ne-eqb x 0 h, judged)
 
@@ -219,7 +219,7 @@ module _ (b : ℕ) (text : List ℕ) (f : Field) where
   unfolding followed
   follow-unfit c p e = rw e
 
-  pub follow-past : (x p : ℕ) → b < 256 → f ≡ Number x p → length text ≤ p → Unfit cause.Byte p ≡ followed b text f
+  pub follow-past : (x p : ℕ) → b < 256 → f ≡ Number x p → length text ≤ p → Unfit cause.BadByte p ≡ followed b text f
   unfolding followed
   follow-past x p s e h = rw (e, byte-past text p h, ne-eqb 256 b (omega arith), followed)
 
@@ -227,7 +227,7 @@ module _ (b : ℕ) (text : List ℕ) (f : Field) where
   unfolding followed
   follow-is x p e l h = rw (e, byte-here text p l, eq-eqb _ _ h, followed)
 
-  pub follow-not : (x p : ℕ) → f ≡ Number x p → p < length text → (getD text p 0 ≡ b → ⊥) → Unfit cause.Byte p ≡ followed b text f
+  pub follow-not : (x p : ℕ) → f ≡ Number x p → p < length text → (getD text p 0 ≡ b → ⊥) → Unfit cause.BadByte p ≡ followed b text f
   unfolding followed
   follow-not x p e l h = rw (e, byte-here text p l, ne-eqb _ _ h, followed)
 
@@ -246,7 +246,7 @@ module _ (text : List ℕ) (f : Field) where
 
 -- ---- a field
 
-pub field-past : (sort : Kind) (text : List ℕ) (at : ℕ) → length text ≤ at → Unfit cause.Byte at ≡ fieldAt sort text at
+pub field-past : (sort : Kind) (text : List ℕ) (at : ℕ) → length text ≤ at → Unfit cause.BadByte at ≡ fieldAt sort text at
 unfolding fieldAt
 field-past sort text at h = rw (byte-past text at h, fieldAt) (number-none sort text at 10 (digit-past text at h) (omega arith))
 
@@ -318,7 +318,7 @@ module _ (k : ℕ) (text : List ℕ) (at : ℕ) where
   unfolding missing
   missing-inside h = rw (lt-leb _ _ h, missing, and-false (eqb (k % 6) 0))
 
-  pub item-missing : (m : Bool) → m ≡ missing k text at → m ≡ true → Unfit cause.Records (length text) ≡ itemAt k text at
+  pub item-missing : (m : Bool) → m ≡ missing k text at → m ≡ true → Unfit cause.WrongEnd (length text) ≡ itemAt k text at
   unfolding itemAt
   item-missing m e h = rw (sym e ∙ h, itemAt)
 

@@ -45,7 +45,7 @@ value-least j x (d ∷ ds) h =
     rw z (value-least (suc j) (x * 10 + d) ds (omega arith))
 
 -- eleven digits or more are too many
-pub number-long : (sort : Kind) (first : ℕ) (ds : List ℕ) → 11 ≤ length ds → numberOf sort first ds ≡ Unfit cause.Number first
+pub number-long : (sort : Kind) (first : ℕ) (ds : List ℕ) → 11 ≤ length ds → numberOf sort first ds ≡ Unfit cause.BadNumber first
 unfolding numberOf ended bounded ten
 number-long sort first [] h = absurd (omega arith)
 number-long sort first (d ∷ []) h = absurd (omega arith)

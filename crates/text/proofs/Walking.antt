@@ -23,7 +23,7 @@ use Rattle.chart.specs.Charts.{Chart, size, charted}
 use Rattle.chart.specs.Faults.{told, refusal}
 use Rattle.text.specs.declared.answers.Read.the-variants as read
 use Rattle.text.specs.declared.causes.Cause.{Cause}
-use Rattle.text.specs.declared.causes.Cause.the-variants.{NoBytes, Records}
+use Rattle.text.specs.declared.causes.Cause.the-variants.{NoBytes, WrongEnd}
 use Rattle.text.specs.declared.fields.Field.{Field}
 use Rattle.text.specs.declared.fields.Field.the-variants.{Number, Unfit}
 use Rattle.text.specs.declared.inner.first.First.{First}
@@ -32,7 +32,7 @@ use Rattle.text.specs.declared.inner.reader.Parsed.{Parsed}
 use Rattle.text.specs.declared.inner.reader.Parsed.the-variants as parse
 use Rattle.text.specs.declared.inner.table.Reach.{Reach}
 use Rattle.text.specs.declared.inner.table.Reach.the-variants as reach
-use Rattle.text.specs.Causes.{causeNumber, unfit}
+use Rattle.text.specs.Causes.{causeNumber, refusedFor}
 use Rattle.text.specs.Fields.{itemAt}
 use Rattle.text.specs.Spans.{Span, onField, fieldsAt}
 use Rattle.text.specs.Texts.{whole, rowsAt, parsed, readText, readInto, filled, heading, toldRead, headIn, countIn}
@@ -46,7 +46,7 @@ use Rattle.text.proofs.Charts.{Spells, parsed-shows}
 -- what fields give by what is reached, with these numbers
 abbrev spanOf : Reach → List ℕ → Answer Span
 spanOf (reach.Past p) l = given (record { numbers = l; next = p })
-spanOf (reach.Unfit c p) l = unfit c p
+spanOf (reach.Unfit c p) l = refusedFor c p
 
 -- fields give what the walk reaches and the numbers up to there
 fields-are : (n k : ℕ) (text : List ℕ) (at : ℕ) (before : List ℕ) → fieldsAt n k text at before ≡ spanOf (reachAt n k text at) (before ++ numbersAt n k text at)
@@ -130,7 +130,7 @@ module _ (b : ℕ) (t : List ℕ) (h : Head) (count p end : ℕ) where
   unfolding answered
   answered-unfit m o = refl
 
-  answered-after : (o : ℕ) → end < length (b ∷ t) → answered (b ∷ t) (first.Record h count p) (reach.Past o) end ≡ parse.Unfit Records end
+  answered-after : (o : ℕ) → end < length (b ∷ t) → answered (b ∷ t) (first.Record h count p) (reach.Past o) end ≡ parse.Unfit WrongEnd end
   unfolding answered
   answered-after o w = rw (lt-ltb end (length (b ∷ t)) w, answered)
 
@@ -235,10 +235,10 @@ module _ (text : List ℕ) (f : First) (g : Reach) (end : ℕ) where
           go [] h = absurd (h refl)
           go (b ∷ s) h = rw (e, d)
 
-      pub judge-after : (o : ℕ) → g ≡ reach.Past o → end < length text → parse.Unfit Records end ≡ answered text f g end
+      pub judge-after : (o : ℕ) → g ≡ reach.Past o → end < length text → parse.Unfit WrongEnd end ≡ answered text f g end
       judge-after o d w = go text some-byte w
         where
-          go : (l : List ℕ) → (length l ≡ 0 → ⊥) → end < length l → parse.Unfit Records end ≡ answered l f g end
+          go : (l : List ℕ) → (length l ≡ 0 → ⊥) → end < length l → parse.Unfit WrongEnd end ≡ answered l f g end
           go [] k w = absurd (k refl)
           go (b ∷ s) k w = rw (e, d, answered-after b s h count p end o w)
 
@@ -258,11 +258,11 @@ pub record Spelt (text : List ℕ) (h : Head) (n : ℕ) : Type 0 where
   pub few : length (rowNumbers text) ≤ 768
 
 module _ (text : List ℕ) (a : Parsed) (is : toldParsed a ≡ mapped heading (parsed text)) where
-  spelt-not : (c : Cause) (o : ℕ) → a ≡ parse.Unfit c o → parsed text ≡ unfit c o
+  spelt-not : (c : Cause) (o : ℕ) → a ≡ parse.Unfit c o → parsed text ≡ refusedFor c o
   unfolding toldParsed
   spelt-not c o e = go (parsed text) (sym is ∙ rw e)
     where
-      go : (x : Answer Chart) → mapped heading x ≡ unfit c o → x ≡ unfit c o
+      go : (x : Answer Chart) → mapped heading x ≡ refusedFor c o → x ≡ refusedFor c o
       go (given C) e = absurd (different e)
       go (refused s) e = cc
 

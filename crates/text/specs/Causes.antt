@@ -3,7 +3,7 @@ use Prim.Native.Nat.{ℕ}
 use Rattle.base.specs.Answers.{Answer, refused}
 use Rattle.base.specs.Refusals.{sole}
 use Rattle.text.specs.declared.causes.Cause.{Cause}
-use Rattle.text.specs.declared.causes.Cause.the-variants.{NoBytes, Byte, Number, Records, RowCount}
+use Rattle.text.specs.declared.causes.Cause.the-variants.{NoBytes, BadByte, BadNumber, WrongEnd, ManyRows}
 
 -- The number of each. "11 no bytes; 12 a byte that doesn't fit, or an end within a record [..]; 13 leading zero, above
 -- 4294967295, or a non-zero spare in the first record [..]; 14 a text that ends after a whole record, CRLF or not, with
@@ -11,11 +11,11 @@ use Rattle.text.specs.declared.causes.Cause.the-variants.{NoBytes, Byte,
 -- is 2"
 abbrev pub causeNumber : Cause → ℕ
 causeNumber NoBytes = 11
-causeNumber Byte = 12
-causeNumber Number = 13
-causeNumber Records = 14
-causeNumber RowCount = 2
+causeNumber BadByte = 12
+causeNumber BadNumber = 13
+causeNumber WrongEnd = 14
+causeNumber ManyRows = 2
 
 -- "Each gives number, chart (0 old or sole, 1 new), position": the refusal of a text that does not fit at an offset
-abbrev pub unfit : {A : Type 0} → Cause → ℕ → Answer A
-unfit cause p = refused (sole (causeNumber cause) p)
+abbrev pub refusedFor : {A : Type 0} → Cause → ℕ → Answer A
+refusedFor cause p = refused (sole (causeNumber cause) p)

@@ -40,13 +40,13 @@ kind k = getD (Plain ∷ Plain ∷ Count ∷ Spare ∷ Spare ∷ Spare ∷ []) k
 -- 2, at its first digit"
 unfoldable pub judged : Kind → ℕ → ℕ → ℕ → Field
 judged Plain first next x = Number x next
-judged Count first next x = elim (leb x 128) [ true ↦ Number x next | false ↦ Unfit cause.RowCount first ]
-judged Spare first next x = elim (eqb x 0) [ true ↦ Number x next | false ↦ Unfit cause.Number first ]
+judged Count first next x = elim (leb x 128) [ true ↦ Number x next | false ↦ Unfit cause.ManyRows first ]
+judged Spare first next x = elim (eqb x 0) [ true ↦ Number x next | false ↦ Unfit cause.BadNumber first ]
 
 -- "13 [..] above 4294967295"
 unfoldable pub bounded : Kind → ℕ → ℕ → ℕ → Field
 bounded sort first next x =
-    elim (leb x 4294967295) [ true ↦ judged sort first next x | false ↦ Unfit cause.Number first ]
+    elim (leb x 4294967295) [ true ↦ judged sort first next x | false ↦ Unfit cause.BadNumber first ]
 
 -- "leading": whether digits follow
 abbrev pub more : List ℕ → Bool
@@ -57,13 +57,13 @@ more (d ∷ ds) = true
 unfoldable pub ended : Kind → ℕ → ℕ → ℕ → List ℕ → Field
 ended sort first at x ds =
     elim (eqb x 0 && more ds) [
-      | true ↦ Unfit cause.Number first
+      | true ↦ Unfit cause.BadNumber first
       | false ↦ bounded sort first (at + length ds) (value x ds)
     ]
 
 -- "a field is 1 or more digits": no digit is "12 a byte that doesn't fit, or an end within a record (its offset)"
 unfoldable pub numberOf : Kind → ℕ → List ℕ → Field
-numberOf sort first [] = Unfit cause.Byte first
+numberOf sort first [] = Unfit cause.BadByte first
 numberOf sort first (d ∷ ds) = ended sort first (first + 1) d ds
 
 -- "a number is judged when its digits end": the one whose first digit stands at an offset
@@ -74,7 +74,7 @@ numberAt sort text first = numberOf sort first (digits (drop first text))
 -- "12 a byte that doesn't fit, or an end within a record (its offset)": the number, if the byte b follows it
 unfoldable pub followed : ℕ → List ℕ → Field → Field
 followed b text (Unfit c p) = Unfit c p
-followed b text (Number x p) = elim (eqb (byteAt text p) b) [ true ↦ Number x (p + 1) | false ↦ Unfit cause.Byte p ]
+followed b text (Number x p) = elim (eqb (byteAt text p) b) [ true ↦ Number x (p + 1) | false ↦ Unfit cause.BadByte p ]
 
 -- "perhaps within double quotes"
 unfoldable pub fieldAt : Kind → List ℕ → ℕ → Field
@@ -103,6 +103,6 @@ missing k text at = eqb (k % 6) 0 && leb (length text) at
 unfoldable pub itemAt : ℕ → List ℕ → ℕ → Field
 itemAt k text at =
     elim (missing k text at) [
-      | true ↦ Unfit cause.Records (length text)
+      | true ↦ Unfit cause.WrongEnd (length text)
       | false ↦ closed k text (fieldAt (kind k) text at)
     ]

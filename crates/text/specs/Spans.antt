@@ -4,7 +4,7 @@ use Prim.Native.Nat.{ℕ, zero, suc}
 use Rattle.base.specs.Answers.{Answer, given}
 use Rattle.text.specs.declared.fields.Field.{Field}
 use Rattle.text.specs.declared.fields.Field.the-variants.{Number, Unfit}
-use Rattle.text.specs.Causes.{unfit}
+use Rattle.text.specs.Causes.{refusedFor}
 use Rattle.text.specs.Fields.{itemAt}
 
 -- "keeps the text and the offset reached": the numbers that were read, and the offset after them
@@ -15,7 +15,7 @@ pub record Span : Type 0 where
 -- "Leftmost first": what follows a number and the offset after it; a refusal stays
 abbrev pub onField : {A : Type 0} → Field → (ℕ → ℕ → Answer A) → Answer A
 onField (Number x p) f = f x p
-onField (Unfit c p) f = unfit c p
+onField (Unfit c p) f = refusedFor c p
 
 -- "Records of six fields", one after the other: so many fields, from field k at an offset on, behind the numbers read
 -- before them. A refusal ends the reading.

@@ -12,14 +12,14 @@ use Rattle.chart.specs.Charts.{Chart, charted, size}
 use Rattle.chart.specs.Faults.{fault}
 use Rattle.text.specs.declared.answers.Read.{Read}
 use Rattle.text.specs.declared.answers.Read.the-variants as answer
-use Rattle.text.specs.declared.causes.Cause.the-variants.{NoBytes, Records}
-use Rattle.text.specs.Causes.{unfit}
+use Rattle.text.specs.declared.causes.Cause.the-variants.{NoBytes, WrongEnd}
+use Rattle.text.specs.Causes.{refusedFor}
 use Rattle.text.specs.Spans.{Span, fieldsAt}
 
 -- ---- the sender of a text
 -- "14 [..] any byte after the CRLF of the last counted record (the first such offset)"
 unfoldable pub whole : List ℕ → ℕ → Chart → Answer Chart
-whole text at C = elim (ltb at (length text)) [ true ↦ unfit Records at | false ↦ given C ]
+whole text at C = elim (ltb at (length text)) [ true ↦ refusedFor WrongEnd at | false ↦ given C ]
 
 -- "then the rows": as many as the first record counts, and then the end of the text
 unfoldable pub rowsAt : List ℕ → ℕ → Head → ℕ → Answer Chart
@@ -37,7 +37,7 @@ countIn numbers = getD numbers 2 0
 
 -- "The first record is n, alarm, row count, 0, 0, 0"; "11 no bytes"
 unfoldable pub parsed : List ℕ → Answer Chart
-parsed [] = unfit NoBytes 0
+parsed [] = refusedFor NoBytes 0
 parsed (b ∷ s) =
     andThen (fieldsAt 6 0 (b ∷ s) 0 [])
     (λ (first : Span). rowsAt (b ∷ s) (first .next) (headIn (first .numbers)) (countIn (first .numbers)))

@@ -1,13 +1,12 @@
 // Why a text does not fit: the causes of a refusal, by name. Their numbers are the entry point's to tell.
 pub enum Cause {
-    // No bytes.
     NoBytes,
     // A byte that does not fit, or an end within a record.
-    Byte,
+    BadByte,
     // A leading zero, a number above 4294967295, or a non-zero spare in the first record.
-    Number,
+    BadNumber,
     // Records missing, or a byte after the last counted one.
-    Records,
+    WrongEnd,
     // A row count above 128.
-    RowCount,
+    ManyRows,
 }

@@ -69,13 +69,13 @@ fn judge(field: usize, first: usize, next: usize, x: u32) -> Field
             if x <= 128 {
                 return Field::Number(x, next);
             }
-            Field::Unfit(Cause::RowCount, first)
+            Field::Unfit(Cause::ManyRows, first)
         }
         Kind::Spare => {
             if x == 0 {
                 return Field::Number(x, next);
             }
-            Field::Unfit(Cause::Number, first)
+            Field::Unfit(Cause::BadNumber, first)
         }
     }
 }
@@ -87,12 +87,12 @@ fn number_at(text: &[u8], first: usize, field: usize) -> Field
 {
     let mut value = digit(text, first);
     if 9 < value {
-        return Field::Unfit(Cause::Byte, first);
+        return Field::Unfit(Cause::BadByte, first);
     }
     let mut at = first + 1;
     if value == 0 {
         if digit(text, at) <= 9 {
-            return Field::Unfit(Cause::Number, first);
+            return Field::Unfit(Cause::BadNumber, first);
         }
         return judge(field, first, at, 0);
     }
@@ -102,7 +102,7 @@ fn number_at(text: &[u8], first: usize, field: usize) -> Field
             return judge(field, first, at, value);
         }
         if !has_room(value, d) {
-            return Field::Unfit(Cause::Number, first);
+            return Field::Unfit(Cause::BadNumber, first);
         }
         value = value * 10 + d;
         at += 1;
@@ -117,12 +117,12 @@ fn follow(text: &[u8], f: Field, b: u8) -> Field
         Field::Unfit(cause, p) => Field::Unfit(cause, p),
         Field::Number(x, p) => {
             if text.len() <= p {
-                return Field::Unfit(Cause::Byte, p);
+                return Field::Unfit(Cause::BadByte, p);
             }
             if text[p] == b {
                 return Field::Number(x, p + 1);
             }
-            Field::Unfit(Cause::Byte, p)
+            Field::Unfit(Cause::BadByte, p)
         }
     }
 }
@@ -132,7 +132,7 @@ fn field_at(text: &[u8], at: usize, field: usize) -> Field
     ensures { λ r. ⌜ r ≡ fieldAt (kind field) (now (text .entry)) at ⌝ }
 {
     if text.len() <= at {
-        return Field::Unfit(Cause::Byte, at);
+        return Field::Unfit(Cause::BadByte, at);
     }
     if text[at] == 34 {
         let f = number_at(text, at + 1, field);
@@ -187,7 +187,7 @@ pub fn item_at(text: &[u8], at: usize, field: usize) -> Field
     ensures { λ r. ⌜ r ≡ itemAt field (now (text .entry)) at ⌝ }
 {
     if is_missing(text, at, field) {
-        return Field::Unfit(Cause::Records, text.len());
+        return Field::Unfit(Cause::WrongEnd, text.len());
     }
     let f = field_at(text, at, field);
     close(text, f, field)

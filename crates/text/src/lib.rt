@@ -33,10 +33,10 @@ fn cause_number(cause: Cause) -> u32
 {
     match cause {
         Cause::NoBytes => 11,
-        Cause::Byte => 12,
-        Cause::Number => 13,
-        Cause::Records => 14,
-        Cause::RowCount => 2,
+        Cause::BadByte => 12,
+        Cause::BadNumber => 13,
+        Cause::WrongEnd => 14,
+        Cause::ManyRows => 2,
     }
 }
 

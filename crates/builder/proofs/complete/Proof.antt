@@ -13,7 +13,7 @@ slice-aggregate-explore : tie.Need-slice-aggregate-explore
 slice-aggregate-explore c = search needs
 
 explore-requires : tie.Need-explore-requires
-explore-requires c κs = (record { old = c .before .before .before .before .before .before .before .before .before .before .before .before .before .pre .0; new = c .before .before .before .before .before .before .before .before .before .before .before .before .before .pre .1 .0; indexed = c .before .before .before .before .before .before .index .ensures }, (c .before .before .before .before .before .before .before .before .before .before .before .before .before .pre .1 .1, search needs))
+explore-requires c κs = (record { old-faultless = c .before .before .before .before .before .before .before .before .before .before .before .before .before .pre .0; new-faultless = c .before .before .before .before .before .before .before .before .before .before .before .before .before .pre .1 .0; indexed = c .before .before .before .before .before .before .index .ensures }, (c .before .before .before .before .before .before .before .before .before .before .before .before .before .pre .1 .1, search needs))
 
 slice-aggregate-finish : tie.Need-slice-aggregate-finish
 slice-aggregate-finish c = search needs

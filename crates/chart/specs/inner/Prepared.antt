@@ -7,6 +7,6 @@ use Rattle.chart.specs.inner.Index.{Indexed}
 
 -- two faultless charts, and an index of both tables
 pub record Prepared (X : Compared) (index : List ℕ) : Type 0 where
-  pub old : FaultlessChart (X .old)
-  pub new : FaultlessChart (X .new)
+  pub old-faultless : FaultlessChart (X .old)
+  pub new-faultless : FaultlessChart (X .new)
   pub indexed : Indexed (X .old .table) (X .new .table) index

@@ -25,7 +25,7 @@ index-requires c κs = (indexable _ (c .before .before .before .before .before .
 broken-requires : tie.Need-broken-requires
 broken-requires c κs =
     let p = c .before .before .before .before .before .before .before .before .before .pre in
-    admitted _ (recordOf _ _ _ _) (c .before .before .before .shaped .ensures) (not-false _ (c .before .before .if1 .left)) (record { old = p .0; new = p .1 .0; indexed = c .before .index .ensures }) (p .1 .1)
+    admitted _ (recordOf _ _ _ _) (c .before .before .before .shaped .ensures) (not-false _ (c .before .before .if1 .left)) (record { old-faultless = p .0; new-faultless = p .1 .0; indexed = c .before .index .ensures }) (p .1 .1)
 
 enum-known-position : tie.Need-enum-known-position
 enum-known-position c = search needs

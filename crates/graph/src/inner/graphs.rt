@@ -63,7 +63,7 @@ fn leave_all(
         × (now (waiting .exit) ≡ cleared q (now (waiting .entry))) ⌝ }
 {
     let k = q.0 as usize;
-    if !meets(members::gathered(seen), alone(k as u32)) {
+    if !meets(members::gathered(seen), alone(q.0)) {
         return;
     }
     for p in 0..64 {

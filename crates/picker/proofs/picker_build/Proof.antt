@@ -4,8 +4,8 @@ use borrow.Author.Needs.{needs}
 use Rattle.picker.proofs.picker_build.Statement.{statement}
 use Rattle.picker.proofs.picker_build.Tie as tie
 
-both-heads-requires : tie.Need-both-heads-requires
-both-heads-requires c κs = search needs
+lent-heads-requires : tie.Need-lent-heads-requires
+lent-heads-requires c κs = search needs
 
 build-requires : tie.Need-build-requires
 build-requires c κs = search needs
@@ -30,7 +30,7 @@ same-length-4 c = search needs
 
 returns : tie.Need-returns
 returns c =
-    rw (← lent-is _ _ _ _ (c .before .before .before .before .before .before .before .before .before .before .before .before .before .before .before .both-heads .ensures))
+    rw (← lent-is _ _ _ _ (c .before .before .before .before .before .before .before .before .before .before .before .before .before .before .before .lent-heads .ensures))
     (let b = c .before .before .before .before .before .before .before .before .before .before .build .ensures in
     let i = c .before .of-built .ensures in
     let A = build-answers _ _ (b .0) i in
@@ -41,7 +41,7 @@ pub picker-build-spec : {M : Type 1} → statement M
 picker-build-spec =
     tie.close
     (tie.spec
-    both-heads-requires
+    lent-heads-requires
     build-requires
     of-built-requires
     packed-requires

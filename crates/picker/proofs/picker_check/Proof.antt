@@ -7,8 +7,8 @@ use borrow.Author.Needs.{needs}
 use Rattle.picker.proofs.picker_check.Statement.{statement}
 use Rattle.picker.proofs.picker_check.Tie as tie
 
-both-heads-requires : tie.Need-both-heads-requires
-both-heads-requires c κs = search needs
+lent-heads-requires : tie.Need-lent-heads-requires
+lent-heads-requires c κs = search needs
 
 check-requires : tie.Need-check-requires
 check-requires c κs = search needs
@@ -22,7 +22,7 @@ packed-requires c κs = packs (due-answers (refusal-fits _ _) (c .before .check 
 returns : tie.Need-returns
 returns c =
     let A = c .before .before .before .before .before .before .before .before .before .args in
-    let k = c .before .before .before .both-heads .ensures in
+    let k = c .before .before .before .lent-heads .ensures in
     let d = c .before .before .check .ensures in
     let e = makes (due-answers (refusal-fits _ _) (d .0) (c .before .of-checked .ensures)) (c .packed .ensures) in (
       rw (← lent-is _ _ _ _ k) e,
@@ -30,4 +30,4 @@ returns c =
     )
 
 pub picker-check-spec : {M : Type 1} → statement M
-picker-check-spec = tie.close (tie.spec both-heads-requires check-requires of-checked-requires packed-requires returns)
+picker-check-spec = tie.close (tie.spec lent-heads-requires check-requires of-checked-requires packed-requires returns)

@@ -16,15 +16,15 @@ packed-requires c κs = length-fits (c .sole .ensures)
 returns : tie.Need-returns
 returns c = length-refused _ _ _ _ (c .before .before .if1 .taken) (c .before .sole .ensures) (c .packed .ensures)
 
-both-heads-requires : tie.Need-both-heads-requires
-both-heads-requires c κs = search needs
+lent-heads-requires : tie.Need-lent-heads-requires
+lent-heads-requires c κs = search needs
 
 lookup-requires : tie.Need-lookup-requires
 lookup-requires c κs = search needs
 
 copy-requires : tie.Need-copy-requires
 copy-requires c κs =
-    let X = compared (c .before .before .both-heads .result) (c .before .before .before .before .before .before .before .args .old-rows .now) (c .before .before .before .before .before .before .before .args .new-rows .now) in
+    let X = compared (c .before .before .lent-heads .result) (c .before .before .before .before .before .before .before .args .old-rows .now) (c .before .before .before .before .before .before .before .args .new-rows .now) in
     let s = part-short X _ _ (λ k. omega (arith, c .before .before .before .before .before .before .shared-slice-known .given k)) (λ k. omega (arith, c .before .before .before .before .before .shared-slice-known2 .given k)) (c .before .lookup .ensures .1) in
     omega (arith, c .before .before .before .if1 .left)
 
@@ -33,7 +33,7 @@ one-requires c κs = search needs
 
 packed-requires-2 : tie.Need-packed-requires-2
 packed-requires-2 c κs =
-    let X = compared (c .before .before .before .before .before .before .both-heads .result) (c .before .before .before .before .before .before .before .before .before .before .before .args .old-rows .now) (c .before .before .before .before .before .before .before .before .before .before .before .args .new-rows .now) in
+    let X = compared (c .before .before .before .before .before .before .lent-heads .result) (c .before .before .before .before .before .before .before .before .before .before .before .args .old-rows .now) (c .before .before .before .before .before .before .before .before .before .before .before .args .new-rows .now) in
     part-below X _ _ (λ k. omega (arith, c .before .before .before .before .before .before .before .before .before .before .shared-slice-known .given k)) (λ k. omega (arith, c .before .before .before .before .before .before .before .before .before .shared-slice-known2 .given k)) (c .before .before .before .before .before .lookup .ensures .1) (c .one .ensures)
 
 same-length : tie.Need-same-length
@@ -41,7 +41,7 @@ same-length c = search needs
 
 returns-2 : tie.Need-returns-2
 returns-2 c =
-    rw (← lent-is _ _ _ _ (c .before .before .before .before .before .before .before .both-heads .ensures))
+    rw (← lent-is _ _ _ _ (c .before .before .before .before .before .before .before .lent-heads .ensures))
     (part-handed _ _ _ _ (c .before .before .before .before .before .before .before .before .if1 .left) (c .before .before .before .before .before .before .lookup .ensures .1) (c .before .before .before .before .copy .ensures) (c .before .one .ensures) (c .packed2 .ensures))
 
 pub picker-lookup-spec : {M : Type 1} → statement M
@@ -51,7 +51,7 @@ picker-lookup-spec =
     sole-requires
     packed-requires
     returns
-    both-heads-requires
+    lent-heads-requires
     lookup-requires
     copy-requires
     one-requires

@@ -6,7 +6,7 @@ use Prim.Native.Nat.{ℕ, zero, suc, _*_}
 use lib.Dec.{ltb}
 use lib.ListN.{length, drop}
 use Rattle.base.specs.Answers.{Answer, given}
-use Rattle.text.specs.declared.causes.Cause.the-variants.{NoBytes, Records}
+use Rattle.text.specs.declared.causes.Cause.the-variants.{NoBytes, WrongEnd}
 use Rattle.text.specs.declared.fields.Field.{Field}
 use Rattle.text.specs.declared.fields.Field.the-variants.{Number, Unfit}
 use Rattle.text.specs.declared.inner.first.First.{First}
@@ -15,7 +15,7 @@ use Rattle.text.specs.declared.inner.reader.Parsed.{Parsed}
 use Rattle.text.specs.declared.inner.reader.Parsed.the-variants as parsed
 use Rattle.text.specs.declared.inner.table.Reach.{Reach}
 use Rattle.text.specs.declared.inner.table.Reach.the-variants as reach
-use Rattle.text.specs.Causes.{unfit}
+use Rattle.text.specs.Causes.{refusedFor}
 use Rattle.text.specs.Fields.{itemAt}
 use Rattle.text.specs.Texts.{Heading, headIn, countIn}
 
@@ -80,9 +80,9 @@ answered [] r rows end = parsed.Unfit NoBytes 0
 answered (b ∷ s) (first.Unfit c p) rows end = parsed.Unfit c p
 answered (b ∷ s) (first.Record head count at) (reach.Unfit c p) end = parsed.Unfit c p
 answered (b ∷ s) (first.Record head count at) (reach.Past p) end =
-    elim (ltb end (length (b ∷ s))) [ true ↦ parsed.Unfit Records end | false ↦ parsed.Chart head count ]
+    elim (ltb end (length (b ∷ s))) [ true ↦ parsed.Unfit WrongEnd end | false ↦ parsed.Chart head count ]
 
 -- what the code's answer says
 unfoldable pub toldParsed : Parsed → Answer Heading
 toldParsed (parsed.Chart head rows) = given (record { head = head; rows = rows })
-toldParsed (parsed.Unfit c p) = unfit c p
+toldParsed (parsed.Unfit c p) = refusedFor c p

@@ -12,7 +12,7 @@ pub enum Parsed {
     Unfit(Cause, usize),
 }
 
-// Where a text does not fit first, or head and row count: by what its first record and its rows gave, and the offset
+// Why and where a text does not fit first, or head and row count: by what its first record and its rows gave, and the offset
 // where they ended.
 pub fn judge(text: &[u8], first: First, rows: Reach, end: usize) -> Parsed
     ensures { λ r. ⌜ r ≡ answered (now (text .entry)) first rows end ⌝ }
@@ -26,7 +26,7 @@ pub fn judge(text: &[u8], first: First, rows: Reach, end: usize) -> Parsed
             Reach::Unfit(cause, offset) => Parsed::Unfit(cause, offset),
             Reach::Past(_) => {
                 if end < text.len() {
-                    return Parsed::Unfit(Cause::Records, end);
+                    return Parsed::Unfit(Cause::WrongEnd, end);
                 }
                 Parsed::Chart(head, count as usize)
             }

@@ -32,7 +32,7 @@ enum-known-next : tie.Need-enum-known-next Inv-loop μ-loop
 enum-known-next c = search needs
 
 bit-requires-2 : tie.Need-bit-requires-2 Inv-loop μ-loop
-bit-requires-2 c κs = next-below _ _ (c .before .before .before .before .before .before .loop .inv) (search needs) (c .before .before .before .before .onward .ensures) (c .before .before .before .before .before .before .before .before .before .before .before .pre .0 .old) (ap toldOnward (c .before .before .next .given .1))
+bit-requires-2 c κs = next-below _ _ (c .before .before .before .before .before .before .loop .inv) (search needs) (c .before .before .before .before .onward .ensures) (c .before .before .before .before .before .before .before .before .before .before .before .pre .0 .old-faultless) (ap toldOnward (c .before .before .next .given .1))
 
 meets-requires : tie.Need-meets-requires Inv-loop μ-loop
 meets-requires c κs = search needs
@@ -41,7 +41,7 @@ returns-2 : tie.Need-returns-2 Inv-loop μ-loop
 returns-2 c = walk-twice _ _ (c .before .before .before .before .before .before .before .before .before .loop .inv) (search needs) (c .before .before .before .before .before .before .before .onward .ensures) (ap toldOnward (c .before .before .before .before .before .next .given .1)) (c .before .before .bit2 .ensures) (c .before .meets .ensures) (c .if1 .taken)
 
 bit-requires-3 : tie.Need-bit-requires-3 Inv-loop μ-loop
-bit-requires-3 c κs = next-below _ _ (c .before .before .before .before .before .before .before .before .before .loop .inv) (search needs) (c .before .before .before .before .before .before .before .onward .ensures) (c .before .before .before .before .before .before .before .before .before .before .before .before .before .before .pre .0 .old) (ap toldOnward (c .before .before .before .before .before .next .given .1))
+bit-requires-3 c κs = next-below _ _ (c .before .before .before .before .before .before .before .before .before .loop .inv) (search needs) (c .before .before .before .before .before .before .before .onward .ensures) (c .before .before .before .before .before .before .before .before .before .before .before .before .before .before .pre .0 .old-faultless) (ap toldOnward (c .before .before .before .before .before .next .given .1))
 
 joined-requires : tie.Need-joined-requires Inv-loop μ-loop
 joined-requires c κs = search needs
@@ -53,7 +53,7 @@ loop-less : tie.Need-loop-less Inv-loop μ-loop
 loop-less c = search needs
 
 loop-again : tie.Need-loop-again Inv-loop μ-loop
-loop-again c = walk-on _ _ (c .before .before .before .before .before .before .before .before .before .before .before .loop .inv) (search needs) (c .before .before .before .before .before .before .before .before .before .onward .ensures) (ap toldOnward (c .before .before .before .before .before .before .before .next .given .1)) (c .before .before .before .before .bit2 .ensures) (c .before .before .before .meets .ensures) (c .before .before .before .before .before .before .before .before .before .before .before .before .before .before .before .before .pre .0 .old) (c .before .before .if1 .left) (c .before .bit3 .ensures) (c .joined .ensures)
+loop-again c = walk-on _ _ (c .before .before .before .before .before .before .before .before .before .before .before .loop .inv) (search needs) (c .before .before .before .before .before .before .before .before .before .onward .ensures) (ap toldOnward (c .before .before .before .before .before .before .before .next .given .1)) (c .before .before .before .before .bit2 .ensures) (c .before .before .before .meets .ensures) (c .before .before .before .before .before .before .before .before .before .before .before .before .before .before .before .before .pre .0 .old-faultless) (c .before .before .if1 .left) (c .before .bit3 .ensures) (c .joined .ensures)
 
 returns-3 : tie.Need-returns-3 Inv-loop μ-loop
 returns-3 c = walk-over _ _ (c .before .loop .inv) (search needs)

@@ -22,16 +22,16 @@ returns : tie.Need-returns
 returns c = onward-ends _ _ (sym (c .before .is .ensures) ∙ c .if1 .taken)
 
 rows-of-requires : tie.Need-rows-of-requires
-rows-of-requires c κs = (c .before .before .before .before .before .pre .0 .indexed, (ascends _ (c .before .before .before .before .before .pre .0 .old), c .before .before .before .before .before .pre .1))
+rows-of-requires c κs = (c .before .before .before .before .before .pre .0 .indexed, (ascends _ (c .before .before .before .before .before .pre .0 .old-faultless), c .before .before .before .before .before .pre .1))
 
 assignment-requires : tie.Need-assignment-requires
-assignment-requires c κs = subst (λ (rows : List ℕ). (k : ℕ) → 0 < k → k < size rows → isAssignment (operation rows k) ≡ false) (sym (c .rows-of .ensures)) (λ k z l. later-row _ _ k (c .before .before .before .before .before .before .pre .0 .old) z l)
+assignment-requires c κs = subst (λ (rows : List ℕ). (k : ℕ) → 0 < k → k < size rows → isAssignment (operation rows k) ≡ false) (sym (c .rows-of .ensures)) (λ k z l. later-row _ _ k (c .before .before .before .before .before .before .pre .0 .old-faultless) z l)
 
 enum-known-k : tie.Need-enum-known-k
 enum-known-k c = search needs
 
 along-requires : tie.Need-along-requires
-along-requires c κs = let l = found-inside _ _ _ (sym (ap toldFound (c .before .k .given .1)) ∙ c .before .before .before .assignment .ensures) in let e = c .before .before .before .before .rows-of .ensures in (l, subst (λ (rows : List ℕ). operandsFit (operation rows (c .before .k .given .0 .0)) ≡ true) (sym e) (part-right _ _ _ (c .before .before .before .before .before .before .before .before .before .before .pre .0 .old) (subst (λ (rows : List ℕ). c .before .k .given .0 .0 < size rows) e l) .1))
+along-requires c κs = let l = found-inside _ _ _ (sym (ap toldFound (c .before .k .given .1)) ∙ c .before .before .before .assignment .ensures) in let e = c .before .before .before .before .rows-of .ensures in (l, subst (λ (rows : List ℕ). operandsFit (operation rows (c .before .k .given .0 .0)) ≡ true) (sym e) (part-right _ _ _ (c .before .before .before .before .before .before .before .before .before .before .pre .0 .old-faultless) (subst (λ (rows : List ℕ). c .before .k .given .0 .0 < size rows) e l) .1))
 
 enum-told : tie.Need-enum-told
 enum-told c = search needs

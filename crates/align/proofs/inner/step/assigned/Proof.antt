@@ -14,7 +14,7 @@ use Rattle.align.proofs.inner.step.assigned.Statement.{statement}
 use Rattle.align.proofs.inner.step.assigned.Tie as tie
 
 rows-of-requires : tie.Need-rows-of-requires
-rows-of-requires c κs = (c .before .before .before .before .pre .0 .indexed, (ascends _ (c .before .before .before .before .pre .0 .old), c .before .before .before .before .pre .1 .0))
+rows-of-requires c κs = (c .before .before .before .before .pre .0 .indexed, (ascends _ (c .before .before .before .before .pre .0 .old-faultless), c .before .before .before .before .pre .1 .0))
 
 same-requires : tie.Need-same-requires
 same-requires c κs = search needs

@@ -22,7 +22,7 @@ returns : tie.Need-returns
 returns c = assumed-on _ _ _ (counterpart-none _ _ _ (sym (c .before .is .ensures) ∙ c .if1 .taken)) refl
 
 rows-of-requires : tie.Need-rows-of-requires
-rows-of-requires c κs = (c .before .before .before .before .before .before .pre .0 .indexed, (ascends _ (c .before .before .before .before .before .before .pre .0 .old), c .before .before .before .before .before .before .pre .1 .0))
+rows-of-requires c κs = (c .before .before .before .before .before .before .pre .0 .indexed, (ascends _ (c .before .before .before .before .before .before .pre .0 .old-faultless), c .before .before .before .before .before .before .pre .1 .0))
 
 matching-requires : tie.Need-matching-requires
 matching-requires c κs = search needs
@@ -39,7 +39,7 @@ matched-requires c κs =
     let l = matching-inside _ _ _ m in
     let e = c .before .before .before .before .before .rows-of .ensures in
     let p = c .before .before .before .before .before .before .before .before .before .before .before .before .pre in
-    ((l, matched-assumes _ _ _ (p .1 .1 .1) m, subst (λ (rows : List ℕ). operandsFit (operation rows (c .before .before .k .given .0 .0)) ≡ true) (sym e) (part-right _ _ _ (p .0 .old) (subst (λ (rows : List ℕ). c .before .before .k .given .0 .0 < size rows) e l) .1)), subst (λ (o : Operation). (isAssumption o ≡ true) × (operandsFit o ≡ true)) (sym (c .operation-at .ensures)) (p .1 .1 .1, p .1 .1 .2))
+    ((l, matched-assumes _ _ _ (p .1 .1 .1) m, subst (λ (rows : List ℕ). operandsFit (operation rows (c .before .before .k .given .0 .0)) ≡ true) (sym e) (part-right _ _ _ (p .0 .old-faultless) (subst (λ (rows : List ℕ). c .before .before .k .given .0 .0 < size rows) e l) .1)), subst (λ (o : Operation). (isAssumption o ≡ true) × (operandsFit o ≡ true)) (sym (c .operation-at .ensures)) (p .1 .1 .1, p .1 .1 .2))
 
 enum-told : tie.Need-enum-told
 enum-told c = search needs

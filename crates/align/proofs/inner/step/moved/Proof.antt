@@ -29,7 +29,7 @@ assumed-requires : tie.Need-assumed-requires
 assumed-requires c κs =
     let p = c .before .before .before .before .before .before .before .before .before .pre in
     let n = sym (c .before .before .before .before .before .is-assignment-at .ensures) ∙ c .before .before .before .before .if1 .left in
-    (p .0, (on-at _ (followed-below _ (p .0 .old) _ (p .1 .0)) (sym (c .before .before .before .follow .ensures) ∙ ap toldFollowed (c .before .next .given .1)), (p .1 .1 .0, assuming (record { code = _; a = 0; b = 0; c = 0 }) (p .1 .1 .1) n, p .1 .1 .2)))
+    (p .0, (on-at _ (followed-below _ (p .0 .old-faultless) _ (p .1 .0)) (sym (c .before .before .before .follow .ensures) ∙ ap toldFollowed (c .before .next .given .1)), (p .1 .1 .0, assuming (record { code = _; a = 0; b = 0; c = 0 }) (p .1 .1 .1) n, p .1 .1 .2)))
 
 enum-told : tie.Need-enum-told
 enum-told c = search needs

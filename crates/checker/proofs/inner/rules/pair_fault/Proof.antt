@@ -19,7 +19,7 @@ new-of-requires : tie.Need-new-of-requires
 new-of-requires c κs = search needs
 
 rows-of-requires : tie.Need-rows-of-requires
-rows-of-requires c κs = (c .before .before .before .before .before .before .before .before .pre .0 .prepared .indexed, (ascends _ (c .before .before .before .before .before .before .before .before .pre .0 .prepared .new), (let e = ap (λ (q : NewPlace). q .0) (c .new-of .ensures) in omega arith)))
+rows-of-requires c κs = (c .before .before .before .before .before .before .before .before .pre .0 .prepared .indexed, (ascends _ (c .before .before .before .before .before .before .before .before .pre .0 .prepared .new-faultless), (let e = ap (λ (q : NewPlace). q .0) (c .new-of .ensures) in omega arith)))
 
 rows-fault-requires : tie.Need-rows-fault-requires
 rows-fault-requires c κs = (c .before .before .before .before .before .before .before .before .before .pre .0, (c .before .before .before .before .before .before .before .before .before .pre .1, part-of _ _ (c .before .new-of .ensures) (c .rows-of .ensures)))

@@ -19,7 +19,7 @@ shared-slice-read-step c = search needs
 step-requires : tie.Need-step-requires
 step-requires c κs =
     let p = c .before .before .before .before .before .before .before .before .pre in
-    let o = row-right _ (p .0 .prepared .new) _ _ (p .1 .1) (p .1 .2) in
+    let o = row-right _ (p .0 .prepared .new-faultless) _ _ (p .1 .1) (p .1 .2) in
     (p .0 .prepared, (pair-below _ (c .before .old-of .ensures) (p .1 .0), (p .1 .2, o .0, o .1)))
 
 enum-known-h : tie.Need-enum-known-h
@@ -29,7 +29,7 @@ new-to-requires : tie.Need-new-to-requires
 new-to-requires c κs = search needs
 
 joins-requires : tie.Need-joins-requires
-joins-requires c κs = (c .before .before .before .before .before .before .before .before .before .before .before .before .before .pre .0 .marks-length, c .before .before .before .before .before .before .before .before .before .before .before .before .before .pre .0 .sets-length, row-below _ (c .before .before .before .before .before .before .before .before .before .before .before .before .before .pre .0 .prepared .new) _ _ (c .before .before .before .before .before .before .before .before .before .before .before .before .before .pre .1 .1) (c .before .before .before .before .before .before .before .before .before .before .before .before .before .pre .1 .2) (c .new-to .ensures), stepped-below _ (graphOf (c .before .before .before .before .before .before .before .before .before .before .before .before .before .args .marks .now) (c .before .before .before .before .before .before .before .before .before .before .before .before .before .args .targets .now) (c .before .before .before .before .before .before .before .before .before .before .before .before .before .args .sets .now)) _ _ _ 0 (c .before .before .before .before .before .before .old-of .ensures) (c .before .before .before .before .step .ensures) _ (c .before .before .before .before .before .before .before .before .before .before .before .before .before .pre .0 .prepared .old) (c .before .before .before .before .before .before .before .before .before .before .before .before .before .pre .1 .0) (ap stepTold (c .before .before .h .given .1)))
+joins-requires c κs = (c .before .before .before .before .before .before .before .before .before .before .before .before .before .pre .0 .marks-length, c .before .before .before .before .before .before .before .before .before .before .before .before .before .pre .0 .sets-length, row-below _ (c .before .before .before .before .before .before .before .before .before .before .before .before .before .pre .0 .prepared .new-faultless) _ _ (c .before .before .before .before .before .before .before .before .before .before .before .before .before .pre .1 .1) (c .before .before .before .before .before .before .before .before .before .before .before .before .before .pre .1 .2) (c .new-to .ensures), stepped-below _ (graphOf (c .before .before .before .before .before .before .before .before .before .before .before .before .before .args .marks .now) (c .before .before .before .before .before .before .before .before .before .before .before .before .before .args .targets .now) (c .before .before .before .before .before .before .before .before .before .before .before .before .before .args .sets .now)) _ _ _ 0 (c .before .before .before .before .before .before .old-of .ensures) (c .before .before .before .before .step .ensures) _ (c .before .before .before .before .before .before .before .before .before .before .before .before .before .pre .0 .prepared .old-faultless) (c .before .before .before .before .before .before .before .before .before .before .before .before .before .pre .1 .0) (ap stepTold (c .before .before .h .given .1)))
 
 enum-told : tie.Need-enum-told
 enum-told c = search needs

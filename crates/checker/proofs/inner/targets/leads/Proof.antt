@@ -15,13 +15,13 @@ is-requires : tie.Need-is-requires
 is-requires c κs = search needs
 
 rests-at-requires : tie.Need-rests-at-requires
-rests-at-requires c κs = (c .before .before .before .before .before .before .before .before .before .before .pre .0 .marks-length, row-below _ (c .before .before .before .before .before .before .before .before .before .before .pre .0 .prepared .new) _ _ (c .before .before .before .before .before .before .before .before .before .before .pre .1 .1) (c .before .before .before .before .before .before .before .before .before .before .pre .1 .2) (c .before .before .new-to .ensures))
+rests-at-requires c κs = (c .before .before .before .before .before .before .before .before .before .before .pre .0 .marks-length, row-below _ (c .before .before .before .before .before .before .before .before .before .before .pre .0 .prepared .new-faultless) _ _ (c .before .before .before .before .before .before .before .before .before .before .pre .1 .1) (c .before .before .before .before .before .before .before .before .before .before .pre .1 .2) (c .before .before .new-to .ensures))
 
 returns : tie.Need-returns
 returns c = leads-resting _ (graphOf _ _ _) _ _ _ _ (c .before .before .before .before .old-of .ensures) (c .before .before .is .ensures) (c .before .before .before .new-to .ensures) (c .before .if1 .taken) (c .rests-at .ensures)
 
 keeps-requires : tie.Need-keeps-requires
-keeps-requires c κs = (c .before .before .before .before .before .before .before .before .before .before .pre .0 .marks-length, row-below _ (c .before .before .before .before .before .before .before .before .before .before .pre .0 .prepared .new) _ _ (c .before .before .before .before .before .before .before .before .before .before .pre .1 .1) (c .before .before .before .before .before .before .before .before .before .before .pre .1 .2) (c .before .before .new-to .ensures))
+keeps-requires c κs = (c .before .before .before .before .before .before .before .before .before .before .pre .0 .marks-length, row-below _ (c .before .before .before .before .before .before .before .before .before .before .pre .0 .prepared .new-faultless) _ _ (c .before .before .before .before .before .before .before .before .before .before .pre .1 .1) (c .before .before .before .before .before .before .before .before .before .before .pre .1 .2) (c .before .before .new-to .ensures))
 
 returns-2 : tie.Need-returns-2
 returns-2 c = leads-kept _ (graphOf _ _ _) _ _ _ _ (c .before .before .before .before .before .old-of .ensures) (c .before .before .before .is .ensures) (c .before .before .before .before .new-to .ensures) (c .before .before .if1 .left) (c .before .keeps .ensures) (c .if2 .taken)

@@ -13,7 +13,7 @@ new-of-requires : tie.Need-new-of-requires
 new-of-requires c κs = search needs
 
 rows-of-requires : tie.Need-rows-of-requires
-rows-of-requires c κs = (c .before .before .before .before .before .before .before .before .before .pre .0 .indexed, (ascends _ (c .before .before .before .before .before .before .before .before .before .pre .0 .new), (let e = ap (λ (q : NewPlace). q .0) (c .new-of .ensures) in omega arith)))
+rows-of-requires c κs = (c .before .before .before .before .before .before .before .before .before .pre .0 .indexed, (ascends _ (c .before .before .before .before .before .before .before .before .before .pre .0 .new-faultless), (let e = ap (λ (q : NewPlace). q .0) (c .new-of .ensures) in omega arith)))
 
 old-of-requires : tie.Need-old-of-requires
 old-of-requires c κs = search needs
@@ -21,14 +21,14 @@ old-of-requires c κs = search needs
 step-requires : tie.Need-step-requires
 step-requires c κs =
     let p = c .before .before .before .before .before .before .before .before .before .before .before .before .pre in
-    let o = row-right _ _ _ (c .before .before .before .new-of .ensures) (c .before .before .rows-of .ensures) (p .0 .new) (c .before .if1 .taken) in
+    let o = row-right _ _ _ (c .before .before .before .new-of .ensures) (c .before .before .rows-of .ensures) (p .0 .new-faultless) (c .before .if1 .taken) in
     (p .0, ((let e = ap (λ (p : OldPlace). p .0) (c .old-of .ensures) in omega arith), (c .before .if1 .taken, o .0, o .1)))
 
 new-to-requires : tie.Need-new-to-requires
 new-to-requires c κs = search needs
 
 process-requires : tie.Need-process-requires
-process-requires c κs = ((c .before .before .before .before .before .before .before .before .before .before .before .before .before .before .before .before .before .before .before .before .pre .1 .0 .0, c .before .before .before .before .before .before .before .before .before .before .before .before .before .before .before .before .before .before .before .before .pre .1 .0 .1, part-below _ _ _ (c .before .before .before .before .before .before .before .before .before .before .before .new-of .ensures) (c .before .before .before .before .before .before .before .before .before .before .rows-of .ensures) (c .new-to .result) (c .before .before .before .before .before .before .before .before .before .before .before .before .before .before .before .before .before .before .before .before .pre .0 .new) (c .before .before .before .before .before .before .before .before .before .if1 .taken) (c .new-to .ensures)), (came-fits _ _ _ (c .before .before .before .before .before .before .before .before .before .before .before .new-of .ensures) (c .before .before .before .before .before .before .before .before .before .before .rows-of .ensures) _ (c .before .before .before .before .before .before .before .step .result) (c .before .before .before .before .before .before .before .before .old-of .ensures) (c .before .before .before .before .before .before .before .step .ensures) (c .before .before .before .before .before .before .before .before .before .before .before .before .before .before .before .before .before .before .before .before .pre .0 .old) (c .before .before .before .before .before .before .before .before .before .before .before .before .before .before .before .before .before .before .before .before .pre .0 .new) (c .before .before .before .before .before .before .before .before .before .before .before .before .before .before .before .before .before .before .before .before .pre .1 .0 .0) (search (needs, c .before .before .before .before .before .before .before .before .before .before .before .before .before .before .before .before .before .before .before .before .fits)) (c .before .before .before .before .before .before .before .before .before .if1 .taken), (c .before .before .before .before .before .before .before .before .before .before .before .before .before .before .before .before .before .before .before .before .pre .1 .1 .0, c .before .before .before .before .before .before .before .before .before .before .before .before .before .before .before .before .before .before .before .before .pre .1 .1 .1)))
+process-requires c κs = ((c .before .before .before .before .before .before .before .before .before .before .before .before .before .before .before .before .before .before .before .before .pre .1 .0 .0, c .before .before .before .before .before .before .before .before .before .before .before .before .before .before .before .before .before .before .before .before .pre .1 .0 .1, part-below _ _ _ (c .before .before .before .before .before .before .before .before .before .before .before .new-of .ensures) (c .before .before .before .before .before .before .before .before .before .before .rows-of .ensures) (c .new-to .result) (c .before .before .before .before .before .before .before .before .before .before .before .before .before .before .before .before .before .before .before .before .pre .0 .new-faultless) (c .before .before .before .before .before .before .before .before .before .if1 .taken) (c .new-to .ensures)), (came-fits _ _ _ (c .before .before .before .before .before .before .before .before .before .before .before .new-of .ensures) (c .before .before .before .before .before .before .before .before .before .before .rows-of .ensures) _ (c .before .before .before .before .before .before .before .step .result) (c .before .before .before .before .before .before .before .before .old-of .ensures) (c .before .before .before .before .before .before .before .step .ensures) (c .before .before .before .before .before .before .before .before .before .before .before .before .before .before .before .before .before .before .before .before .pre .0 .old-faultless) (c .before .before .before .before .before .before .before .before .before .before .before .before .before .before .before .before .before .before .before .before .pre .0 .new-faultless) (c .before .before .before .before .before .before .before .before .before .before .before .before .before .before .before .before .before .before .before .before .pre .1 .0 .0) (search (needs, c .before .before .before .before .before .before .before .before .before .before .before .before .before .before .before .before .before .before .before .before .fits)) (c .before .before .before .before .before .before .before .before .before .if1 .taken), (c .before .before .before .before .before .before .before .before .before .before .before .before .before .before .before .before .before .before .before .before .pre .1 .1 .0, c .before .before .before .before .before .before .before .before .before .before .before .before .before .before .before .before .before .before .before .before .pre .1 .1 .1)))
 
 same-length : tie.Need-same-length
 same-length c = search needs

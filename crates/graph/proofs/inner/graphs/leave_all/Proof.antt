@@ -21,9 +21,6 @@ cast-k c = search needs
 gathered-requires : tie.Need-gathered-requires Inv-loop μ-loop
 gathered-requires c κs = search needs
 
-cast-alone : tie.Need-cast-alone Inv-loop μ-loop
-cast-alone c = search needs
-
 alone-requires : tie.Need-alone-requires Inv-loop μ-loop
 alone-requires c κs = search needs
 
@@ -85,7 +82,6 @@ leave-all-spec =
     μ-loop
     cast-k
     gathered-requires
-    cast-alone
     alone-requires
     meets-requires
     returns
