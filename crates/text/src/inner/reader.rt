@@ -12,8 +12,8 @@ pub enum Parsed {
     Unfit(Cause, usize),
 }
 
-// Why and where a text does not fit first, or head and row count: by what its first record and its rows gave, and the offset
-// where they ended.
+// Why and where a text does not fit first, or head and row count: by what its first record and its rows gave, and the
+// offset where they ended.
 pub fn judge(text: &[u8], first: First, rows: Reach, end: usize) -> Parsed
     ensures { λ r. ⌜ r ≡ answered (now (text .entry)) first rows end ⌝ }
 {

@@ -54,8 +54,8 @@ pub fn rows<'s, 'a, 't>(r: &'s mut Reader<'a>, n: usize, table: &'t mut [u32]) -
     f
 }
 
-// The chart that a text spells, before its faults are judged: head and row count, or why and where the text does not fit. The
-// rows go to the front of a table.
+// The chart that a text spells, before its faults are judged: head and row count, or why and where the text does not
+// fit. The rows go to the front of a table.
 pub fn parse(text: &[u8], table: &mut [u32]) -> Parsed
     requires { ⌜ length (now table) ≡ 768 ⌝ }
     ensures { λ r. ⌜ (toldParsed r ≡ mapped heading (parsed (now (text .entry))))
