@@ -80,3 +80,9 @@ module _ {A : Type 0} where
     unfolding firstOf
     none-everywhere zero h = refl
     none-everywhere (suc n) h = rw (none-everywhere n (λ i l. h i (omega arith))) (h n (omega arith))
+
+  -- two that find the same at each place find the same first value
+  pub first-same : (f g : ℕ → Option A) (n : ℕ) → ((i : ℕ) → i < n → f i ≡ g i) → firstOf n f ≡ firstOf n g
+  unfolding firstOf
+  first-same f g zero h = refl
+  first-same f g (suc n) h = rw (first-same f g n (λ i l. h i (omega arith)), h n (omega arith))

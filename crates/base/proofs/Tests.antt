@@ -1,8 +1,8 @@
 -- Laws of tests: what a test that passes says, and tests over the numbers below a bound. Assumes nothing.
-use mathlib.Core.Path.{_≡_, refl, sym, subst, _∙_}
+use mathlib.Core.Path.{_≡_, refl, sym, ap, subst, _∙_}
 use mathlib.Core.Bool.{Bool, true, false, _&&_, _||_, not}
 use mathlib.Core.Logic.{_⊎_, inl, inr, ⊎-elim}
-use Prim.Native.Nat.{ℕ, zero, suc, _-_, _≤_, _<_}
+use Prim.Native.Nat.{ℕ, zero, suc, _+_, _-_, _≤_, _<_}
 use native.Mathlib.Nat.{eq-or-lt-of-le, le-of-suc-le-suc}
 use native.Mathlib.Omega.{arith}
 use lib.Dec.{T, leb}
@@ -100,6 +100,19 @@ none-below-at f zero k e l = absurd (omega arith)
 none-below-at f (suc n) k e l =
     let q = or-false (someBelow n f) (f n) e in
     ⊎-elim (λ z. rw z (q .1)) (λ lt. none-below-at f n k (q .0) lt) (eq-or-lt-of-le (le-of-suc-le-suc l))
+
+-- going up, with no early end: told of the numbers passed
+module _ (f : ℕ → Bool) where
+  pub some-none : false ≡ someBelow 0 f
+  unfolding someBelow
+  some-none = refl
+
+  pub some-more : (i : ℕ) {s r : Bool} → s ≡ someBelow i f → r ≡ f i → s || r ≡ someBelow (i + 1) f
+  unfolding someBelow
+  some-more i e h = let n : i + 1 ≡ suc i = omega arith in rw (n, e, h)
+
+  pub some-all : (n i : ℕ) {s : Bool} → s ≡ someBelow i f → i ≤ n → n ≤ i → s ≡ someBelow n f
+  some-all n i e l u = let z : i ≡ n = omega arith in e ∙ ap (λ (k : ℕ). someBelow k f) z
 
 -- going down from i, no number from j on passed
 pub record None-since (f : ℕ → Bool) (i j : ℕ) : Type 0 where

@@ -119,6 +119,41 @@ module _ (x : ℕ) where
       unknown x (λ u. none-from Unit 0 x 6 p (omega arith) (omega arith)) (λ l u. none-from To-5 16 x 6 q l (omega arith))
       (λ l u. none-from To-21 24 x 6 r l (omega arith)) (λ l u. none-from To-29 32 x 6 s l (omega arith)) (λ l u. none-from To-37 40 x 6 t l (omega arith))
 
+-- a code that is none by its remainder, or lies outside the runs of assignments and of assumptions
+no-run : (x : ℕ) → (6 ≤ x % 8) ⊎ (((6 ≤ x) × (x < 16)) ⊎ (48 ≤ x)) → Unknown ≡ kind x
+no-run x (inl h) = unknown x (λ u. omega arith) (λ l u. omega arith) (λ l u. omega arith) (λ l u. omega arith) (λ l u. omega arith)
+no-run x (inr (inl h)) = unknown x (λ u. omega arith) (λ l u. omega arith) (λ l u. omega arith) (λ l u. omega arith) (λ l u. omega arith)
+no-run x (inr (inr h)) = unknown x (λ u. omega arith) (λ l u. omega arith) (λ l u. omega arith) (λ l u. omega arith) (λ l u. omega arith)
+
+-- ---- assumptions, reckoned
+pub assumption-codes : (x : ℕ) → (ltb (x % 8) 6 && ltb 15 x) && ltb x 48 ≡ byKind (kind x) false true true false
+assumption-codes x = elim (decLt (x % 8) 6) [
+  | no r ↦ rw (le-ltb (x % 8) 6 (omega arith), ← no-run x (inl (omega arith)))
+  | yes r ↦ elim (decLt 15 x) [
+    | no l ↦ rw (lt-ltb (x % 8) 6 r, le-ltb 15 x (omega arith)) (elim (decLt x 6) [
+      | yes u ↦ rw (← assigns x (omega arith))
+      | no m ↦ rw (← no-run x (inr (inl (omega arith, omega arith))))
+    ])
+    | yes l ↦ elim (decLt x 48) [
+      | no u ↦ rw (lt-ltb (x % 8) 6 r, lt-ltb 15 x l, le-ltb x 48 (omega arith), ← no-run x (inr (inr (omega arith))))
+      | yes u ↦ rw (lt-ltb (x % 8) 6 r, lt-ltb 15 x l, lt-ltb x 48 u) (run l u r)
+    ]
+  ]
+]
+  where
+    run : 15 < x → x < 48 → x % 8 < 6 → true ≡ byKind (kind x) false true true false
+    run l u r =
+        elim (decLt x 24) [
+          | yes a ↦ rw (← constants x (omega arith) (omega arith))
+          | no a ↦ elim (decLt x 32) [
+            | yes b ↦ rw (← more-constants x (omega arith) (omega arith))
+            | no b ↦ elim (decLt x 40) [
+              | yes d ↦ rw (← variables x (omega arith) (omega arith))
+              | no d ↦ rw (← more-variables x (omega arith) (omega arith))
+            ]
+          ]
+        ]
+
 -- ---- comparisons with a constant
 -- d is how far the code that x repeats, or x itself, is from 16
 module _ (x d : ℕ) (h : d < 2 ^ 32) (e : plus d 16 ≡ x / 16 * 16 + x % 8) where
@@ -126,10 +161,10 @@ module _ (x d : ℕ) (h : d < 2 ^ 32) (e : plus d 16 ≡ x / 16 * 16 + x % 8) wh
   constant-codes = elim (decLt x 16) [
     | yes u ↦ let z : x / 16 ≡ 0 = omega arith in rw (le-ltb d 6 (omega arith)) (elim (decLt x 6) [
       | yes u ↦ rw (← assigns x (omega arith))
-      | no m ↦ rw (← none (inr (inl (omega arith, u))))
+      | no m ↦ rw (← no-run x (inr (inl (omega arith, u))))
     ])
     | no l ↦ elim (decLt (x % 8) 6) [
-      | no r ↦ rw (le-ltb d 6 (omega arith), ← none (inl (omega arith)))
+      | no r ↦ rw (le-ltb d 6 (omega arith), ← no-run x (inl (omega arith)))
       | yes r ↦ elim (decLt x 32) [
         | yes u ↦ rw (lt-ltb d 6 (near (x % 8) r (e ∙ over-16 (omega arith)))) (elim (decLt x 22) [
           | yes m ↦ rw (← constants x (omega arith) (omega arith))
@@ -137,7 +172,7 @@ module _ (x d : ℕ) (h : d < 2 ^ 32) (e : plus d 16 ≡ x / 16 * 16 + x % 8) wh
         ])
         | no u ↦ rw (le-ltb d 6 (omega arith)) (elim (decLt x 40) [
           | yes m ↦ rw (← variables x (omega arith) (omega arith))
-          | no m ↦ elim (decLt x 48) [ yes k ↦ rw (← more-variables x (omega arith) (omega arith)) | no k ↦ rw (← none (inr (inr (omega arith)))) ]
+          | no m ↦ elim (decLt x 48) [ yes k ↦ rw (← more-variables x (omega arith) (omega arith)) | no k ↦ rw (← no-run x (inr (inr (omega arith)))) ]
         ])
       ]
     ]
@@ -148,11 +183,6 @@ module _ (x d : ℕ) (h : d < 2 ^ 32) (e : plus d 16 ≡ x / 16 * 16 + x % 8) wh
 
       near : (r : ℕ) → r < 6 → plus d 16 ≡ 16 + r → d < 6
       near r l z = omega arith
-
-      none : (6 ≤ x % 8) ⊎ (((6 ≤ x) × (x < 16)) ⊎ (48 ≤ x)) → Unknown ≡ kind x
-      none (inl h) = unknown x (λ u. omega arith) (λ l u. omega arith) (λ l u. omega arith) (λ l u. omega arith) (λ l u. omega arith)
-      none (inr (inl h)) = unknown x (λ u. omega arith) (λ l u. omega arith) (λ l u. omega arith) (λ l u. omega arith) (λ l u. omega arith)
-      none (inr (inr h)) = unknown x (λ u. omega arith) (λ l u. omega arith) (λ l u. omega arith) (λ l u. omega arith) (λ l u. omega arith)
 
 -- ---- the tables of what can stand in the places of b and c
 pub at-most-zero : (x : ℕ) → leb x 0 ≡ eqb x 0

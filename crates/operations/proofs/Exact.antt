@@ -13,11 +13,11 @@ use Rattle.operations.specs.declared.Operation.{Operation}
 use Rattle.operations.specs.declared.assumptions.Implication.{Implication}
 use Rattle.operations.specs.declared.assumptions.Implication.the-variants.{Never, Implied, NotImplied}
 use Rattle.operations.specs.declared.inner.trials.Seats.{Seats}
-use Rattle.operations.specs.Operations.{withConstant, plus, order, relation, relatedIn, holds}
+use Rattle.operations.specs.Operations.{isAssumption, withConstant, plus, order, relation, relatedIn, holds}
 use Rattle.operations.specs.Values.{Values, var}
 use Rattle.operations.specs.Assumptions.{Operands, NeverHolds, Implies, ExactlyOne, Means}
-use Rattle.operations.specs.Trials.{alike, inside, own, seats, trial, pointsOf, shown, shownBy, together, never, implies, exclusive, implication}
-use Rattle.base.proofs.Tests.{T-and, T-both, T-true, is-true, differ, yields, opposite}
+use Rattle.operations.specs.Trials.{alike, inside, own, seats, trial, pointsOf, shown, shownBy, together, never, neverHolds, implies, exclusive, implication}
+use Rattle.base.proofs.Tests.{T-and, T-both, T-true, is-true, differ, yields, opposite, and-true}
 use Rattle.base.proofs.Lists.{any-at, All, any-all}
 use Rattle.operations.proofs.Trials.{joint, bound-small, points-small, tried}
 
@@ -156,12 +156,25 @@ exclusive-means f g F G = (λ e. exclusive-exact f g F G .0 (T-true e), λ h. is
 pub never-means : (f : Operation) → Operands f → (never f ≡ true) ↔ NeverHolds f
 never-means f F = (λ e. never-exact f F .0 (T-true e), λ h. is-true (never f) (never-exact f F .1 h))
 
--- what the three tests of the code ensure: their answer, and what it means
+-- ---- a row that never holds
+-- it is an assumption that no values meet, and there is no other
+pub never-holds-means : (o : Operation) → Operands o → (neverHolds o ≡ true) ↔ ((isAssumption o ≡ true) × NeverHolds o)
+unfolding neverHolds
+never-holds-means o F = (
+  λ e. let z = and-true (isAssumption o) (never o) e in (z .0, never-means o F .0 (z .1)),
+  λ h. rw (h .0) (never-means o F .1 (h .1)),
+)
+
+-- what the tests of the code ensure: their answer, and what it means
 with-meaning : {A : Type 0} {r x : A} (P : A → Type 0) → P x → r ≡ x → (r ≡ x) × P r
 with-meaning P p e = (e, subst P (sym e) p)
 
 pub never-tested : (f : Operation) {r : Bool} → r ≡ never f → (r ≡ never f) × (Operands f → (r ≡ true) ↔ NeverHolds f)
 never-tested f = with-meaning (λ (r : Bool). Operands f → (r ≡ true) ↔ NeverHolds f) (never-means f)
+
+pub never-holds-tested : (o : Operation) {r : Bool} → r ≡ neverHolds o
+    → (r ≡ neverHolds o) × (Operands o → (r ≡ true) ↔ ((isAssumption o ≡ true) × NeverHolds o))
+never-holds-tested o = with-meaning (λ (r : Bool). Operands o → (r ≡ true) ↔ ((isAssumption o ≡ true) × NeverHolds o)) (never-holds-means o)
 
 module _ (f g : Operation) where
   pub tested : {r : Implication} → r ≡ implication f g → (r ≡ implication f g) × (Operands f → Operands g → Means r f g)

@@ -11,7 +11,7 @@ use Rattle.operations.specs.declared.Operation.{Operation}
 use Rattle.operations.specs.declared.assumptions.Implication.{Implication}
 use Rattle.operations.specs.declared.assumptions.Implication.the-variants.{Never, Implied, NotImplied}
 use Rattle.operations.specs.declared.inner.trials.Seats.{Seats}
-use Rattle.operations.specs.Operations.{withConstant, plus, minus, order, holds}
+use Rattle.operations.specs.Operations.{isAssumption, withConstant, plus, minus, order, holds}
 
 -- ---- "all values": the few that stand for them
 -- "all values meeting the first meet the second", of one pair of values: the second is as the first says
@@ -78,6 +78,11 @@ together f p g q = any (shownBy (seats f g) f p g q (pointsOf f g)) (pointsOf f 
 -- not "some values meet the new assumption"
 abbrev pub never : Operation → Bool
 never f = not (together f true f true)
+
+-- "A new row that never holds" (document 02, #101): an assumption that no values meet. The kind is asked for first:
+-- what `never` says of an assignment means nothing
+unfoldable pub neverHolds : Operation → Bool
+neverHolds o = isAssumption o && never o
 
 -- "all values meeting the first meet the second"
 abbrev pub implies : Operation → Operation → Bool

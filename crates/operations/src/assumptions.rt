@@ -3,13 +3,15 @@ ghost use mathlib.Core.Path.{_≡_};
 ghost use mathlib.Core.Bool.{true};
 ghost use mathlib.Core.Logic.{_↔_};
 ghost use Rattle.operations.specs.Assumptions.{Operands, NeverHolds, Means, ExactlyOne};
-ghost use Rattle.operations.specs.Trials.{never, exclusive, implication};
+ghost use Rattle.operations.specs.Operations.{isAssumption};
+ghost use Rattle.operations.specs.Trials.{never, neverHolds, exclusive, implication};
 use crate::Operation;
 use crate::inner::opposed::opposed;
 use crate::inner::trials::follows;
 use crate::inner::trials::independent;
 use crate::inner::trials::possible;
 use crate::inner::trials::sought;
+use crate::is_assumption_code;
 
 // What the test of two assumptions answers.
 pub enum Implication {
@@ -26,6 +28,15 @@ pub fn never(f: Operation) -> bool
     ensures means { λ r. ⌜ (Operands f → (r ≡ true) ↔ NeverHolds f) ⌝ }
 {
     !possible(f, true)
+}
+
+// Whether the row of an operation can never be taken: o is an assumption, and no values meet it. Both are worked out,
+// so that no jump depends on o.
+pub fn never_holds(o: Operation) -> bool
+    ensures is { λ r. ⌜ r ≡ neverHolds o ⌝ }
+    ensures means { λ r. ⌜ (Operands o → (r ≡ true) ↔ ((isAssumption o ≡ true) × NeverHolds o)) ⌝ }
+{
+    is_assumption_code(o.code) & never(o)
 }
 
 // The test of two assumptions: the first never holds, else it implies the second or does not. What it says holds of

@@ -33,8 +33,8 @@ pub enum Operand {
     Unused,
 }
 
-// Kinds of codes are told apart by ranges here alone; with_constant reckons with the code, and the tables of limit_b,
-// limit_c and opposite (inner/opposed.rt) go by the codes themselves.
+// Kinds of codes are told apart by ranges here alone; with_constant and is_assumption_code reckon with the code, and
+// the tables of limit_b, limit_c and opposite (inner/opposed.rt) go by the codes themselves.
 pub fn kind_of(code: u32) -> Kind
     ensures { λ r. ⌜ r ≡ kind code ⌝ }
 {
@@ -76,6 +76,13 @@ pub fn is_assignment(o: Operation) -> bool
     ensures { λ r. ⌜ r ≡ isAssignment o ⌝ }
 {
     is_assignment_code(o.code)
+}
+
+// Whether the operations with this code are assumptions. It is reckoned, so that no jump depends on the code.
+pub fn is_assumption_code(code: u32) -> bool
+    ensures { λ r. ⌜ ((o : Operation) → o .code ≡ code → r ≡ isAssumption o) ⌝ }
+{
+    (code % 8 < 6) & (15 < code) & (code < 48)
 }
 
 pub fn is_assumption(o: Operation) -> bool
