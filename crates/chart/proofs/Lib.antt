@@ -1,5 +1,6 @@
 -- Laws that several proofs cite.
 pub mod Rows
+pub mod Chosen
 pub mod Faults
 pub mod Faultless
 pub mod Conflicts
@@ -10,3 +11,5 @@ pub mod Bounds
 pub mod Told
 pub mod Starts
 pub mod Words
+pub mod Takable
+pub mod Possible

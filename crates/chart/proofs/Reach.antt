@@ -34,11 +34,11 @@ module _ (C : Chart) where
   unfolding run alarmed
   reaches-here s e = T-or-l (eqb (s .place) (C .head .alarm)) false (eqb←eq e)
 
-  run-none : (s : State) (i : ℕ) (is : List ℕ) → ready C s i ≡ false → run C s (i ∷ is) ≡ none
+  pub run-none : (s : State) (i : ℕ) (is : List ℕ) → ready C s i ≡ false → run C s (i ∷ is) ≡ none
   unfolding run
   run-none s i is t = rw (t, run)
 
-  run-ends : (s : State) (i : ℕ) (is : List ℕ) → ready C s i ≡ true → run C (taken (row (C .table) i) s) is ≡ none → run C s (i ∷ is) ≡ none
+  pub run-ends : (s : State) (i : ℕ) (is : List ℕ) → ready C s i ≡ true → run C (taken (row (C .table) i) s) is ≡ none → run C s (i ∷ is) ≡ none
   unfolding run
   run-ends s i is t e = rw (t, e, run)
 

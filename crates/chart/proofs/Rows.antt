@@ -11,13 +11,13 @@ use borrow.Author.Tests.{eq-eqb, ne-eqb}
 use lib.Dec.{eqb}
 use lib.ListN.{length, getD, set, take, drop, length-set, length-take, length-drop}
 use lib.Seq.{take-add, drop-drop, getD-set-same, getD-set-other}
-use Rattle.chart.specs.Charts.{size, from, leavingOf, leaving}
+use Rattle.chart.specs.Charts.{size, from, rowsWhere, leavingOf, leaving}
 use Rattle.chart.specs.inner.Ascending.{Ascending}
 use Rattle.chart.specs.inner.Index.{Lower, Indexable, End, Ends, lastOf, Carried, Indexed}
 
 -- rows that do not leave p add nothing
 skip : (t : List ℕ) (p m k : ℕ) → ((j : ℕ) → m ≤ j → j < m + k → from t j ≡ p → ⊥) → leavingOf t p (m + k) ≡ leavingOf t p m
-unfolding leavingOf
+unfolding rowsWhere
 skip t p m zero h = rw add-zero
 skip t p m (suc k) h =
     rw (add-suc, ne-eqb (from t (m + k)) p (h (m + k) (omega arith) (omega arith)), append-nil)
@@ -26,7 +26,7 @@ skip t p m (suc k) h =
 -- rows that all leave p add the part of the table where they stand
 stretch : (t : List ℕ) (p m k : ℕ) → ((j : ℕ) → m ≤ j → j < m + k → from t j ≡ p)
     → leavingOf t p (m + k) ≡ leavingOf t p m ++ take (k * 6) (drop (m * 6) t)
-unfolding leavingOf
+unfolding rowsWhere
 stretch t p m zero h = rw (add-zero, append-nil)
 stretch t p m (suc k) h =
     rw (
@@ -47,7 +47,7 @@ module _ (t : List ℕ) (p a e : ℕ) (la : Lower t p a) (le : Lower t (p + 1) e
       (λ n. let lt : e < a = omega arith in let h = la .below e lt in let g = le .reached (omega arith) in omega arith)
 
   pub part : Ascending t → leaving t p ≡ take (e * 6 - a * 6) (drop (a * 6) t)
-  unfolding leaving leavingOf
+  unfolding leaving rowsWhere
   part s =
       let n = size t in
       let ea : a + (e - a) ≡ e = add-sub-of-le ordered in

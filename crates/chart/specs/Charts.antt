@@ -1,11 +1,12 @@
 -- Charts and the rows of their tables ("Charts and rows"). A chart is the source's control-flow automaton, a place one
 -- of its locations, a row one of its edges, the alarm its error location.
-use mathlib.Core.Bool.{cond}
+use mathlib.Core.Bool.{Bool, cond, _&&_, not}
 use mathlib.Core.List.{List, [], _++_}
 use Prim.Native.Nat.{ℕ, zero, suc, _+_, _*_, _/_}
-use lib.Dec.{eqb}
+use lib.Dec.{eqb, ltb}
 use lib.ListN.{length, getD, take, drop}
 use Rattle.operations.specs.declared.Operation.{Operation}
+use Rattle.operations.specs.Trials.{neverHolds}
 use Rattle.chart.specs.declared.charts.Head.{Head}
 
 -- "A chart is a count of places n, an alarm place, and rows of six u32 fields in a lent table": its head, places and
@@ -49,11 +50,19 @@ operation t i =
 abbrev pub row : List ℕ → ℕ → Row
 row t i = record { from = from t i; to = to t i; operation = operation t i }
 
--- ---- "the rows that leave a place", in table order, as a table of their own
--- of the first n rows of a table those that leave p
-unfoldable pub leavingOf : List ℕ → ℕ → ℕ → List ℕ
-leavingOf t p zero = []
-leavingOf t p (suc n) = leavingOf t p n ++ cond (eqb (from t n) p) (take 6 (drop (n * 6) t)) []
+-- not one of the "Rows that can never be taken" (document 02, #101): row i is there, and is none that never holds
+unfoldable pub canBeTaken : List ℕ → ℕ → Bool
+canBeTaken t i = ltb i (size t) && not (neverHolds (operation t i))
+
+-- ---- some rows of a table, in table order, as a table of their own
+-- of the first n rows of a table those that are so
+unfoldable pub rowsWhere : (Row → Bool) → List ℕ → ℕ → List ℕ
+rowsWhere so t zero = []
+rowsWhere so t (suc n) = rowsWhere so t n ++ cond (so (row t n)) (take 6 (drop (n * 6) t)) []
+
+-- "the rows that leave a place": of the first n rows of a table those that leave p
+abbrev pub leavingOf : List ℕ → ℕ → ℕ → List ℕ
+leavingOf t p = rowsWhere (λ r. eqb (r .from) p) t
 
 -- "the rows that leave a place": of all rows of a table those that leave p
 unfoldable pub leaving : List ℕ → ℕ → List ℕ

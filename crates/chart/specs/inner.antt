@@ -3,3 +3,4 @@ pub mod Faulty
 pub mod Ascending
 pub mod Index
 pub mod Prepared
+pub mod NoneNever

@@ -4,8 +4,10 @@ ghost use mathlib.Core.Bool.{cond};
 ghost use Prim.Native.Nat.{ℕ, _+_, _-_, _*_, _<_, _≤_};
 ghost use lib.Dec.{eqb};
 ghost use lib.ListN.{length, getD, take, drop};
+ghost use Rattle.base.specs.Tests.{someBelow};
 ghost use Rattle.operations.specs.Operations.{isAssignment, same};
-ghost use Rattle.chart.specs.Charts.{size, from, to, operation, leaving};
+ghost use Rattle.operations.specs.Trials.{neverHolds};
+ghost use Rattle.chart.specs.Charts.{size, from, to, operation, canBeTaken, leaving};
 ghost use Rattle.chart.specs.Lookup.{Stands};
 ghost use Rattle.chart.specs.inner.Ascending.{Ascending};
 ghost use Rattle.chart.specs.inner.Index.{Lower, Indexable, Ends, Carried, Indexed, tableOf, numberOf};
@@ -13,6 +15,7 @@ use crate::places::NewPlace;
 use crate::places::OldPlace;
 use crate::places::Place;
 use operations::Operation;
+use operations::assumptions::never_holds;
 
 // The place that row i leaves.
 pub fn from_at(rows: &[u32], i: usize) -> u32
@@ -58,6 +61,31 @@ pub fn operation_at(rows: &[u32], i: usize) -> Operation
         b: rows[at + 4],
         c: rows[at + 5],
     }
+}
+
+// Whether there is a row i that can be taken: other than an assumption that no values meet.
+pub fn can_be_taken(rows: &[u32], i: usize) -> bool
+    ensures { λ r. ⌜ r ≡ canBeTaken (now (rows .entry)) i ⌝ }
+{
+    if rows.len() / 6 <= i {
+        return false;
+    }
+    !never_holds(operation_at(rows, i))
+}
+
+// Whether some row of a table can never be taken. It is asked once for all rows, with no jump and no early end, so that
+// whoever takes many steps through a table without such rows need not ask for each.
+pub fn some_never(rows: &[u32]) -> bool
+    ensures { λ r. ⌜ r ≡ someBelow (size (now (rows .entry))) (λ i. neverHolds (operation (now (rows .entry)) i)) ⌝ }
+{
+    let n = rows.len() / 6;
+    let mut some = false;
+    let mut i = 0;
+    while i < n {
+        some = some | never_holds(operation_at(rows, i));
+        i += 1;
+    }
+    some
 }
 
 // Where row i of the old table leads.
