@@ -7,7 +7,7 @@ use Rattle.base.specs.Options.{firstOf}
 use Rattle.operations.specs.declared.Operation.{Operation}
 use Rattle.operations.specs.Operations.{kind, operandB, operandC, reads, same, related, holds}
 use Rattle.operations.specs.Trials.{seats, trial, shown, together}
-use Rattle.chart.specs.Charts.{Chart, leaving, leavingOf}
+use Rattle.chart.specs.Charts.{Chart, leaving, rowsWhere}
 use Rattle.align.specs.declared.spots.Spot.{Spot}
 use Rattle.sets.specs.Sets.{alone, joined, with, without, meets, setOf}
 use Rattle.align.specs.Reads.{readSet}
@@ -35,5 +35,5 @@ pub steps : (from-to 0 0 (record { code = 0; a = 1; b = 0; c = 6 }) 1 ≡ at 0 2
     × (from-to 3 2 (record { code = 20; a = 1; b = 0; c = 50 }) 5 ≡ none)
     × (from-to 3 0 (record { code = 20; a = 1; b = 0; c = 60 }) 5 ≡ at 5 0)
     × (from-to 3 0 (record { code = 18; a = 1; b = 0; c = 0 }) 5 ≡ none)
-unfolding alone joined with without meets setOf readSet find along matching matched rewritten assigned onward follow followed counterpart assumed moved arrived step firstOf kind operandB operandC reads same leaving leavingOf together seats trial shown holds related
+unfolding alone joined with without meets setOf readSet find along matching matched rewritten assigned onward follow followed counterpart assumed moved arrived step firstOf kind operandB operandC reads same leaving rowsWhere together seats trial shown holds related
 steps = (refl, refl, refl, refl, refl)

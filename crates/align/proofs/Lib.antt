@@ -3,8 +3,10 @@ pub mod ReadSets
 pub mod Agree
 pub mod Onto
 pub mod Seek
+pub mod Unmatched
 pub mod Steps
 pub mod Successors
+pub mod NewTable
 pub mod Moves
 pub mod Enough
 pub mod Cases
