@@ -1,2 +1,3 @@
--- Laws of marks.
+-- Laws of marks, and of what a reader takes for a target.
 pub mod Marks
+pub mod Reading

@@ -1,9 +1,12 @@
 -- Records ("The builder", "The checker"). A record is the source's difference graph with the marks of its Algorithm 1:
 -- pairs are the aligned pairs of N, kept nodes the regression bug indicators of Δ, sets V_δ, targets the edges.
+use mathlib.Core.Bool.{cond}
 use mathlib.Core.List.{List}
 use Prim.Native.Nat.{ℕ, _+_, _*_}
 use lib.ListN.{getD}
-use Rattle.chart.specs.Charts.{Chart, size, from, leavingOf}
+use Rattle.operations.specs.Trials.{neverHolds}
+use Rattle.chart.specs.Charts.{Chart, size, from, operation, leavingOf, leaving}
+use Rattle.chart.specs.Places.{newOf}
 
 -- of "a record (start, marks, targets, sets)" what it has beside its start: marks by node, targets by pair and row,
 -- sets by pair
@@ -42,10 +45,15 @@ index m k = 2 * m + k
 abbrev pub target : Graph → ℕ → ℕ → ℕ
 target G m k = getD (G .targets) (index m k) 0
 
+-- "A new row that never holds has target 65535 [..], and readers of a record take 65535 there" (document 02, #101): the
+-- target, at a pair, of row k of its new place as every reader takes it, under the new table t
+unfoldable pub readTarget : List ℕ → Graph → ℕ → ℕ → ℕ
+readTarget t G m k = cond (neverHolds (operation (leaving t (newOf m .0)) k)) 65535 (target G m k)
+
 -- "a place's first and second row": which one row i of a table is, as so many before it leave the same place
 abbrev pub rank : List ℕ → ℕ → ℕ
 rank t i = size (leavingOf t (from t i) i)
 
--- "its target at the node": the target, at a node, of row i of the new chart
+-- "its target at the node": the target, at a node, of row i of the new chart, as readers take it
 abbrev pub targetOf : Chart → Graph → ℕ → ℕ → ℕ
-targetOf new G n i = target G n (rank (new .table) i)
+targetOf new G n i = readTarget (new .table) G n (rank (new .table) i)
