@@ -4,14 +4,14 @@ use mathlib.Core.List.{List}
 use mathlib.Core.Option.{Option, none, some}
 use Prim.Native.Nat.{ℕ, _^_, _<_}
 use native.Mathlib.Omega.{arith}
-use lib.Dec.{eqb, ltb}
+use lib.Dec.{eqb}
 use Rattle.base.specs.Options.{when, firstOf}
 use Rattle.base.specs.Refusals.{due}
 use Rattle.base.specs.Says.{bool}
 use Rattle.base.specs.inner.Fits.{Fits}
 use Rattle.base.proofs.Fits.{named-fits, due-fits}
 use Rattle.base.proofs.OnSome.{OnSome, when-on, or-on, first-on}
-use Rattle.chart.specs.Charts.{size, leaving}
+use Rattle.chart.specs.Charts.{canBeTaken, leaving}
 use Rattle.chart.specs.Compared.{Compared, headsOf}
 use Rattle.chart.specs.Faults.{judged}
 use Rattle.chart.specs.Places.{newOf}
@@ -27,7 +27,7 @@ Near i = i < 2 ^ 32
 module _ (X : Compared) (G : Graph) where
   target-near : (m : ℕ) (rows : List ℕ) (k : ℕ) → m < 4096 → k < 2 → OnSome Near (targetFault X G m rows k)
   unfolding targetFault
-  target-near m rows k l h = when-on Near (ltb k (size rows) && not (bool (rowFits X G m rows k))) (index m k) (omega arith)
+  target-near m rows k l h = when-on Near (canBeTaken rows k && not (bool (rowFits X G m rows k))) (index m k) (omega arith)
 
   rows-near : (m : ℕ) (rows : List ℕ) → m < 4096 → OnSome Near (rowsFault X G m rows)
   unfolding rowsFault

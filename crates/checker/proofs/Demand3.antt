@@ -1,5 +1,5 @@
--- Demand 3, first half: a run of the new chart that reaches the new alarm and is covered by a record that the check passes has a run of
--- the old chart from the same values that reaches the old alarm. Assumes nothing.
+-- Demand 3, first half: a run of the new chart that reaches the new alarm and is covered by a record that the check
+-- passes has a run of the old chart from the same values that reaches the old alarm. Assumes nothing.
 use mathlib.Core.Path.{_≡_, sym, subst, subst₂, _∙_}
 use mathlib.Core.Bool.{Bool, true, false}
 use mathlib.Core.Logic.{_≢_, _⊎_, inl, inr}
@@ -8,12 +8,12 @@ use mathlib.Core.Option.{Option, none, some}
 use Prim.Native.Nat.{ℕ, _+_, _*_, _/_, _%_, _≤_, _<_}
 use native.Mathlib.Omega.{arith}
 use native.Mathlib.Decide.{ℕ-discrete}
-use lib.Dec.{T, eqb, eqb→eq, ltb, ltb→lt}
+use lib.Dec.{T, eqb, eqb→eq}
 use Rattle.base.specs.Lists.{any}
 use Rattle.base.specs.Says.{Says, bool}
 use Rattle.base.proofs.OnSome.{OnSome}
 use Rattle.base.proofs.Says.{says}
-use Rattle.base.proofs.Tests.{T-and, T-or, T-true, is-true}
+use Rattle.base.proofs.Tests.{T-or, T-true, is-true}
 use Rattle.operations.specs.declared.Operation.{Operation}
 use Rattle.operations.specs.Values.{Values}
 use Rattle.chart.specs.declared.places.NewPlace.{NewPlace}
@@ -21,24 +21,25 @@ use Rattle.chart.specs.Charts.{Chart, size, from, to, operation, row}
 use Rattle.chart.specs.Compared.{Compared, headsOf}
 use Rattle.chart.proofs.Words.{Words}
 use Rattle.chart.specs.Places.{oldOf, newOf}
-use Rattle.chart.specs.Runs.{State, lets, after, taken, begin, ready}
+use Rattle.chart.specs.Runs.{State, lets, after, taken, begin}
 use Rattle.align.specs.declared.spots.Spot.{Spot}
 use Rattle.align.specs.Steps.{fair, step}
 use Rattle.align.proofs.Agree.{agree-wider, agree-same-values}
+use Rattle.chart.proofs.Takable.{let-takable, is-ready}
 use Rattle.chart.proofs.Taken.{values-after}
 use Rattle.align.proofs.Onto.{Onto, step-onto}
 use Rattle.chart.proofs.Conflicts.{operands}
-use Rattle.chart.proofs.Parts.{before, stands, same-row, two-at-most}
 use Rattle.chart.proofs.Reach.{reachesFrom, from-begin, reaches-nil, reaches-cons, Hits, hits-here}
-use Rattle.records.specs.Records.{Graph, Record, mark, setAt, target, rank, targetOf}
+use Rattle.records.specs.Records.{Graph, Record, mark, setAt, targetOf}
 use Rattle.checker.specs.Following.{goesOn, nodes, covered}
-use Rattle.checker.specs.Rules.{startFits, keeps, joins, joinsStep, ranked, leads, rowFits, spot}
+use Rattle.checker.specs.Rules.{startFits, keeps, joins, joinsStep, ranked, leads, spot}
 use Rattle.checker.specs.Checks.{refusal}
 use Rattle.checker.specs.Promise.{Promise}
 use Rattle.checker.proofs.Passed.{Passed, passed}
+use Rattle.checker.proofs.Rows.{rule}
 
 -- ---- covered from here on
-abbrev three : Graph → ℕ → Bool
+abbrev pub three : Graph → ℕ → Bool
 three G n = eqb (mark G n) 3
 
 module _ (new : Chart) (G : Graph) where
@@ -85,22 +86,6 @@ module _ (X : Compared) (old-words : Words (X .old .table)) (new-words : Words (
 
   abbrev at : ℕ → List ℕ → State
   at m w = record { place = m % 64; values = w }
-
-  -- the rule for the target of row i of the new chart at a pair that it leaves
-  rule : (m i : ℕ) → m < 4096 → mark G m ≢ 0 → i < size (X .new .table) → from (X .new .table) i ≡ m % 64
-      → Says (leads X G m (operation (X .new .table) i) (record { 0 = to (X .new .table) i }) (targetOf (X .new) G m i)) × Says (ranked (G .marks) m (targetOf (X .new) G m i))
-  unfolding rowFits
-  rule m i l n u e =
-      let t = X .new .table in
-      let S = same-row t (m % 64) i u e in
-      let b : rank t i ≡ before t (m % 64) i = rw e in
-      let s = stands t (m % 64) i u e in
-      let two = two-at-most (X .new) (ok .new-faultless) (new-words .small) (m % 64) in
-      let q = ok .rules m (before t (m % 64) i) l n (omega arith) s in (
-        subst (λ (k : ℕ). Says (leads X G m (operation t i) (record { 0 = to t i }) (target G m k))) (sym b)
-            (subst₂ (λ (o : Operation) (p : ℕ). Says (leads X G m o (record { 0 = p }) (target G m (before t (m % 64) i)))) (S .operation-same) (S .to-same) (q .0)),
-        subst (λ (k : ℕ). Says (ranked (G .marks) m (target G m k))) (sym b) (q .1),
-      )
 
   -- the claim for a list of rows, from any pair
   Claim : List ℕ → Type 0
@@ -164,14 +149,10 @@ module _ (X : Compared) (old-words : Words (X .old .table)) (new-words : Words (
 
     advance : Onto X w (spot G m)
     unfolding o q t
-    advance = let r = rule m i small (going-mark (X .new) G m (i ∷ is) g .0) inside leaves in turn (r .0) (r .1)
-
-  is-ready : (m : ℕ) (w : List ℕ) (i : ℕ) → ready (X .new) (at m w) i ≡ true → (i < size (X .new .table)) × (from (X .new .table) i ≡ m % 64) × (lets (operation (X .new .table) i) w ≡ true)
-  unfolding ready
-  is-ready m w i t =
-      let a = T-and (ltb i (size (X .new .table))) _ (T-true t) in
-      let b = T-and (eqb (from (X .new .table) i) (m % 64)) _ (a .1) in
-      (ltb→lt i (size (X .new .table)) (a .0), eqb→eq (from (X .new .table) i) (m % 64) (b .0), is-true _ (b .1))
+    advance =
+        let c = let-takable o w W (operands (X .new) (ok .new-faultless) (new-words .small) i inside) let-by in
+        let r = rule X new-words R ok m i small (going-mark (X .new) G m (i ∷ is) g .0) inside leaves c in
+        turn (r .0) (r .1)
 
   along : (is : List ℕ) → Claim is
   unfolding Claim
@@ -181,7 +162,7 @@ module _ (X : Compared) (old-words : Words (X .old .table)) (new-words : Words (
         | yes e ↦ at-old m w e
         | no n ↦ elim (reaches-cons (X .new) (at m w) i is re) [
           | inl t ↦ at-new m w a t
-          | inr x ↦ (let r = is-ready m w i (x .0) in advance m i is w n W (r .0) (r .1) (r .2) (x .1) g (along is))
+          | inr x ↦ (let r = is-ready (X .new) (at m w) i (x .0) in advance m i is w n W (r .0) (r .1) (r .2) (x .1) g (along is))
         ]
       ]
 

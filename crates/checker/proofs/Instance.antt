@@ -1,5 +1,5 @@
--- The promise is not empty: a small record, made by hand, that the check passes; a run that reaches the new alarm and is
--- covered, so that there is an old run; one that is not covered; and a list of rows that is no run. Assumes nothing.
+-- The promise is not empty: a small record, made by hand, that the check passes; a run that reaches the new alarm and
+-- is covered, so that there is an old run; one that is not covered; and a list of rows that is no run. Assumes nothing.
 use mathlib.Core.Path.{_≡_, refl, sym, subst, _∙_}
 use mathlib.Core.Bool.{Bool, true, false, _&&_}
 use mathlib.Core.List.{List, [], _∷_}
@@ -26,6 +26,7 @@ use Rattle.chart.specs.Charts as charts
 use Rattle.chart.specs.Faultless.{FaultlessChart}
 use Rattle.chart.specs.Faults as faults
 use Rattle.chart.proofs.Faultless.{faultless}
+use Rattle.chart.proofs.Takable.{takable}
 use Rattle.chart.specs.Places.{newOf}
 use Rattle.chart.specs.Compared.{Compared, headsOf}
 use Rattle.chart.specs.Runs.{begin, run, reaches}
@@ -33,7 +34,8 @@ use Rattle.chart.specs.Runs as runs
 use Rattle.sets.specs.Sets as sets
 use Rattle.align.specs.Reads as reads
 use Rattle.align.specs.Steps as steps
-use Rattle.records.specs.Records.{Record, recordOf, mark}
+use Rattle.records.specs.Records.{Record, recordOf}
+use Rattle.records.specs.Records as records
 use Rattle.checker.specs.Following.{nodes, covered}
 use Rattle.checker.specs.Rules.{markFits, marksFit, targetFits, targetsFit, shaped, startFits, keeps, joins, joinsStep, ranked, leads, rowFits}
 use Rattle.checker.specs.Checks.{sized, refusal}
@@ -50,7 +52,7 @@ abbrev pub X : Compared
 X = record { old = C; new = C }
 
 -- the start open, the pair of both alarms covered, the new alarm kept
-pub marks : List ℕ
+unfoldable pub marks : List ℕ
 marks = set (set (set (replicate 4160 0) 0 1) 65 3) 4097 2
 
 -- from the start by row 0 to the pair, by row 1 to the kept node
@@ -62,7 +64,7 @@ R = recordOf 0 marks targets (replicate 4096 0)
 
 -- ---- it passes
 -- only three nodes are marked
-Marked : ℕ → Type 0
+unfoldable pub Marked : ℕ → Type 0
 Marked n = (n ≡ 0) ⊎ (n ≡ 65) ⊎ (n ≡ 4097)
 
 unmarked : (n : ℕ) → n ≢ 0 → n ≢ 65 → n ≢ 4097 → getD marks n 0 ≡ 0
@@ -71,7 +73,7 @@ unmarked n a b c =
     getD-set-other (set (set (replicate 4160 0) 0 1) 65 3) 4097 n 2 0 c ∙ getD-set-other (set (replicate 4160 0) 0 1) 65 n 3 0 b
     ∙ getD-set-other (replicate 4160 0) 0 n 1 0 a ∙ zeros-at 4160 n
 
-is-marked : (n : ℕ) → getD marks n 0 ≢ 0 → Marked n
+pub is-marked : (n : ℕ) → getD marks n 0 ≢ 0 → Marked n
 unfolding Marked
 is-marked n h =
     dite (ℕ-discrete n 0) (λ a. inl a)
@@ -82,7 +84,7 @@ unfolding marks targets
 sized-so = says (sized (R .graph)) tt
 
 none-due : faults.refusal C ≡ none
-unfolding faults.refusal options.firstOf tests.someBelow charts.leavingOf charts.leaving faults.countFault faults.alarmFault faults.rowFault faults.clash faults.conflictFault faults.rowsFault faults.fault operations.kind operations.operandB operations.assignedC operations.operandC operations.operandsFit operations.reads operations.related operations.holds trials.seats trials.trial trials.shown trials.together
+unfolding faults.refusal options.firstOf tests.someBelow charts.rowsWhere charts.leaving faults.countFault faults.alarmFault faults.rowFault faults.clash faults.conflictFault faults.rowsFault faults.fault operations.kind operations.operandB operations.assignedC operations.operandC operations.operandsFit operations.reads operations.related operations.holds trials.seats trials.trial trials.shown trials.together
 none-due = refl
 
 sound : FaultlessChart C
@@ -94,7 +96,7 @@ mark-at i t n e =
     subst (λ (n : ℕ). Says (markFits (headsOf X) n (getD marks n 0))) (sym e)
     (says (markFits (headsOf X) i (getD marks i 0)) t)
 
-marks-so : (n : ℕ) → n < 4160 → Says (markFits (headsOf X) n (getD marks n 0))
+pub marks-so : (n : ℕ) → n < 4160 → Says (markFits (headsOf X) n (getD marks n 0))
 unfolding Marked marks
 marks-so n l =
     dite (ℕ-discrete (getD marks n 0) 0) (λ z. inl z)
@@ -112,11 +114,11 @@ row-at : (k : ℕ) → T (bool (rowFits X (R .graph) 0 (leaving (C .table) 0) k)
 row-at k = says (rowFits X (R .graph) 0 (leaving (C .table) 0) k)
 
 rules-so : Rules X (R .graph)
-unfolding Marked marks targets options.firstOf charts.leavingOf charts.leaving operations.kind operations.operandB operations.operandC operations.reads operations.same sets.alone sets.joined sets.meets sets.holdsAll sets.setOf reads.readSet steps.find steps.along steps.matching steps.matched steps.onward steps.follow steps.followed steps.counterpart steps.assumed steps.moved steps.arrived steps.step keeps joins joinsStep ranked leads rowFits
+unfolding Marked marks targets options.firstOf charts.rowsWhere charts.leaving operations.kind operations.operandB operations.operandC operations.reads operations.same sets.alone sets.joined sets.meets sets.holdsAll sets.setOf reads.readSet steps.find steps.along steps.matching steps.matched steps.onward steps.follow steps.followed steps.counterpart steps.assumed steps.moved steps.arrived steps.step keeps joins joinsStep ranked leads rowFits
 rules-so m k l h two there =
     elim (is-marked m h) [
       | inl e ↦ subst (λ (m : ℕ). Says (rowFits X (R .graph) m (leaving (C .table) (newOf m .0)) k)) (sym e) (first k two)
-      | inr (inl e) ↦ absurd (nowhere (subst (λ (m : ℕ). k < size (leaving (C .table) (newOf m .0))) e there))
+      | inr (inl e) ↦ absurd (nowhere (subst (λ (m : ℕ). k < size (leaving (C .table) (newOf m .0))) e (takable _ k there .0)))
       | inr (inr e) ↦ absurd (omega arith)
     ]
   where
@@ -168,7 +170,7 @@ unfolding zeros ones operations.kind operations.value operations.related operati
 reached-alarm = refl
 
 pub is-covered : covered C R (0 ∷ []) ≡ true
-unfolding marks targets charts.leavingOf nodes covered
+unfolding marks targets charts.rowsWhere charts.leaving operations.kind operations.holds operations.related trials.seats trials.trial trials.shown trials.together trials.neverHolds records.readTarget nodes covered
 is-covered = refl
 
 -- so there is an old run that reaches the old alarm
@@ -183,7 +185,7 @@ unfolding zeros ones operations.kind operations.value operations.related operati
 reached-uncovered = refl
 
 pub not-covered : covered C R (1 ∷ []) ≡ false
-unfolding marks targets charts.leavingOf nodes covered
+unfolding marks targets charts.rowsWhere charts.leaving operations.kind operations.holds operations.related trials.seats trials.trial trials.shown trials.together trials.neverHolds records.readTarget nodes covered
 not-covered = refl
 
 -- row 1 cannot be taken from zeros: the list is no run

@@ -7,15 +7,14 @@ use mathlib.Core.Option.{Option, none, some}
 use Prim.Native.Nat.{ℕ, zero, suc, _<_}
 use native.Mathlib.Omega.{arith}
 use native.Mathlib.Decide.{decLt}
-use borrow.Author.Tests.{ne-eqb, lt-ltb, not-false}
-use lib.Dec.{ltb}
+use borrow.Author.Tests.{ne-eqb, not-false}
 use lib.ListN.{List·getD-eq-default}
 use Rattle.base.specs.Options.{when, firstOf}
 use Rattle.base.specs.Says.{Test, bool, Says}
 use Rattle.base.proofs.Options.{both-missing, not-due, none-of}
 use Rattle.base.proofs.Says.{says}
 use Rattle.base.proofs.Tests.{T-true, not-both}
-use Rattle.chart.specs.Charts.{size, leaving}
+use Rattle.chart.specs.Charts.{canBeTaken, leaving}
 use Rattle.chart.specs.Compared.{Compared, headsOf}
 use Rattle.chart.specs.Faults.{judged}
 use Rattle.chart.specs.Faultless.{FaultlessChart}
@@ -31,7 +30,7 @@ pub record Passed (X : Compared) (R : Record) : Type 0 where
   pub starts : Says (startFits (headsOf X) (R .start) (R .graph .marks))
   pub marked : (n : ℕ) → mark (R .graph) n ≢ 0 → n < 4160
   pub marks : (n : ℕ) → n < 4160 → Says (markFits (headsOf X) n (mark (R .graph) n))
-  pub rules : (m k : ℕ) → m < 4096 → mark (R .graph) m ≢ 0 → k < 2 → k < size (leaving (X .new .table) (newOf m .0))
+  pub rules : (m k : ℕ) → m < 4096 → mark (R .graph) m ≢ 0 → k < 2 → canBeTaken (leaving (X .new .table) (newOf m .0)) k ≡ true
       → Says (rowFits X (R .graph) m (leaving (X .new .table) (newOf m .0)) k)
 
 no-rule : (o : Option ℕ) → ruleAt o ≡ none → o ≡ none
@@ -70,15 +69,15 @@ module _ (X : Compared) (R : Record) (e : refusal X R ≡ none) where
   below-end : (n : ℕ) → mark (R .graph) n ≢ 0 → n < 4160
   below-end n h = elim (decLt n 4160) [ yes l ↦ l | no l ↦ absurd (h (List·getD-eq-default (R .graph .marks) 0 {n = n} (omega (arith, lengths .0)))) ]
 
-  target-passed : (m k : ℕ) (rows : List ℕ) → k < size rows → targetFault X (R .graph) m rows k ≡ none → Says (rowFits X (R .graph) m rows k)
+  target-passed : (m k : ℕ) (rows : List ℕ) → canBeTaken rows k ≡ true → targetFault X (R .graph) m rows k ≡ none → Says (rowFits X (R .graph) m rows k)
   unfolding targetFault
-  target-passed m k rows l t = says (rowFits X (R .graph) m rows k) (T-true (not-both (ltb k (size rows)) (bool (rowFits X (R .graph) m rows k)) (not-due _ _ t) (lt-ltb k (size rows) l)))
+  target-passed m k rows l t = says (rowFits X (R .graph) m rows k) (T-true (not-both (canBeTaken rows k) (bool (rowFits X (R .graph) m rows k)) (not-due _ _ t) l))
 
   pair-passed : (m : ℕ) → m < 4096 → mark (R .graph) m ≢ 0 → rowsFault X (R .graph) m (leaving (X .new .table) (newOf m .0)) ≡ none
   unfolding pairFault
   pair-passed m l n = let t : pairFault X (R .graph) m ≡ none = none-of (pairFault X (R .graph)) 4096 m (parts .2) l in rw (ne-eqb (mark (R .graph) m) 0 n, pairFault) at t
 
-  row-passed : (m k : ℕ) → m < 4096 → mark (R .graph) m ≢ 0 → k < 2 → k < size (leaving (X .new .table) (newOf m .0)) → Says (rowFits X (R .graph) m (leaving (X .new .table) (newOf m .0)) k)
+  row-passed : (m k : ℕ) → m < 4096 → mark (R .graph) m ≢ 0 → k < 2 → canBeTaken (leaving (X .new .table) (newOf m .0)) k ≡ true → Says (rowFits X (R .graph) m (leaving (X .new .table) (newOf m .0)) k)
   unfolding rowsFault
   row-passed m zero l n u i = target-passed m 0 _ i (both-missing (targetFault X (R .graph) m (leaving (X .new .table) (newOf m .0)) 0) _ (pair-passed m l n) .0)
   row-passed m (suc zero) l n u i = target-passed m 1 _ i (both-missing (targetFault X (R .graph) m (leaving (X .new .table) (newOf m .0)) 0) _ (pair-passed m l n) .1)

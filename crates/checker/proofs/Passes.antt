@@ -1,42 +1,47 @@
 -- A record of which every part is as the check asks is passed. Assumes nothing.
-use mathlib.Core.Path.{_≡_}
-use mathlib.Core.Bool.{true}
+use mathlib.Core.Path.{_≡_, refl}
+use mathlib.Core.Bool.{Bool, true, false, _&&_, not}
 use mathlib.Core.Logic.{_≢_, dite}
 use mathlib.Core.Option.{none}
 use Prim.Native.Nat.{ℕ, _<_}
 use native.Mathlib.Omega.{arith}
-use native.Mathlib.Decide.{ℕ-discrete, decLt}
-use borrow.Author.Tests.{eq-eqb, ne-eqb, lt-ltb, le-ltb}
+use native.Mathlib.Decide.{ℕ-discrete}
+use borrow.Author.Tests.{eq-eqb, ne-eqb}
+use Rattle.base.specs.Options.{when}
 use Rattle.base.specs.Says.{Test, bool, Says}
 use Rattle.base.proofs.Options.{none-everywhere}
 use Rattle.base.proofs.Says.{said}
 use Rattle.base.proofs.Tests.{is-true}
-use Rattle.chart.specs.Charts.{size, leaving}
+use Rattle.chart.specs.Charts.{canBeTaken, leaving}
 use Rattle.chart.specs.Compared.{Compared, headsOf}
 use Rattle.chart.specs.Faultless.{FaultlessChart}
 use Rattle.chart.specs.Places.{newOf}
 use Rattle.chart.proofs.Faultless.{none-judged}
-use Rattle.records.specs.Records.{Graph, Record, mark}
+use Rattle.records.specs.Records.{Graph, Record, mark, index}
 use Rattle.checker.specs.Rules.{shaped, startFits, rowFits}
 use Rattle.checker.specs.Checks.{sized, targetFault, rowsFault, pairFault, broken, ruleFault, recordFault, refusal}
 
 -- a test passes where what it says is so
-met : (t : Test) → Says t → bool t ≡ true
+pub met : (t : Test) → Says t → bool t ≡ true
 met t h = is-true (bool t) (said t h)
 
--- each row of each present pair is as its rule says
+-- each row of each present pair, those that never hold aside, is as its rule says
 abbrev pub Rules : Compared → Graph → Type 0
 Rules X G =
-    (m k : ℕ) → m < 4096 → mark G m ≢ 0 → k < 2 → k < size (leaving (X .new .table) (newOf m .0))
+    (m k : ℕ) → m < 4096 → mark G m ≢ 0 → k < 2 → canBeTaken (leaving (X .new .table) (newOf m .0)) k ≡ true
     → Says (rowFits X G m (leaving (X .new .table) (newOf m .0)) k)
 
 module _ (X : Compared) (G : Graph) (rules : Rules X G) where
   row-off : (m k : ℕ) → m < 4096 → mark G m ≢ 0 → k < 2 → targetFault X G m (leaving (X .new .table) (newOf m .0)) k ≡ none
   unfolding targetFault
-  row-off m k b p c =
-      dite (decLt k (size (leaving (X .new .table) (newOf m .0))))
-      (λ l. rw (lt-ltb k (size (leaving (X .new .table) (newOf m .0))) l) (rw (met (rowFits X G m (leaving (X .new .table) (newOf m .0)) k) (rules m k b p c l))))
-      (λ l. rw (le-ltb k (size (leaving (X .new .table) (newOf m .0))) (omega arith)))
+  row-off m k b p c = go (canBeTaken (leaving (X .new .table) (newOf m .0)) k) refl
+    where
+      fits : Test
+      fits = rowFits X G m (leaving (X .new .table) (newOf m .0)) k
+
+      go : (t : Bool) → canBeTaken (leaving (X .new .table) (newOf m .0)) k ≡ t → when (t && not (bool fits)) (index m k) ≡ none
+      go true e = rw (met fits (rules m k b p c e))
+      go false e = refl
 
   pair-off : (m : ℕ) → m < 4096 → pairFault X G m ≡ none
   unfolding pairFault rowsFault

@@ -16,12 +16,12 @@ use Rattle.base.specs.Tests.{within}
 use Rattle.base.proofs.OnSome.{on-at}
 use Rattle.base.proofs.Options.{missing-none, none-of, none-everywhere}
 use Rattle.base.proofs.Picks.{pick-true, pick-false}
-use Rattle.base.proofs.Tests.{or-none}
+use Rattle.base.proofs.Tests.{or-none, and-false}
 use Rattle.operations.specs.declared.Operation.{Operation}
 use Rattle.operations.specs.Operations.{isKnown, operandsFit}
 use Rattle.chart.specs.declared.places.OldPlace.{OldPlace}
 use Rattle.chart.specs.declared.places.NewPlace.{NewPlace}
-use Rattle.chart.specs.Charts.{Chart, size, to, operation, leaving}
+use Rattle.chart.specs.Charts.{Chart, size, to, operation, canBeTaken, leaving}
 use Rattle.chart.specs.Compared.{Compared}
 use Rattle.chart.specs.Faultless.{FaultlessChart}
 use Rattle.chart.specs.Places.{pairNumber, keptNumber, oldOf, newOf}
@@ -168,18 +168,18 @@ module _ (X : Compared) (G : Graph) (m : ℕ) (rows : List ℕ) (k : ℕ) {l : B
 
 -- ---- the fault of a target and of a pair
 module _ (X : Compared) (G : Graph) (m : ℕ) (rows : List ℕ) (k : ℕ) where
-  pub no-row : size rows ≤ k → none ≡ targetFault X G m rows k
+  pub not-asked : canBeTaken rows k ≡ false → none ≡ targetFault X G m rows k
   unfolding targetFault
-  no-row l = rw (le-ltb k (size rows) l)
+  not-asked n = rw n
 
-  module _ {r : Bool} (l : k < size rows) (e : r ≡ bool (rowFits X G m rows k)) where
+  module _ {r : Bool} (e : r ≡ bool (rowFits X G m rows k)) where
     pub row-fine : r ≡ true → none ≡ targetFault X G m rows k
     unfolding targetFault
-    row-fine u = rw (lt-ltb k (size rows) l, sym e ∙ u)
+    row-fine u = rw (sym e ∙ u, and-false (canBeTaken rows k))
 
-    pub row-fails : r ≡ false → some (index m k) ≡ targetFault X G m rows k
+    pub row-fails : r ≡ false → canBeTaken rows k ≡ true → some (index m k) ≡ targetFault X G m rows k
     unfolding targetFault
-    row-fails u = rw (lt-ltb k (size rows) l, sym e ∙ u)
+    row-fails u c = rw (c, sym e ∙ u)
 
 pub part-of : (t : List ℕ) (m : ℕ) {q : NewPlace} {rows : List ℕ} → q ≡ newOf m → rows ≡ leaving t (q .0) → rows ≡ leaving t (newOf m .0)
 part-of t m e h = h ∙ ap (λ (q : NewPlace). leaving t (q .0)) e

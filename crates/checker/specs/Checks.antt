@@ -3,14 +3,14 @@ use mathlib.Core.Bool.{true, false, _&&_, not}
 use mathlib.Core.List.{List}
 use mathlib.Core.Option.{Option, none, some}
 use Prim.Native.Nat.{ℕ}
-use lib.Dec.{eqb, ltb}
+use lib.Dec.{eqb}
 use lib.ListN.{length}
 use Rattle.base.specs.Options.{when, orElse, firstOf}
 use Rattle.base.specs.declared.Refusal.{Refusal}
 use Rattle.base.specs.Refusals.{sole, due}
 use Rattle.base.specs.Says.{Test, eq, _and_, bool}
 use Rattle.chart.specs.Compared.{Compared, headsOf}
-use Rattle.chart.specs.Charts.{size, leaving}
+use Rattle.chart.specs.Charts.{canBeTaken, leaving}
 use Rattle.chart.specs.Faults.{judged}
 use Rattle.chart.specs.Places.{newOf}
 use Rattle.checker.specs.declared.answers.Checked.{Checked}
@@ -34,9 +34,9 @@ ruleAt (some i) = some (sole 32 i)
 
 module _ (X : Compared) (G : Graph) where
   -- the index of the target of row k of the pair's new place, if it is at fault. "Targets without a row aren't looked
-  -- at."
+  -- at", and of "A new row that never holds [..] refusal 32 ignores its target" (document 02, #101)
   unfoldable pub targetFault : ℕ → List ℕ → ℕ → Option ℕ
-  targetFault m rows k = when (ltb k (size rows) && not (bool (rowFits X G m rows k))) (index m k)
+  targetFault m rows k = when (canBeTaken rows k && not (bool (rowFits X G m rows k))) (index m k)
 
   -- "the lowest target index at fault" of a pair's two, "for a place's first and second row"
   unfoldable pub rowsFault : ℕ → List ℕ → Option ℕ

@@ -21,6 +21,7 @@ use chart::inner::pairs::new_of;
 use chart::inner::pairs::old_of;
 use chart::inner::pairs::start_kept;
 use chart::inner::pairs::start_pair;
+use chart::inner::rows::can_be_taken;
 use chart::inner::rows::rows_of;
 use chart::places::Place;
 use records::inner::marks::blank;
@@ -54,7 +55,7 @@ fn start_fits(heads: Heads, start: u32, marks: &[u8]) -> bool
     false
 }
 
-// The rules for row k of the pair's new place, if there is such a row.
+// The rules for row k of the pair's new place, if there is such a row and it can be taken.
 fn target_fault<'a>(
     heads: Heads,
     old_rows: &'a [u32],
@@ -89,6 +90,10 @@ fn target_fault<'a>(
         rows,
         k,
     ) {
+        return Found::Nothing;
+    }
+    // Asked last: of a record that was built it is asked only where a row never holds.
+    if !can_be_taken(rows, k) {
         return Found::Nothing;
     }
     let at = 2 * m + k;
