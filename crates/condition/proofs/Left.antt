@@ -12,7 +12,7 @@ use lib.ListN.{length, getD, set, replicate, length-map}
 use Rattle.base.specs.Says.{Test, bool, Says}
 use Rattle.base.proofs.Says.{says}
 use Rattle.base.proofs.Tests.{T-true, or-false}
-use Rattle.chart.specs.Charts.{size}
+use Rattle.chart.specs.Charts.{canBeTaken}
 use Rattle.chart.specs.Compared.{Compared, headsOf}
 use Rattle.chart.specs.Faultless.{FaultlessChart}
 use Rattle.chart.specs.Places.{keptNumber, oldOf, newOf, oldStart, newStart}
@@ -112,8 +112,8 @@ module _ (X : Compared) (F : FaultlessChart (X .old)) (H : FaultlessChart (X .ne
   final =
       final-marks (explored X .marks) (finalTargets (explored X)) (firstPair X) (explored-inv X F H .shaped .sized .marks) targets-length (omega arith) (starts .0)
 
-  -- a target of a pair that is there, by a row that is there
-  module _ (i r : ℕ) (b : i < 4096) (p : mark left i ≢ 0) (c : r < 2) (a : r < size (rowsOf (X .new) i)) where
+  -- a target of a pair that is there, by a row that can be taken
+  module _ (i r : ℕ) (b : i < 4096) (p : mark left i ≢ 0) (c : r < 2) (a : canBeTaken (rowsOf (X .new) i) r ≡ true) where
     pub here : 0 < markAt (explored X) i
     here = rank-there (explored X .marks) marks (final .ranks) i (omega arith) .1
 

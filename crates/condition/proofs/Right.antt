@@ -1,12 +1,12 @@
 -- What a build leaves is right: which pairs a kept place has, where each row of a pair leads, and which pairs are open or covered. Assumes nothing.
 use mathlib.Core.Path.{_≡_, ap, subst}
-use mathlib.Core.Bool.{false}
+use mathlib.Core.Bool.{true, false}
 use mathlib.Core.Logic.{_≢_, _⊎_, ⊎-elim, dite}
 use mathlib.Core.Option.{some}
 use Prim.Native.Nat.{ℕ, _+_, _<_}
 use native.Mathlib.Omega.{arith}
 use native.Mathlib.Decide.{ℕ-discrete}
-use Rattle.chart.specs.Charts.{size}
+use Rattle.chart.specs.Charts.{canBeTaken}
 use Rattle.chart.specs.Compared.{Compared, headsOf}
 use Rattle.chart.specs.Faultless.{FaultlessChart}
 use Rattle.chart.specs.Places.{pairNumber, keptNumber, oldOf, newOf}
@@ -38,7 +38,7 @@ module _ (X : Compared) (F : FaultlessChart (X .old)) (H : FaultlessChart (X .ne
     pub to-pair : (mark (left X F H joint) (keptNumber (leadsTo (X .new) i r)) ≡ 2 → ⊥)
         → (h : Spot) × (stepOf X i (setAt (explored X) i) r ≡ some h) × (target (left X F H joint) i r ≡ pairNumber (h .place) (leadsTo (X .new) i r))
 
-  pub row-leads : (i r : ℕ) → i < 4096 → mark (left X F H joint) i ≢ 0 → (oldOf i .0 ≡ X .old .head .alarm → ⊥) → r < 2 → r < size (rowsOf (X .new) i) → Leads i r
+  pub row-leads : (i r : ℕ) → i < 4096 → mark (left X F H joint) i ≢ 0 → (oldOf i .0 ≡ X .old .head .alarm → ⊥) → r < 2 → canBeTaken (rowsOf (X .new) i) r ≡ true → Leads i r
   row-leads i r b p n c a =
       ⊎-elim
       (λ k. record { to-kept = λ e. k .0; to-pair = λ m. absurd (m (L .ranks .node (keptNumber (leadsTo (X .new) i r)) (omega arith) (omega (arith, below)) (k .1))) })

@@ -1,5 +1,6 @@
--- What holds between the turns of a build: every pair of the graph that does not wait has, for each row, a target that the step under its
--- present set gives, whose set holds the step's, or one that leads to a kept place. Assumes nothing.
+-- What holds between the turns of a build: every pair of the graph that does not wait has, for each row that can be
+-- taken, a target that the step under its present set gives, whose set holds the step's, or one that leads to a kept
+-- place; the target of any other row is 65535. Assumes nothing.
 use mathlib.Core.Path.{_≡_, refl, sym, ap, subst, _∙_}
 use mathlib.Core.Bool.{Bool, true, false}
 use mathlib.Core.Logic.{_⊎_, inl, inr, ⊎-elim}
@@ -12,9 +13,10 @@ use lib.ListN.{getD, set}
 use lib.Seq.{getD-set-same, getD-set-other}
 use Rattle.base.proofs.Ones.{one-there, one-other, one-only}
 use Rattle.base.proofs.Repeat.{repeated-keeps}
+use Rattle.base.proofs.Tests.{T-true}
 use Rattle.base.proofs.Walks.{zeros-at, same-at}
 use Rattle.chart.specs.declared.places.NewPlace.{NewPlace}
-use Rattle.chart.specs.Charts.{size}
+use Rattle.chart.specs.Charts.{canBeTaken}
 use Rattle.chart.specs.Compared.{Compared, headsOf}
 use Rattle.chart.specs.Faultless.{FaultlessChart}
 use Rattle.chart.specs.Places.{pairNumber, keptNumber, oldOf, newOf}
@@ -79,10 +81,10 @@ module _ (X : Compared) where
     pub apart : (i : ℕ) → i < 4096 → 0 < markAt g i → markAt g (keptNumber (newOf i)) ≡ 0
     pub waiters : (i : ℕ) → i < 4096 → 0 < waitAt g i → 0 < markAt g i
     pub aims : (i r : ℕ) → i < 4096 → r < 2 → (targetAt g i r < 4160) ⊎ (targetAt g i r ≡ 65535)
-    pub unused : (i r : ℕ) → i < 4096 → r < 2 → (markAt g i ≡ 0) ⊎ (size (rowsOf (X .new) i) ≤ r) → targetAt g i r ≡ 65535
+    pub unused : (i r : ℕ) → i < 4096 → r < 2 → (markAt g i ≡ 0) ⊎ (canBeTaken (rowsOf (X .new) i) r ≡ false) → targetAt g i r ≡ 65535
     pub bare : (i : ℕ) → i < 4096 → markAt g i ≡ 0 → setAt g i ≡ 0
-    pub led : (i r : ℕ) → i < 4096 → 0 < markAt g i → r < 2 → r < size (rowsOf (X .new) i) → Led (g .marks) i r (targetAt g i r)
-    pub stepped : (i r : ℕ) → i < 4096 → 0 < markAt g i → waitAt g i ≡ 0 → (oldOf i .0 ≡ X .old .head .alarm → ⊥) → r < 2 → r < size (rowsOf (X .new) i) → D i r
+    pub led : (i r : ℕ) → i < 4096 → 0 < markAt g i → r < 2 → canBeTaken (rowsOf (X .new) i) r ≡ true → Led (g .marks) i r (targetAt g i r)
+    pub stepped : (i r : ℕ) → i < 4096 → 0 < markAt g i → waitAt g i ≡ 0 → (oldOf i .0 ≡ X .old .head .alarm → ⊥) → r < 2 → canBeTaken (rowsOf (X .new) i) r ≡ true → D i r
         → Stepped (g .marks) (g .sets) i r (targetAt g i r)
     pub home : (0 < markAt g (firstPair X)) ⊎ (0 < markAt g (firstKept X))
 
@@ -94,7 +96,7 @@ abbrev pub Every : ℕ → ℕ → Type 0
 Every i k = Unit {0}
 
 module _ (X : Compared) (F : FaultlessChart (X .old)) (G : FaultlessChart (X .new)) where
-  leads-64 : (i r : ℕ) → r < size (rowsOf (X .new) i) → leadsTo (X .new) i r .0 < 64
+  leads-64 : (i r : ℕ) → canBeTaken (rowsOf (X .new) i) r ≡ true → leadsTo (X .new) i r .0 < 64
   leads-64 i r a = omega (arith, leads-below X F G i 0 r a, G .few-places)
 
   -- ---- a new place becomes kept
@@ -181,7 +183,7 @@ module _ (X : Compared) (F : FaultlessChart (X .old)) (G : FaultlessChart (X .ne
       still-aims i r b c (yes e) = inr (keep-target g q S l i b e r c)
       still-aims i r b c (no e) = rw (keep-target-other g q S l i b e r c) (I .aims i r b c)
 
-      still-unused : (i r : ℕ) → i < 4096 → r < 2 → (markAt (keep g q) i ≡ 0) ⊎ (size (rowsOf (X .new) i) ≤ r) → Dec (i % 64 ≡ q .0) → targetAt (keep g q) i r ≡ 65535
+      still-unused : (i r : ℕ) → i < 4096 → r < 2 → (markAt (keep g q) i ≡ 0) ⊎ (canBeTaken (rowsOf (X .new) i) r ≡ false) → Dec (i % 64 ≡ q .0) → targetAt (keep g q) i r ≡ 65535
       still-unused i r b c u (yes e) = keep-target g q S l i b e r c
       still-unused i r b c u (no e) =
           keep-target-other g q S l i b e r c ∙ I .unused i r b c (⊎-elim (λ z. inl (sym (keep-mark-other g q S l i b e) ∙ z)) (λ z. inr z) u)
@@ -190,7 +192,7 @@ module _ (X : Compared) (F : FaultlessChart (X .old)) (G : FaultlessChart (X .ne
       still-bare i b z (yes e) = keep-set g q S l i b e
       still-bare i b z (no e) = keep-set-other g q S l i b e ∙ I .bare i b (sym (keep-mark-other g q S l i b e) ∙ z)
 
-      still-led : (i r t : ℕ) → r < size (rowsOf (X .new) i) → Led X (g .marks) i r t → Led X (keep g q .marks) i r t
+      still-led : (i r t : ℕ) → canBeTaken (rowsOf (X .new) i) r ≡ true → Led X (g .marks) i r t → Led X (keep g q .marks) i r t
       still-led i r t a (inl e) = inl e
       still-led i r t a (inr (inl K)) = inr (inl (keep-to-kept g q (I .shaped) l i r t (leads-64 i r a) K))
       still-led i r t a (inr (inr P)) = inr (keep-to-pair g q (I .shaped) l i r t P)
@@ -264,7 +266,7 @@ module _ (X : Compared) (F : FaultlessChart (X .old)) (G : FaultlessChart (X .ne
       was-not : (i : ℕ) → markAt (join (X .old .head .alarm) g m v) i ≡ 0 → markAt g i ≡ 0
       was-not i z = by-pair i (λ e. absurd (omega (arith, rw e at z, join-mark (X .old .head .alarm) g m v S l))) (λ e. sym (join-mark-other (X .old .head .alarm) g m v S l i e) ∙ z)
 
-      now-led : (i r : ℕ) → i < 4096 → 0 < markAt (join (X .old .head .alarm) g m v) i → r < 2 → r < size (rowsOf (X .new) i) → Dec (markAt g i ≡ 0) → Led X (join (X .old .head .alarm) g m v .marks) i r (targetAt g i r)
+      now-led : (i r : ℕ) → i < 4096 → 0 < markAt (join (X .old .head .alarm) g m v) i → r < 2 → canBeTaken (rowsOf (X .new) i) r ≡ true → Dec (markAt g i ≡ 0) → Led X (join (X .old .head .alarm) g m v .marks) i r (targetAt g i r)
       now-led i r b p c a (yes z) = inl (I .unused i r b c (inl z))
       now-led i r b p c a (no n) = lift (I .led i r b (omega arith) c a)
         where
@@ -273,7 +275,7 @@ module _ (X : Compared) (F : FaultlessChart (X .old)) (G : FaultlessChart (X .ne
           lift (inr (inl K)) = inr (inl (join-to-kept g m v (I .shaped) l w i r (targetAt g i r) K))
           lift (inr (inr P)) = inr (inr (join-to-pair g m v (I .shaped) l w i r (targetAt g i r) P))
 
-      now-stepped : (i r : ℕ) → i < 4096 → 0 < markAt (join (X .old .head .alarm) g m v) i → waitAt (join (X .old .head .alarm) g m v) i ≡ 0 → (oldOf i .0 ≡ X .old .head .alarm → ⊥) → r < 2 → r < size (rowsOf (X .new) i) → D i r
+      now-stepped : (i r : ℕ) → i < 4096 → 0 < markAt (join (X .old .head .alarm) g m v) i → waitAt (join (X .old .head .alarm) g m v) i ≡ 0 → (oldOf i .0 ≡ X .old .head .alarm → ⊥) → r < 2 → canBeTaken (rowsOf (X .new) i) r ≡ true → D i r
           → Dec (i ≡ m) → Stepped X (join (X .old .head .alarm) g m v .marks) (join (X .old .head .alarm) g m v .sets) i r (targetAt g i r)
       now-stepped i r b p z a c s d (yes e) =
           let h = join-rests g m v (I .shaped) l w (rw e at z) (λ f. a (ap (λ (x : ℕ). x / 64) e ∙ f)) in
@@ -299,7 +301,7 @@ module _ (X : Compared) (F : FaultlessChart (X .old)) (G : FaultlessChart (X .ne
         go (yes d) (no e) = h (λ z. e (z .1))
         go (no d) e = h (λ z. d (z .0))
 
-  aimed-inv : (g : Buffers) (n r to : ℕ) → n < 4096 → r < 2 → r < size (rowsOf (X .new) n) → 0 < markAt g n → to < 4160
+  aimed-inv : (g : Buffers) (n r to : ℕ) → n < 4096 → r < 2 → canBeTaken (rowsOf (X .new) n) r ≡ true → 0 < markAt g n → to < 4160
       → Led X (g .marks) n r to
       → (waitAt g n ≡ 0 → (oldOf n .0 ≡ X .old .head .alarm → ⊥) → Stepped X (g .marks) (g .sets) n r to)
       → Inv X (Hand n r) g → Inv X (Hand n (suc r)) (aimed g n r to)
@@ -312,7 +314,7 @@ module _ (X : Compared) (F : FaultlessChart (X .old)) (G : FaultlessChart (X .ne
         waiters = I .waiters;
         aims = λ i k d f. by-target g n r to S l c i k (λ e. rw (e .0, e .1, here) (inl b)) (λ e. rw (other i k f e) (I .aims i k d f));
         unused = λ i k d f u. by-target g n r to S l c i k
-            (λ e. absurd (⊎-elim (λ z. omega (arith, rw (e .0) at z)) (λ z. omega (arith, rw (e .0) at z, e .1)) u))
+            (λ e. absurd (⊎-elim (λ z. omega (arith, rw (e .0) at z)) (λ z. T-true (sym (rw (e .0, e .1) at z) ∙ there)) u))
             (λ e. other i k f e ∙ I .unused i k d f u);
         bare = I .bare;
         led = λ i k d q f s. by-target g n r to S l c i k (λ e. rw (e .0, e .1, here) L) (λ e. rw (other i k f e) (I .led i k d q f s));
@@ -351,15 +353,15 @@ module _ (X : Compared) (F : FaultlessChart (X .old)) (G : FaultlessChart (X .ne
         home = I .home;
       }
 
-  aim-inv : (g : Buffers) (n r to : ℕ) → n < 4096 → r < 2 → r < size (rowsOf (X .new) n) → to < 4160
+  aim-inv : (g : Buffers) (n r to : ℕ) → n < 4096 → r < 2 → canBeTaken (rowsOf (X .new) n) r ≡ true → to < 4160
       → Led X (g .marks) n r to
       → (0 < markAt g n → waitAt g n ≡ 0 → (oldOf n .0 ≡ X .old .head .alarm → ⊥) → Stepped X (g .marks) (g .sets) n r to)
       → Inv X (Hand n r) g → Inv X (Hand n (suc r)) (aim g n r to)
   aim-inv g n r to l c there b L T I =
       by-aim g n r to (Inv X (Hand n (suc r))) (λ p. aimed-inv g n r to l c there p b L (T p) I) (λ z. gone-inv g n r z I)
 
-  -- no such row
-  spare-inv : (g : Buffers) (n r : ℕ) → size (rowsOf (X .new) n) ≤ r → Inv X (Hand n r) g → Inv X (Hand n (suc r)) g
+  -- no such row that can be taken
+  spare-inv : (g : Buffers) (n r : ℕ) → canBeTaken (rowsOf (X .new) n) r ≡ false → Inv X (Hand n r) g → Inv X (Hand n (suc r)) g
   spare-inv g n r u I =
       record {
         shaped = I .shaped;
@@ -371,7 +373,7 @@ module _ (X : Compared) (F : FaultlessChart (X .old)) (G : FaultlessChart (X .ne
         unused = I .unused;
         bare = I .bare;
         led = I .led;
-        stepped = λ i k b p w a c s d. I .stepped i k b p w a c s (λ e. let y = d e in let z : k < size (rowsOf (X .new) n) = subst (λ (x : ℕ). k < size (rowsOf (X .new) x)) e s in omega arith);
+        stepped = λ i k b p w a c s d. I .stepped i k b p w a c s (λ e. let y = d e in let z : k ≡ r → ⊥ = λ f. T-true (sym u ∙ (rw (e, f) at s)) in omega arith);
         home = I .home;
       }
 
@@ -389,7 +391,7 @@ module _ (X : Compared) (F : FaultlessChart (X .old)) (G : FaultlessChart (X .ne
         aim-inv g n r (keptNumber (leadsTo (X .new) n r)) l c a (omega (arith, leads-64 n r a)) (inr (inl K)) (λ p z q. inl K) I)
         (λ a h e f. arrives a h e f (step-of-fits X F G n v r a (X .old .head .places) (omega arith) lo w h e))
       where
-        arrives : r < size (rowsOf (X .new) n) → (h : Spot) → stepOf X n v r ≡ some h → markAt g (keptNumber (leadsTo (X .new) n r)) ≡ 0 → Fits (X .old .head .places) h
+        arrives : canBeTaken (rowsOf (X .new) n) r ≡ true → (h : Spot) → stepOf X n v r ≡ some h → markAt g (keptNumber (leadsTo (X .new) n r)) ≡ 0 → Fits (X .old .head .places) h
             → Inv X (Hand n (suc r)) (aim (join (X .old .head .alarm) g (pairNumber (h .place) (leadsTo (X .new) n r)) (h .set)) n r (pairNumber (h .place) (leadsTo (X .new) n r)))
         arrives a h e f T =
             aim-inv (join (X .old .head .alarm) g m (h .set)) n r m l c a (omega (arith, below)) (inr (inr pair)) (λ p z q. inr (stepped p z q (ℕ-discrete n m)))

@@ -12,7 +12,7 @@ use Rattle.base.proofs.Sums.{sum, sum-le, sum-lt, sum-most}
 use Rattle.base.proofs.Walks.{small-set, zeros-at}
 use Rattle.base.proofs.Repeat.{Falls, rests, repeated-keeps}
 use Rattle.chart.specs.declared.places.NewPlace.{NewPlace}
-use Rattle.chart.specs.Charts.{size}
+use Rattle.chart.specs.Charts.{canBeTaken}
 use Rattle.chart.specs.Compared.{Compared, headsOf}
 use Rattle.chart.specs.Faultless.{FaultlessChart}
 use Rattle.chart.specs.Places.{pairNumber, keptNumber, newOf}
@@ -148,7 +148,7 @@ module _ (X : Compared) (F : FaultlessChart (X .old)) (G : FaultlessChart (X .ne
       aim-lighter g (join (X .old .head .alarm) g m (h .set)) n r m
       (record { shaped = join-shaped (X .old .head .alarm) g m (h .set) (T .set) S; less = weight-join (X .old .head .alarm) g m (h .set) S (omega (arith, T .place, q-below a)) (rw z f) (T .set) }))
     where
-      q-below : r < size (rowsOf (X .new) n) → leadsTo (X .new) n r .0 < 64
+      q-below : canBeTaken (rowsOf (X .new) n) r ≡ true → leadsTo (X .new) n r .0 < 64
       q-below a = omega (arith, leads-below X F G n v r a, G .few-places)
 
   turn-lighter : (g : Buffers) (n : ℕ) → n < 4096 → Shaped g → Lighter (unwait g n) (taken X g n)

@@ -1,24 +1,30 @@
 -- The row of a pair in hand, in the form in which the code meets it. Assumes nothing.
 use mathlib.Core.Path.{_≡_, refl, sym, ap, subst, _∙_}
-use mathlib.Core.Bool.{Bool, true, false}
+use mathlib.Core.Bool.{Bool, true, false, _&&_, not}
+use mathlib.Core.Logic.{dite}
 use mathlib.Core.List.{List}
 use mathlib.Core.Option.{some}
-use Prim.Native.Nat.{ℕ, zero, suc, _+_, _/_, _%_, _^_, _≤_, _<_}
+use Prim.Native.Nat.{ℕ, zero, suc, _+_, _%_, _^_, _≤_, _<_}
+use native.Mathlib.Decide.{decLt}
 use native.Mathlib.Omega.{arith}
-use borrow.Author.Tests.{lt-ltb, le-ltb}
-use lib.ListN.{length, getD, set, length-set}
+use borrow.Author.Tests.{le-ltb}
+use lib.Dec.{ltb}
+use lib.ListN.{getD, set, length-set}
 use Rattle.operations.specs.Operations.{isKnown, operandsFit}
+use Rattle.operations.specs.Trials.{neverHolds}
 use Rattle.chart.specs.declared.places.OldPlace.{OldPlace}
 use Rattle.chart.specs.declared.places.NewPlace.{NewPlace}
-use Rattle.chart.specs.Charts.{Chart, size, to, operation, leaving}
+use Rattle.chart.specs.Charts.{Chart, size, to, operation, canBeTaken, leaving}
 use Rattle.chart.specs.Compared.{Compared}
 use Rattle.chart.specs.Faultless.{FaultlessChart}
+use Rattle.detector.specs.inner.Skipped.{NeverIf, Skipped}
 use Rattle.chart.specs.Places.{oldOf, newOf}
 use Rattle.align.specs.declared.spots.Spot.{Spot}
 use Rattle.align.specs.declared.spots.Aligned.{Aligned}
 use Rattle.align.specs.Steps.{step}
 use Rattle.align.specs.inner.Told.{told}
 use Rattle.chart.proofs.Parts.{part-right, row-to}
+use Rattle.chart.proofs.Takable.{takable, by-test}
 use Rattle.words.specs.inner.Words.{removed}
 use Rattle.graph.specs.Buffers.{Buffers, buffers, marked, unwait}
 use Rattle.graph.specs.inner.Sized.{Sized}
@@ -26,50 +32,80 @@ use Rattle.graph.specs.inner.Tracks.{Tracks}
 use Rattle.detector.specs.Turns.{rowsOf, leadsTo, setNow, stepOf, processed, rowDone, secondDone, taken}
 use Rattle.graph.proofs.Graphs.{marked-yes, marked-no}
 use Rattle.graph.proofs.Tracking.{unwait-tracks}
-use Rattle.detector.proofs.Turns.{step-of-fits}
+use Rattle.detector.proofs.Turns.{no-row, a-row, step-of-fits}
 
--- ---- the part of the new table that leaves the pair's new place
+-- ---- which of two rows never hold
+pub skips-none : (rows : List ℕ) → ((k : ℕ) → k < size rows → neverHolds (operation rows k) ≡ false) → Skipped (record { first = false; second = false }) rows
+skips-none rows N = record { first = λ l. sym (N 0 l); second = λ l. sym (N 1 l) }
+
+pub skips-by : {part rows : List ℕ} {a b : Bool} → part ≡ rows → a ≡ canBeTaken part 0 → b ≡ canBeTaken part 1 → Skipped (record { first = not a; second = not b }) rows
+skips-by {part} {rows} {a} {b} e f g = record { first = one 0 f; second = one 1 g }
+  where
+    twice : (x : Bool) → not (not x) ≡ x
+    twice true = refl
+    twice false = refl
+
+    one : {x : Bool} (k : ℕ) → x ≡ canBeTaken part k → NeverIf (not x) rows k
+    one k h l = ap not (h ∙ ap (λ (l : List ℕ). canBeTaken l k) e ∙ by-test rows k l) ∙ twice (neverHolds (operation rows k))
+
+-- ---- the part of the new table that leaves the pair's new place, and a row of it that can be taken
+-- whether one can be taken: it is there, and is none that never holds
+pub part-can : (t : List ℕ) (n r : ℕ) {q′ : NewPlace} {part : List ℕ} {skip : Bool} → q′ ≡ newOf n → part ≡ leaving t (q′ .0)
+    → NeverIf skip (leaving t (newOf n .0)) r → ltb r (size part) && not skip ≡ canBeTaken part r
+unfolding canBeTaken
+part-can t n r {q′} {part} {skip} a b N = subst (λ (rows : List ℕ). ltb r (size rows) && not skip ≡ ltb r (size rows) && not (neverHolds (operation rows r))) (sym e) there
+  where
+    e : part ≡ leaving t (newOf n .0)
+    e = b ∙ ap (λ (x : NewPlace). leaving t (x .0)) a
+
+    there : ltb r (size (leaving t (newOf n .0))) && not skip ≡ ltb r (size (leaving t (newOf n .0))) && not (neverHolds (operation (leaving t (newOf n .0)) r))
+    there =
+        dite (decLt r (size (leaving t (newOf n .0)))) (λ l. rw (N l)) (λ l. rw (le-ltb r (size (leaving t (newOf n .0))) (omega arith)))
+
 module _ (new : Chart) (n r : ℕ) {q′ : NewPlace} {part : List ℕ} (a : q′ ≡ newOf n) (b : part ≡ leaving (new .table) (q′ .0)) where
   part-is : part ≡ rowsOf new n
   part-is = b ∙ ap (λ (x : NewPlace). leaving (new .table) (x .0)) a
 
-  part-there : r < length part / 6 → r < size (rowsOf new n)
-  part-there l = subst (λ (x : List ℕ). r < length x / 6) part-is l
-
-  pub row-right : FaultlessChart new → r < length part / 6 → (isKnown (operation part r) ≡ true) × (operandsFit (operation part r) ≡ true)
-  row-right G l =
-      subst (λ (x : List ℕ). (isKnown (operation x r) ≡ true) × (operandsFit (operation x r) ≡ true)) (sym part-is) (part-right new (n % 64) r G (part-there l))
+  part-takable : {t d : Bool} → t ≡ canBeTaken part r → t ≡ d → canBeTaken (rowsOf new n) r ≡ d
+  part-takable u e = sym (u ∙ ap (λ (x : List ℕ). canBeTaken x r) part-is) ∙ e
 
   part-leads : (q : NewPlace) → q .0 ≡ to part r → q ≡ leadsTo new n r
   part-leads q e = let z : q .0 ≡ to (rowsOf new n) r = e ∙ ap (λ (x : List ℕ). to x r) part-is in λ i. record { 0 = z i }
 
-  pub part-below : (q : NewPlace) → FaultlessChart new → r < length part / 6 → q .0 ≡ to part r → q .0 < 64
-  part-below q G l e = omega (arith, ap (λ (x : NewPlace). x .0) (part-leads q e), row-to new G (n % 64) r (part-there l), G .few-places)
+  module _ {t : Bool} (u : t ≡ canBeTaken part r) (e : t ≡ true) where
+    pub row-right : FaultlessChart new
+        → (r < size part) × (isKnown (operation part r) ≡ true) × (operandsFit (operation part r) ≡ true)
+    row-right G =
+        let T = takable (rowsOf new n) r (part-takable u e) in
+        let R = part-right new (n % 64) r G (T .0) in
+        rw part-is (T .0, R .0, R .1)
+
+    pub part-below : (q : NewPlace) → FaultlessChart new → q .0 ≡ to part r → q .0 < 64
+    part-below q G f =
+        omega (arith, ap (λ (x : NewPlace). x .0) (part-leads q f), row-to new G (n % 64) r (takable (rowsOf new n) r (part-takable u e) .0), G .few-places)
 
 -- ---- the step by one of its rows
-module _ (X : Compared) (n r : ℕ) {q′ : NewPlace} {part : List ℕ} (a : q′ ≡ newOf n) (b : part ≡ leaving (X .new .table) (q′ .0)) (v : ℕ) where
+module _ (X : Compared) (n r : ℕ) {q′ : NewPlace} {part : List ℕ} (a : q′ ≡ newOf n) (b : part ≡ leaving (X .new .table) (q′ .0)) {t : Bool} (u : t ≡ canBeTaken part r) (v : ℕ) where
   is : part ≡ rowsOf (X .new) n
   is = part-is (X .new) n r a b
 
-  there : r < length part / 6 → r < size (rowsOf (X .new) n)
-  there = part-there (X .new) n r a b
+  can : {d : Bool} → t ≡ d → canBeTaken (rowsOf (X .new) n) r ≡ d
+  can = part-takable (X .new) n r a b u
 
-  module _ {p : OldPlace} (came : Aligned) (o : p ≡ oldOf n) (s : told came ≡ step X (record { place = p; set = v }) (operation part r) (record { 0 = to part r })) where
+  module _ {p : OldPlace} (came : Aligned) (o : p ≡ oldOf n) (s : told came ≡ step X (record { place = p; set = v }) (operation part r) (record { 0 = to part r })) (y : t ≡ true) where
     stepped : told came ≡ stepOf X n v r
     unfolding stepOf
     stepped = s ∙ (λ i. step X (record { place = o i; set = v }) (operation (is i) r) (record { 0 = to (is i) r }))
 
-    pub came-fits : FaultlessChart (X .old) → FaultlessChart (X .new) → n < 4096 → v < 2 ^ 64 → r < length part / 6 → (h : Spot) → told came ≡ some h → h .place .0 < 64
-    came-fits F G l w k h e = step-of-fits X F G n v r (there k) 64 (F .few-places) (omega arith) w h (sym stepped ∙ e) .place
+    pub came-fits : FaultlessChart (X .old) → FaultlessChart (X .new) → n < 4096 → v < 2 ^ 64 → (h : Spot) → told came ≡ some h → h .place .0 < 64
+    came-fits F G l w h e = step-of-fits X F G n v r (can y) 64 (F .few-places) (omega arith) w h (sym stepped ∙ e) .place
 
-    pub row-there : (g : Buffers) {g′ : Buffers} (q : NewPlace) → r < length part / 6 → q .0 ≡ to part r → g′ ≡ processed (X .old .head .alarm) g n r q (told came) → g′ ≡ rowDone X g n v r
-    unfolding rowDone
-    row-there g q l e h =
-        h ∙ (λ i. processed (X .old .head .alarm) g n r (part-leads (X .new) n r a b q e i) (stepped i)) ∙ rw (lt-ltb r (size (rowsOf (X .new) n)) (there l), rowDone)
+    pub row-there : (g : Buffers) {g′ : Buffers} (q : NewPlace) → q .0 ≡ to part r → g′ ≡ processed (X .old .head .alarm) g n r q (told came) → g′ ≡ rowDone X g n v r
+    row-there g q e h =
+        h ∙ (λ i. processed (X .old .head .alarm) g n r (part-leads (X .new) n r a b q e i) (stepped i)) ∙ sym (a-row X g n v r (can y) refl)
 
-  pub row-spare : (g : Buffers) → length part / 6 ≤ r → g ≡ rowDone X g n v r
-  unfolding rowDone
-  row-spare g l = rw (le-ltb r (size (rowsOf (X .new) n)) (subst (λ (x : List ℕ). length x / 6 ≤ r) is l), rowDone)
+  pub row-spare : (g : Buffers) → t ≡ false → g ≡ rowDone X g n v r
+  row-spare g f = sym (no-row X g n v r (can f))
 
 -- ---- the set of the pair in hand
 module _ (m s : List ℕ) (n v : ℕ) where

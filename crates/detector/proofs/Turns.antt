@@ -4,13 +4,12 @@ use mathlib.Core.Bool.{Bool, true, false, not}
 use mathlib.Core.Option.{Option, none, some}
 use Prim.Native.Nat.{ℕ, _^_, _≤_, _<_}
 use native.Mathlib.Omega.{arith}
-use native.Mathlib.Decide.{decLt}
-use borrow.Author.Tests.{lt-ltb, le-ltb, eqb-false, eqb-true, not-true, not-false}
+use borrow.Author.Tests.{eqb-false, eqb-true, not-true, not-false}
 use lib.Dec.{eqb}
 use lib.ListN.{length, getD}
 use Rattle.base.proofs.OnSome.{on-at}
 use Rattle.base.proofs.Walks.{first-is, none-passes}
-use Rattle.chart.specs.Charts.{size, operation}
+use Rattle.chart.specs.Charts.{size, operation, canBeTaken}
 use Rattle.chart.specs.Compared.{Compared}
 use Rattle.chart.specs.Faultless.{FaultlessChart}
 use Rattle.chart.specs.Places.{pairNumber, keptNumber, oldOf, newOf}
@@ -19,16 +18,17 @@ use Rattle.graph.specs.Buffers.{Buffers, marked, keep, aim, join}
 use Rattle.detector.specs.Turns.{rowsOf, leadsTo, lowest, next, setNow, stepOf, arrived, processed, rowDone}
 use Rattle.align.proofs.Steps.{Fits, step-fits}
 use Rattle.chart.proofs.Parts.{row-to, row-a}
+use Rattle.chart.proofs.Takable.{takable}
 use Rattle.graph.proofs.Graphs.{markAt, setAt, waitAt, marked-yes, marked-no, is-marked, not-marked, Shaped}
 
 module _ (X : Compared) (g : Buffers) (n v r : ℕ) where
-  no-row : size (rowsOf (X .new) n) ≤ r → rowDone X g n v r ≡ g
+  pub no-row : canBeTaken (rowsOf (X .new) n) r ≡ false → rowDone X g n v r ≡ g
   unfolding rowDone
-  no-row l = rw (le-ltb r (size (rowsOf (X .new) n)) l, rowDone)
+  no-row t = rw (t, rowDone)
 
-  a-row : r < size (rowsOf (X .new) n) → {o : Option Spot} → stepOf X n v r ≡ o → rowDone X g n v r ≡ processed (X .old .head .alarm) g n r (leadsTo (X .new) n r) o
+  pub a-row : canBeTaken (rowsOf (X .new) n) r ≡ true → {o : Option Spot} → stepOf X n v r ≡ o → rowDone X g n v r ≡ processed (X .old .head .alarm) g n r (leadsTo (X .new) n r) o
   unfolding rowDone
-  a-row l e = rw (lt-ltb r (size (rowsOf (X .new) n)) l, rowDone) (ap (processed (X .old .head .alarm) g n r (leadsTo (X .new) n r)) e)
+  a-row t e = rw (t, rowDone) (ap (processed (X .old .head .alarm) g n r (leadsTo (X .new) n r)) e)
 
   fails-is : processed (X .old .head .alarm) g n r (leadsTo (X .new) n r) none ≡ aim (keep g (leadsTo (X .new) n r)) n r (keptNumber (leadsTo (X .new) n r))
   unfolding processed
@@ -45,24 +45,24 @@ module _ (X : Compared) (g : Buffers) (n v r : ℕ) where
   unfolding processed arrived
   joins-is h e = rw (e, arrived)
 
-  -- there is no such row; or its step fails; or it leads to a place that is kept already; or to a pair
+  -- there is no row that can be taken; or its step fails; or it leads to a place that is kept already; or to a pair
   pub by-row : (P : Buffers → Type 0)
-      → (size (rowsOf (X .new) n) ≤ r → P g)
-      → (r < size (rowsOf (X .new) n) → stepOf X n v r ≡ none → P (aim (keep g (leadsTo (X .new) n r)) n r (keptNumber (leadsTo (X .new) n r))))
-      → (r < size (rowsOf (X .new) n) → 0 < markAt g (keptNumber (leadsTo (X .new) n r)) → P (aim g n r (keptNumber (leadsTo (X .new) n r))))
-      → (r < size (rowsOf (X .new) n) → (h : Spot) → stepOf X n v r ≡ some h → markAt g (keptNumber (leadsTo (X .new) n r)) ≡ 0
+      → (canBeTaken (rowsOf (X .new) n) r ≡ false → P g)
+      → (canBeTaken (rowsOf (X .new) n) r ≡ true → stepOf X n v r ≡ none → P (aim (keep g (leadsTo (X .new) n r)) n r (keptNumber (leadsTo (X .new) n r))))
+      → (canBeTaken (rowsOf (X .new) n) r ≡ true → 0 < markAt g (keptNumber (leadsTo (X .new) n r)) → P (aim g n r (keptNumber (leadsTo (X .new) n r))))
+      → (canBeTaken (rowsOf (X .new) n) r ≡ true → (h : Spot) → stepOf X n v r ≡ some h → markAt g (keptNumber (leadsTo (X .new) n r)) ≡ 0
       → P (aim (join (X .old .head .alarm) g (pairNumber (h .place) (leadsTo (X .new) n r)) (h .set)) n r (pairNumber (h .place) (leadsTo (X .new) n r))))
       → P (rowDone X g n v r)
-  by-row P a b c d = go (decLt r (size (rowsOf (X .new) n))) (stepOf X n v r) refl
+  by-row P a b c d = go (canBeTaken (rowsOf (X .new) n) r) refl (stepOf X n v r) refl
     where
-      there : r < size (rowsOf (X .new) n) → (h : Spot) → stepOf X n v r ≡ some h → (k : Bool) → marked (g .marks) (keptNumber (leadsTo (X .new) n r)) ≡ k → P (rowDone X g n v r)
+      there : canBeTaken (rowsOf (X .new) n) r ≡ true → (h : Spot) → stepOf X n v r ≡ some h → (k : Bool) → marked (g .marks) (keptNumber (leadsTo (X .new) n r)) ≡ k → P (rowDone X g n v r)
       there l h e true t = rw (a-row l e ∙ kept-is h t) (c l (is-marked (g .marks) (keptNumber (leadsTo (X .new) n r)) t))
       there l h e false t = rw (a-row l e ∙ joins-is h t) (d l h e (not-marked (g .marks) (keptNumber (leadsTo (X .new) n r)) t))
 
-      go : Dec (r < size (rowsOf (X .new) n)) → (o : Option Spot) → stepOf X n v r ≡ o → P (rowDone X g n v r)
-      go (no l) o e = rw (no-row (omega arith)) (a (omega arith))
-      go (yes l) none e = rw (a-row l e ∙ fails-is) (b l e)
-      go (yes l) (some h) e = there l h e (marked (g .marks) (keptNumber (leadsTo (X .new) n r))) refl
+      go : (b : Bool) → canBeTaken (rowsOf (X .new) n) r ≡ b → (o : Option Spot) → stepOf X n v r ≡ o → P (rowDone X g n v r)
+      go false l o e = rw (no-row l) (a l)
+      go true l none e = rw (a-row l e ∙ fails-is) (b l e)
+      go true l (some h) e = there l h e (marked (g .marks) (keptNumber (leadsTo (X .new) n r))) refl
 
 -- ---- the pair in hand's set
 module _ (g : Buffers) (n v : ℕ) where
@@ -83,7 +83,10 @@ module _ (g : Buffers) (n v : ℕ) where
       go false = l
 
 -- ---- what a step comes to
-module _ (X : Compared) (F : FaultlessChart (X .old)) (G : FaultlessChart (X .new)) (n v r : ℕ) (there : r < size (rowsOf (X .new) n)) where
+module _ (X : Compared) (F : FaultlessChart (X .old)) (G : FaultlessChart (X .new)) (n v r : ℕ) (can : canBeTaken (rowsOf (X .new) n) r ≡ true) where
+  there : r < size (rowsOf (X .new) n)
+  there = takable (rowsOf (X .new) n) r can .0
+
   pub leads-below : leadsTo (X .new) n r .0 < X .new .head .places
   leads-below = row-to (X .new) G (newOf n .0) r there
 

@@ -3,7 +3,7 @@ use mathlib.Core.Bool.{true, false, not}
 use mathlib.Core.List.{List}
 use mathlib.Core.Option.{Option, none, some}
 use Prim.Native.Nat.{ℕ, _^_}
-use lib.Dec.{eqb, ltb}
+use lib.Dec.{eqb}
 use lib.ListN.{getD, set, replicate}
 use Rattle.base.specs.Walks.{firstFrom}
 use Rattle.base.specs.Repeat.{repeated}
@@ -11,7 +11,7 @@ use Rattle.chart.specs.declared.places.NewPlace.{NewPlace}
 use Rattle.chart.specs.Places.{pairNumber, keptNumber, oldOf, newOf, startPair}
 use Rattle.chart.specs.declared.charts.Heads.{Heads}
 use Rattle.chart.specs.Compared.{Compared, headsOf}
-use Rattle.chart.specs.Charts.{Chart, size, to, operation, leaving}
+use Rattle.chart.specs.Charts.{Chart, to, operation, canBeTaken, leaving}
 use Rattle.align.specs.declared.spots.Spot.{Spot}
 use Rattle.align.specs.Steps.{step}
 use Rattle.graph.specs.Buffers.{Buffers, buffers, marked, keep, aim, join, unwait}
@@ -64,10 +64,11 @@ module _ (X : Compared) where
   unfoldable pub stepOf : ℕ → ℕ → ℕ → Option Spot
   stepOf n v r = step X (record { place = oldOf n; set = v }) (operation (rowsOf (X .new) n) r) (leadsTo (X .new) n r)
 
-  -- "its rows in table order": row r of pair n, under the set v, if there is such a row (line 4)
+  -- "its rows in table order": row r of pair n, under the set v, if there is such a row (line 4). "A new row that never
+  -- holds has target 65535, nothing is explored behind it" (document 02, #101): it is passed over
   unfoldable pub rowDone : Buffers → ℕ → ℕ → ℕ → Buffers
   rowDone g n v r =
-      elim (ltb r (size (rowsOf (X .new) n))) [
+      elim (canBeTaken (rowsOf (X .new) n) r) [
         | true ↦ processed (X .old .head .alarm) g n r (leadsTo (X .new) n r) (stepOf n v r)
         | false ↦ g
       ]

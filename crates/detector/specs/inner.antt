@@ -1,2 +1,3 @@
 -- What contracts of inner functions cite.
 pub mod Lowest
+pub mod Skipped

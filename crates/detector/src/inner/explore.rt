@@ -11,6 +11,7 @@ use crate::inner::turns;
 use base::Found;
 use chart::charts::Heads;
 use chart::inner::pairs::start_pair;
+use chart::inner::rows::some_never;
 use graph::inner::buffers;
 use words::inner::members;
 
@@ -53,6 +54,7 @@ pub fn explore<'a>(
     let mut waits = [0u64; 65];
     members::list(&mut waits, start_pair(heads));
     members::add(seen, start_pair(heads));
+    let some = some_never(new_rows);
     loop {
         match turns::lowest(&mut waits, &*waiting) {
             Found::At(n) => {
@@ -68,6 +70,7 @@ pub fn explore<'a>(
                     &mut waits,
                     seen,
                     n,
+                    turns::to_skip(old_rows, new_rows, index, n, some),
                 );
             }
             Found::Nothing => {

@@ -1,9 +1,15 @@
 // Algorithm 2: the rows of a waiting pair, and the turns of a build.
 ghost use mathlib.Core.Path.{_≡_};
 ghost use mathlib.Core.Option.{some};
-ghost use Prim.Native.Nat.{_<_};
+ghost use mathlib.Core.List.{List};
+ghost use Prim.Native.Nat.{ℕ, _<_};
 ghost use lib.ListN.{length, getD};
+ghost use Rattle.chart.specs.Charts.{leaving};
 ghost use Rattle.chart.specs.Compared.{compared};
+ghost use Rattle.chart.specs.Places.{newOf};
+ghost use Rattle.chart.specs.inner.Ascending.{Ascending};
+ghost use Rattle.chart.specs.inner.Index.{Indexed};
+ghost use Rattle.chart.specs.inner.NoneNever.{NoneNever};
 ghost use Rattle.chart.specs.inner.Prepared.{Prepared};
 ghost use Rattle.align.specs.declared.spots.Spot.{Spot};
 ghost use Rattle.align.specs.inner.Told.{told};
@@ -13,6 +19,7 @@ ghost use Rattle.graph.specs.Buffers.{buffers};
 ghost use Rattle.graph.specs.inner.Sized.{Sized};
 ghost use Rattle.graph.specs.inner.Tracks.{Lists, Tracks};
 ghost use Rattle.detector.specs.Turns.{lowest, setNow, arrived, processed, rowDone, taken};
+ghost use Rattle.detector.specs.inner.Skipped.{NeverIf, Skipped};
 ghost use Rattle.detector.specs.inner.Lowest.{LowestOf};
 use align::inner::step::step;
 use align::spots::Aligned;
@@ -23,6 +30,7 @@ use chart::inner::pairs::kept;
 use chart::inner::pairs::new_of;
 use chart::inner::pairs::old_of;
 use chart::inner::pairs::pair;
+use chart::inner::rows::can_be_taken;
 use chart::inner::rows::new_to;
 use chart::inner::rows::rows_of;
 use chart::places::NewPlace;
@@ -32,6 +40,12 @@ use graph::inner::buffers;
 use graph::inner::graphs;
 use sets::inner::bits::without;
 use words::inner::members;
+
+// Which rows of a pair never hold, of those that are there.
+pub struct Skips {
+    pub first: bool,
+    pub second: bool,
+}
 
 // The next pair of an old place to look at: the lowest bit of what is left of its word.
 fn next_pair(word: u64) -> usize
@@ -162,7 +176,32 @@ fn process(
     }
 }
 
-// Row r of pair n, if there is such a row, under the set v.
+// Which of the rows of pair n never hold. Where no row of the new chart does, as `some` says, none is looked at.
+pub fn to_skip<'a>(
+    old_rows: &'a [u32],
+    new_rows: &'a [u32],
+    index: &[u8; 130],
+    n: usize,
+    some: bool,
+) -> Skips
+    requires { ⌜ Indexed (now «old_rows») (now «new_rows») (now index) × Ascending (now «new_rows») ⌝ }
+    requires { ⌜ (n < 4096) × NoneNever some (now «new_rows») ⌝ }
+    ensures { λ r. ⌜ Skipped r (leaving (now («new_rows» .entry)) (newOf n .0)) ⌝ }
+{
+    if !some {
+        return Skips {
+            first: false,
+            second: false,
+        };
+    }
+    let part = rows_of(old_rows, new_rows, index, Place::New(new_of(n)));
+    Skips {
+        first: !can_be_taken(part, 0),
+        second: !can_be_taken(part, 1),
+    }
+}
+
+// Row r of pair n, if there is such a row and it can be taken, under the set v.
 fn row<'a>(
     heads: Heads,
     old_rows: &'a [u32],
@@ -177,9 +216,10 @@ fn row<'a>(
     n: usize,
     v: u64,
     r: usize,
+    skip: bool,
 )
     requires { ⌜ Prepared (compared heads (now «old_rows») (now «new_rows»)) (now index) ⌝ }
-    requires { ⌜ (n < 4096) × (r < 2) ⌝ }
+    requires { ⌜ (n < 4096) × (r < 2) × NeverIf skip (leaving (now «new_rows») (newOf n .0)) r ⌝ }
     requires { ⌜ Sized (buffers (now marks) (now targets) (now sets) (now waiting)) ⌝ }
     requires { ⌜ Tracks (now waits) (now seen) (buffers (now marks) (now targets) (now sets) (now waiting)) ⌝ }
     ensures { λ _. ⌜ Tracks (now (waits .exit)) (now (seen .exit))
@@ -189,7 +229,7 @@ fn row<'a>(
         (buffers (now (marks .entry)) (now (targets .entry)) (now (sets .entry)) (now (waiting .entry))) n v r ⌝ }
 {
     let part = rows_of(old_rows, new_rows, index, Place::New(new_of(n)));
-    if r < part.len() / 6 {
+    if (r < part.len() / 6) & !skip {
         let came = step(
             heads.old,
             heads.new,
@@ -217,6 +257,13 @@ fn row<'a>(
     }
 }
 
+// Whether its first or its second row is one.
+fn skip_of(skips: Skips, r: usize) -> bool
+    ensures { λ t. ⌜ ((rows : List ℕ) → Skipped skips rows → r < 2 → NeverIf t rows r) ⌝ }
+{
+    if r == 0 { skips.first } else { skips.second }
+}
+
 // The set of pair n: its own, or the one it had where it has left the graph.
 fn set_now(marks: &[u8], sets: &[u64], n: usize, v: u64) -> u64
     requires { ⌜ (n < length (now marks)) × (n < length (now sets)) ⌝ }
@@ -228,7 +275,7 @@ fn set_now(marks: &[u8], sets: &[u64], n: usize, v: u64) -> u64
     v
 }
 
-// Takes pair n up.
+// Takes pair n up. Which of its rows never hold was asked before: the compiler then has both rows in place.
 pub fn turn<'a>(
     heads: Heads,
     old_rows: &'a [u32],
@@ -241,9 +288,10 @@ pub fn turn<'a>(
     waits: &mut [u64],
     seen: &mut [u64],
     n: usize,
+    skips: Skips,
 )
     requires { ⌜ Prepared (compared heads (now «old_rows») (now «new_rows»)) (now index) ⌝ }
-    requires { ⌜ n < 4096 ⌝ }
+    requires { ⌜ (n < 4096) × Skipped skips (leaving (now «new_rows») (newOf n .0)) ⌝ }
     requires { ⌜ Sized (buffers (now marks) (now targets) (now sets) (now waiting)) ⌝ }
     requires { ⌜ Tracks (now waits) (now seen) (buffers (now marks) (now targets) (now sets) (now waiting)) ⌝ }
     ensures { λ _. ⌜ Tracks (now (waits .exit)) (now (seen .exit))
@@ -272,6 +320,7 @@ pub fn turn<'a>(
             n,
             v,
             r,
+            skip_of(skips, r),
         );
         r += 1;
     }
