@@ -1,6 +1,6 @@
 -- Demand 3, second half: the check passes what a build leaves. Assumes nothing.
 use mathlib.Core.Path.{_≡_, refl, sym, subst, _∙_}
-use mathlib.Core.Bool.{Bool, true, false, not}
+use mathlib.Core.Bool.{Bool, true, false}
 use mathlib.Core.Logic.{_≢_, _⊎_, inl, inr, ⊎-elim, dite}
 use mathlib.Core.List.{List}
 use mathlib.Core.Option.{Option, none}
@@ -14,7 +14,7 @@ use Rattle.base.proofs.Ones.{one-there, one-only}
 use Rattle.base.proofs.Says.{said}
 use Rattle.base.proofs.Tests.{T-true}
 use Rattle.base.proofs.Walks.{same-at}
-use Rattle.chart.specs.Charts.{size, operation}
+use Rattle.chart.specs.Charts.{operation, canBeTaken}
 use Rattle.chart.specs.Compared.{Compared, headsOf}
 use Rattle.chart.specs.Faultless.{FaultlessChart}
 use Rattle.chart.specs.Places.{keptNumber, oldOf, newOf}
@@ -43,8 +43,8 @@ module _ (X : Compared) (F : FaultlessChart (X .old)) (H : FaultlessChart (X .ne
   final : Final (explored X .marks) (finalTargets (explored X)) (firstPair X) marks
   final = leftFinal X F H joint
 
-  -- a target of a pair that is there, by a row that is there
-  module _ (i r : ℕ) (b : i < 4096) (p : mark left i ≢ 0) (c : r < 2) (a : r < size (rowsOf (X .new) i)) where
+  -- a target of a pair that is there, by a row that can be taken
+  module _ (i r : ℕ) (b : i < 4096) (p : mark left i ≢ 0) (c : r < 2) (a : canBeTaken (rowsOf (X .new) i) r ≡ true) where
     keeps-said : {t : ℕ} → Keeps X (explored X .marks) i r t → Says (keeps marks (leadsTo (X .new) i r) t)
     unfolding keeps
     keeps-said k = (k .0, node-two X F H joint i r b p c a k)

@@ -10,16 +10,23 @@ use Rattle.base.proofs.Tests.{T-true}
 use Rattle.base.proofs.Walks.{zeros-at, same-at}
 use Rattle.chart.specs.Places.{keptNumber}
 use Rattle.chart.specs.Compared.{Compared}
+use Rattle.chart.specs.Faultless.{FaultlessChart}
+use Rattle.chart.specs.Possible.{stripped}
+use Rattle.chart.proofs.Words.{Words}
 use Rattle.records.specs.Records.{Record, recordOf, mark, index}
 use Rattle.chart.proofs.Starts.{firstKept}
 use Rattle.paper.specs.Nodes.{SetOf, _isIn_, Pair, Node, aligned, indicator, Edge, onlyNode, number, nodeNumber, NodeNumbered}
 use Rattle.paper.specs.Algorithm2.{lone}
 use Rattle.paper.specs.Algorithm1.{Search}
-use Rattle.paper.specs.Returned.{Marked, Targeted, IsGraph, IsCondition}
+use Rattle.paper.specs.Returned.{seat, Marked, Targeted, IsGraph, IsCondition}
+use Rattle.paper.proofs.Seats.{at-pair, first-or-second}
 use Rattle.paper.proofs.Members.{in-first, only-node, the-node, number-below}
 use Rattle.paper.proofs.Searching.{within, first-found, node-below}
 
-module _ (X : Compared) where
+module _ (X : Compared) (H : FaultlessChart (X .new)) (wn : Words (X .new .table)) where
+  abbrev Y : Compared
+  Y = stripped X
+
   abbrev pub single : Record
   single = recordOf (firstKept X) (set (replicate 4160 0) (firstKept X) 2) (replicate 8192 65535) (replicate 4096 0)
 
@@ -40,10 +47,12 @@ module _ (X : Compared) where
   is-first : (x : Node) → NodeNumbered x → mark (single .graph) (nodeNumber x) ≢ 0 → x isIn onlyNode first
   is-first x B e = subst (λ (y : Node). y isIn onlyNode first) (sym (single-node x B e)) (the-node first)
 
-  no-target : (e : Edge) → Targeted single e → ⊥
-  no-target e t = omega (arith, t .is, same-at 8192 65535 (index (number (e .pred)) (e .row)) (omega (arith, t .two, number-below (e .pred) (t .pred))), node-below (e .succ) (t .succ))
+  no-target : (e : Edge) → Targeted (X .new) single e → ⊥
+  no-target e t =
+      let c = first-or-second X H wn (at-pair X (e .pred) (t .pred) (e .row) (t .there)) in
+      omega (arith, t .is, same-at 8192 65535 (index (number (e .pred)) (seat (X .new) (e .pred .new) (e .row))) (omega (arith, c, number-below (e .pred) (t .pred))), node-below (e .succ) (t .succ))
 
-  pub lone-graph : (S : Pair → ℕ) → IsGraph single (lone X) S
+  pub lone-graph : (S : Pair → ℕ) → IsGraph (X .new) single (lone Y) S
   unfolding onlyNode
   lone-graph S =
       record {
@@ -51,26 +60,26 @@ module _ (X : Compared) where
         nodes = λ x. (first-so (λ m. m ≢ 0) (λ e. omega arith) x, λ M. is-first x (M .0) (M .1));
         kept = λ x. (first-so (λ m. m ≡ 2) refl x, λ M. is-first x (M .0) (λ e. omega (arith, M .1)));
         edges = λ e. (λ b. absurd b, λ t. no-target e t);
-        aims = λ i r l c. inl (same-at 8192 65535 (index i r) (omega arith));
+        aims = λ i k l c. inl (same-at 8192 65535 (index i k) (omega arith));
         sets = λ n e. absurd (T-true e);
         bare = λ n B e. zeros-at 4096 (number n);
       }
 
-  module _ {Q waits : SetOf Node} (search : Search (lone X) Q waits) where
+  module _ {Q waits : SetOf Node} (search : Search (lone Y) Q waits) where
     Q-kept : (x : Node) → x isIn Q → Marked single (λ m. (m ≡ 1) ⊎ (m ≡ 2)) x
     Q-kept =
-        within (lone X) (Marked single (λ m. (m ≡ 1) ⊎ (m ≡ 2))) (first-so (λ m. (m ≡ 1) ⊎ (m ≡ 2)) (inr refl) first (the-node first)) (first-so (λ m. (m ≡ 1) ⊎ (m ≡ 2)) (inr refl))
+        within (lone Y) (Marked single (λ m. (m ≡ 1) ⊎ (m ≡ 2))) (first-so (λ m. (m ≡ 1) ⊎ (m ≡ 2)) (inr refl) first (the-node first)) (first-so (λ m. (m ≡ 1) ⊎ (m ≡ 2)) (inr refl))
         (λ p x o D. absurd (D .edge)) search .1
 
     kept-Q : (x : Node) → Marked single (λ m. (m ≡ 1) ⊎ (m ≡ 2)) x → x isIn Q
-    kept-Q x M = first-found (lone X) search x (in-first (onlyNode first x) (onlyNode first x) (is-first x (M .0) (λ e. ⊎-elim (λ a. omega arith) (λ a. omega arith) (M .1))))
+    kept-Q x M = first-found (lone Y) search x (in-first (onlyNode first x) (onlyNode first x) (is-first x (M .0) (λ e. ⊎-elim (λ a. omega arith) (λ a. omega arith) (M .1))))
 
     not-covered : (x : Node) → Marked single (λ m. m ≡ 3) x → ⊥
     not-covered x M =
         let z = first-so (λ m. m ≡ 2) refl x (is-first x (M .0) (λ e. omega (arith, M .1))) in
         omega (arith, M .1, z .1)
 
-    pub lone-condition : IsCondition single (lone X) Q
+    pub lone-condition : IsCondition (X .new) single (lone Y) Q
     lone-condition =
         record {
           highest = λ k l.
@@ -79,5 +88,5 @@ module _ (X : Compared) where
           open-or-kept = λ x. (Q-kept x, kept-Q x);
           covered = λ x. (λ f. absurd (f .edge .edge), λ M. absurd (not-covered x M));
           transitions = λ e. (λ t. absurd (t .edge), λ t. absurd (no-target e (t .0)));
-          each = λ i r l c o u. absurd (let z = one-only 4160 (firstKept X) 2 i (omega (arith, o)) in omega arith);
+          each = λ i k l c o u. absurd (let z = one-only 4160 (firstKept X) 2 i (omega (arith, o)) in omega arith);
         }

@@ -12,6 +12,7 @@ use Rattle.chart.specs.Places.{keptNumber, newOf}
 use Rattle.chart.specs.Compared.{Compared, headsOf}
 use Rattle.chart.proofs.Words.{Words}
 use Rattle.chart.specs.Faultless.{FaultlessChart}
+use Rattle.chart.specs.Possible.{stripped}
 use Rattle.records.specs.Records.{mark, target}
 use Rattle.chart.proofs.Starts.{firstPair}
 use Rattle.detector.specs.Turns.{explored}
@@ -25,18 +26,19 @@ use Rattle.condition.proofs.Right.{open-closed, open-least, covered-only, cover
 use Rattle.paper.specs.Nodes.{SetOf, _isIn_, _isNotIn_, Pair, Node, aligned, indicator, Edge, edge, onlyNode, number, nodeNumber, pairOf, Numbered, NodeNumbered}
 use Rattle.paper.specs.Algorithm2.{State, DifferenceGraph, nodes, indicators, whole}
 use Rattle.paper.specs.Algorithm1.{Search, F, Transition}
-use Rattle.paper.specs.Returned.{Marked, Targeted, IsGraph, IsCondition}
+use Rattle.paper.specs.Returned.{seat, Marked, Targeted, Aimed, IsGraph, IsCondition}
 use Rattle.paper.proofs.Members.{in-first, in-second, not-in, in-or-not, the-node, pair-is, number-is, number-below, numbered}
-use Rattle.paper.proofs.Searching.{within, first-found, closed}
+use Rattle.paper.proofs.Searching.{within, first-found, closed, node-below, same-node}
+use Rattle.paper.proofs.Seats.{at-pair, first-or-second}
 use Rattle.paper.proofs.Rows.{Reads}
 use Rattle.paper.proofs.Returning.{built-graph, left-mark, mark-most, whole-graph}
 
 module _ (X : Compared) (F′ : FaultlessChart (X .old)) (H : FaultlessChart (X .new)) (wn : Words (X .new .table)) (last : State) (reads : Reads X last (explored X))
     (joint : alone (headsOf X) (explored X .marks) ≡ false) where
   abbrev G : DifferenceGraph
-  G = whole X last
+  G = whole (stripped X) last
 
-  abbrev W : IsGraph (built-graph X F′ H wn last reads joint) G (last .Vδ)
+  abbrev W : IsGraph (X .new) (built-graph X F′ H wn last reads joint) G (last .Vδ)
   W = whole-graph X F′ H wn last reads joint
 
   abbrev m : ℕ → ℕ
@@ -44,6 +46,10 @@ module _ (X : Compared) (F′ : FaultlessChart (X .old)) (H : FaultlessChart (X 
 
   abbrev to : ℕ → ℕ → ℕ
   to i r = target (left X F′ H joint) i r
+
+  -- a target by a row that is left is one of two
+  two : {e : Edge} → Targeted (X .new) (built-graph X F′ H wn last reads joint) e → seat (X .new) (e .pred .new) (e .row) < 2
+  two {e} t = first-or-second X H wn (at-pair X (e .pred) (t .pred) (e .row) (t .there))
 
   Open : Node → Type 0
   Open x = Marked (built-graph X F′ H wn last reads joint) (λ k. (k ≡ 1) ⊎ (k ≡ 2)) x
@@ -62,13 +68,16 @@ module _ (X : Compared) (F′ : FaultlessChart (X .old)) (H : FaultlessChart (X 
     Q-open =
         within G Open (numbered 0 (omega arith), inl (final X F′ H joint .start)) (λ x e. let k = W .kept x .0 e in (k .0, inr (k .1)))
         (λ p x o D. let t = W .edges (edge (D .pair) (D .row) x) .0 (D .edge) in
-        let z = open-closed X F′ H joint (number (D .pair)) (D .row) (number-below (D .pair) (t .pred)) (W .nodes (aligned (D .pair)) .0 (D .edge .from) .1) (t .two)
+        let z = open-closed X F′ H joint (number (D .pair)) (seat (X .new) (D .pair .new) (D .row)) (number-below (D .pair) (t .pred)) (W .nodes (aligned (D .pair)) .0 (D .edge .from) .1) (two t)
         (subst (λ (k : ℕ). (m k ≡ 1) ⊎ (m k ≡ 2)) (sym (t .is)) (o .1)) in
         subst Open (sym (D .is)) (t .pred, inl z)) search .1
 
     -- an edge of the graph by pair and target
-    led : (i r : ℕ) → i < 4096 → r < 2 → (x : Node) → NodeNumbered x → to i r ≡ nodeNumber x → G .E (edge (pairOf i) r x)
-    led i r l c x B e = W .edges (edge (pairOf i) r x) .1 (record { pred = numbered i l; two = c; succ = B; is = ap (λ (j : ℕ). to j r) (number-is i) ∙ e })
+    led : (i k : ℕ) → i < 4096 → k < 2 → (x : Node) → NodeNumbered x → to i k ≡ nodeNumber x → (r : ℕ) × G .E (edge (pairOf i) r x)
+    led i k l c x B e =
+        ⊎-elim (λ u. absurd (omega (arith, node-below x B)))
+        (λ A. let z : A .node ≡ x = same-node (A .node) x (W .nodes (A .node) .0 (A .edge .to) .0) B (A .is ∙ e) in
+        (A .row, subst (λ (y : Node). G .E (edge (pairOf i) (A .row) y)) z (A .edge))) (W .aims i k l c)
 
     kept-Q : (x : Node) → NodeNumbered x → m (nodeNumber x) ≡ 2 → x isIn Q
     kept-Q x B e = first-found G search x (in-second (onlyNode (G .n₀) x) (G .Δ x) (W .kept x .1 (B, e)))
@@ -78,16 +87,16 @@ module _ (X : Compared) (F′ : FaultlessChart (X .old)) (H : FaultlessChart (X 
 
     found-closed : Closed (explored X .marks) (finalTargets (explored X)) (explored-inv X F′ H .shaped .sized .marks) Found
     unfolding Found
-    found-closed i r l p c e = (l, ⊎-elim (λ f. by (aligned (pairOf (to i r))) (numbered (to i r) (f .0)) (sym (number-is (to i r))) (f .1)) (λ f. up (f .0) (f .1)) e)
+    found-closed i k l p c e = (l, ⊎-elim (λ f. by (aligned (pairOf (to i k))) (numbered (to i k) (f .0)) (sym (number-is (to i k))) (f .1)) (λ f. up (f .0) (f .1)) e)
       where
-        by : (x : Node) → NodeNumbered x → to i r ≡ nodeNumber x → x isIn Q → aligned (pairOf i) isIn Q
-        by x B z q = closed G search (aligned (pairOf i)) x q (emptied x) (record { pair = pairOf i; row = r; is = refl; edge = led i r l c x B z })
+        by : (x : Node) → NodeNumbered x → to i k ≡ nodeNumber x → x isIn Q → aligned (pairOf i) isIn Q
+        by x B z q = let (r, E) = led i k l c x B z in closed G search (aligned (pairOf i)) x q (emptied x) (record { pair = pairOf i; row = r; is = refl; edge = E })
 
-        up : 4096 ≤ to i r → 0 < markAt (explored X) (to i r) → aligned (pairOf i) isIn Q
+        up : 4096 ≤ to i k → 0 < markAt (explored X) (to i k) → aligned (pairOf i) isIn Q
         up a b =
-            let d : to i r < 4160 = dite (decLt (to i r) 4160) (λ z. z) (λ z. absurd (omega (arith, List·getD-eq-default (explored X .marks) 0 {n = to i r} (omega (arith, explored-inv X F′ H .shaped .sized .marks))))) in
-            let z : to i r ≡ keptNumber (newOf (to i r)) = omega arith in
-            by (indicator (newOf (to i r))) (omega arith) z (kept-Q (indicator (newOf (to i r))) (omega arith) (subst (λ (k : ℕ). m k ≡ 2) z (final X F′ H joint .ranks .node (to i r) a d b)))
+            let d : to i k < 4160 = dite (decLt (to i k) 4160) (λ z. z) (λ z. absurd (omega (arith, List·getD-eq-default (explored X .marks) 0 {n = to i k} (omega (arith, explored-inv X F′ H .shaped .sized .marks))))) in
+            let z : to i k ≡ keptNumber (newOf (to i k)) = omega arith in
+            by (indicator (newOf (to i k))) (omega arith) z (kept-Q (indicator (newOf (to i k))) (omega arith) (subst (λ (j : ℕ). m j ≡ 2) z (final X F′ H joint .ranks .node (to i k) a d b)))
 
     found-first : Found (firstPair X)
     unfolding Found
@@ -125,7 +134,7 @@ module _ (X : Compared) (F′ : FaultlessChart (X .old)) (H : FaultlessChart (X 
         (λ z. let k = left-mark X F′ H wn last reads joint (nodeNumber x) (there .1) in absurd (o .1 (final X F′ H joint .ranks .node (nodeNumber x) (omega arith) (k .0) (k .1)))) in (
           there .0,
           subst (λ (k : ℕ). m k ≡ 3) (t .is)
-              (covered-all X F′ H joint (number (D .pair)) (D .row) (number-below (D .pair) (t .pred)) (pair-one (D .pair) (subst (λ (y : Node). y isIn Q) (D .is) (f .«open»))) (t .two) (omega (arith, t .is))
+              (covered-all X F′ H joint (number (D .pair)) (seat (X .new) (D .pair .new) (D .row)) (number-below (D .pair) (t .pred)) (pair-one (D .pair) (subst (λ (y : Node). y isIn Q) (D .is) (f .«open»))) (two t) (omega (arith, t .is))
               (subst (λ (k : ℕ). m k ≢ 0) (sym (t .is)) (there .1)) (subst (λ (k : ℕ). m k ≢ 1) (sym (t .is)) (o .0))),
         )
 
@@ -134,15 +143,16 @@ module _ (X : Compared) (F′ : FaultlessChart (X .old)) (H : FaultlessChart (X 
     covered-F x M =
         let T = covered-only X F′ H joint (nodeNumber x) (M .1) in
         let l = rank-pair (explored X .marks) (marks X F′ H joint) (final X F′ H joint .ranks) (T .pair) (omega (arith, T .«open»)) (λ k. omega (arith, T .«open»)) in
+        let (r, E) = led (T .pair) (T .row) l (T .two) x (M .0) (T .is) in
         record {
           pred = aligned (pairOf (T .pair));
-          edge = record { pair = pairOf (T .pair); row = T .row; is = refl; edge = led (T .pair) (T .row) l (T .two) x (M .0) (T .is) };
+          edge = record { pair = pairOf (T .pair); row = r; is = refl; edge = E };
           «open» = open-Q (aligned (pairOf (T .pair))) (numbered (T .pair) l, inl (ap m (number-is (T .pair)) ∙ T .«open»));
           outside = ⊎-elim (λ h. absurd (let o = Q-open x h in ⊎-elim (λ e. omega (arith, M .1)) (λ e. omega (arith, M .1)) (o .1))) (λ h. h) (in-or-not (Q x));
         }
 
     -- ---- line 7
-    transition : (e : Edge) → Targeted (built-graph X F′ H wn last reads joint) e → m (number (e .pred)) ≡ 1 → Transition G Q e
+    transition : (e : Edge) → Targeted (X .new) (built-graph X F′ H wn last reads joint) e → m (number (e .pred)) ≡ 1 → Transition G Q e
     unfolding Open
     transition e t o =
         let f = W .edges e .1 t in
@@ -153,13 +163,14 @@ module _ (X : Compared) (F′ : FaultlessChart (X .old)) (H : FaultlessChart (X 
           to = ⊎-elim (λ h. inl h) (λ h. inr (record { pred = aligned (e .pred); edge = record { pair = e .pred; row = e .row; is = refl; edge = f }; «open» = q; outside = h })) (in-or-not (Q (e .succ)));
         }
 
-    each : (i r : ℕ) → i < 4096 → r < 2 → m i ≡ 1 → to i r ≢ 65535 → (x : Node) × (nodeNumber x ≡ to i r) × Transition G Q (edge (pairOf i) r x)
-    each i r l c o u =
+    each : (i k : ℕ) → i < 4096 → k < 2 → m i ≡ 1 → to i k ≢ 65535
+        → (A : Aimed (X .new) (built-graph X F′ H wn last reads joint) G i k) × Transition G Q (edge (pairOf i) (A .row) (A .node))
+    each i k l c o u =
         ⊎-elim (λ d. absurd (u d))
-        (λ A. (A .0, A .1, transition (edge (pairOf i) r (A .0)) (W .edges (edge (pairOf i) r (A .0)) .0 (A .2)) (ap m (number-is i) ∙ o)))
-        (W .aims i r l c)
+        (λ A. let e = edge (pairOf i) (A .row) (A .node) in (A, transition e (W .edges e .0 (A .edge)) (ap m (number-is i) ∙ o)))
+        (W .aims i k l c)
 
-    pub whole-condition : IsCondition (built-graph X F′ H wn last reads joint) G Q
+    pub whole-condition : IsCondition (X .new) (built-graph X F′ H wn last reads joint) G Q
     unfolding Open
     whole-condition =
         record {

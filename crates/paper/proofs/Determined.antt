@@ -1,6 +1,6 @@
 -- The source's words fix every byte of a record: for faultless charts of u32 entries there is one record of the stated
 -- lengths that Algorithms 2 and 1 return, the build's. Nothing need be known of its entries. Assumes nothing.
-use mathlib.Core.Path.{_≡_, refl, sym, ap, subst, _∙_}
+use mathlib.Core.Path.{_≡_, refl, sym, ap₂, subst, _∙_}
 use mathlib.Core.Logic.{inl, ⊎-elim, dite}
 use Prim.Native.Nat.{ℕ, zero, suc, _/_, _%_, _≤_, _<_}
 use native.Mathlib.Omega.{arith}
@@ -8,13 +8,14 @@ use native.Mathlib.Decide.{ℕ-discrete, decLt}
 use lib.ListN.{getD}
 use lib.Seq.{ext-getD}
 use Rattle.chart.proofs.Words.{Words}
+use Rattle.chart.specs.Charts.{Chart}
 use Rattle.chart.specs.Compared.{Compared}
 use Rattle.chart.specs.Faultless.{FaultlessChart}
 use Rattle.records.specs.Records.{Record, recordOf, mark, setAt, target, index}
 use Rattle.condition.specs.Builds.{recorded}
 use Rattle.paper.specs.Nodes.{SetOf, Pair, Node, aligned, edge, nodeNumber, pairOf, NodeNumbered}
 use Rattle.paper.specs.Algorithm2.{DifferenceGraph}
-use Rattle.paper.specs.Returned.{IsGraph, IsCondition, Returned}
+use Rattle.paper.specs.Returned.{Aimed, IsGraph, IsCondition, Returned}
 use Rattle.paper.proofs.Lengths.{Lengths}
 use Rattle.paper.proofs.Members.{in-or-not, number-is, numbered}
 use Rattle.paper.proofs.Searching.{nodeOf, nodeOf-numbered}
@@ -22,9 +23,9 @@ use Rattle.paper.proofs.Rounds.{ended-read}
 use Rattle.paper.proofs.Theorem.{read-ends}
 
 -- ---- two records of one graph and one condition
-module _ (G : DifferenceGraph) (Vδ : Pair → ℕ) (Q : SetOf Node) where
+module _ (new : Chart) (G : DifferenceGraph) (Vδ : Pair → ℕ) (Q : SetOf Node) where
   -- a mark below 4 in one is the mark in the other
-  same-below : (R S : Record) → IsGraph R G Vδ → IsGraph S G Vδ → IsCondition R G Q → IsCondition S G Q → (x : Node) → NodeNumbered x
+  same-below : (R S : Record) → IsGraph new R G Vδ → IsGraph new S G Vδ → IsCondition new R G Q → IsCondition new S G Q → (x : Node) → NodeNumbered x
       → (k : ℕ) → k < 4 → mark (R .graph) (nodeNumber x) ≡ k → mark (S .graph) (nodeNumber x) ≡ k
   same-below R S g h c d x B zero l e = dite (ℕ-discrete (mark (S .graph) (nodeNumber x)) 0) (λ z. z) (λ z. absurd (g .nodes x .0 (h .nodes x .1 (B, z)) .1 e))
   same-below R S g h c d x B (suc zero) l e =
@@ -33,7 +34,7 @@ module _ (G : DifferenceGraph) (Vδ : Pair → ℕ) (Q : SetOf Node) where
   same-below R S g h c d x B (suc (suc (suc zero))) l e = d .covered x .0 (c .covered x .1 (B, e)) .1
   same-below R S g h c d x B (suc (suc (suc (suc k)))) l e = absurd (omega arith)
 
-  module _ (R S : Record) (g : IsGraph R G Vδ) (h : IsGraph S G Vδ) (c : IsCondition R G Q) (d : IsCondition S G Q) where
+  module _ (R S : Record) (g : IsGraph new R G Vδ) (h : IsGraph new S G Vδ) (c : IsCondition new R G Q) (d : IsCondition new S G Q) where
     same-mark : (k : ℕ) → k < 4160 → mark (R .graph) k ≡ mark (S .graph) k
     same-mark k l =
         let (B, z) = nodeOf-numbered k l in
@@ -46,8 +47,9 @@ module _ (G : DifferenceGraph) (Vδ : Pair → ℕ) (Q : SetOf Node) where
             (λ m. dite (decLt (mark (S .graph) (nodeNumber x)) 4) (λ n. same-below S R h g d c x B (mark (S .graph) (nodeNumber x)) n refl) (λ n. omega arith))
 
     -- an edge is the target of both
-    of-edge : (i r : ℕ) (x : Node) → nodeNumber x ≡ target (R .graph) i r → G .E (edge (pairOf i) r x) → target (S .graph) i r ≡ target (R .graph) i r
-    of-edge i r x z e = ap (λ (j : ℕ). target (S .graph) j r) (sym (number-is i)) ∙ h .edges (edge (pairOf i) r x) .0 e .is ∙ z
+    of-edge : (i k : ℕ) → Aimed new R G i k → target (S .graph) i k ≡ target (R .graph) i k
+    of-edge i k A =
+        ap₂ (target (S .graph)) (sym (number-is i)) (sym (A .seated)) ∙ h .edges (edge (pairOf i) (A .row) (A .node)) .0 (A .edge) .is ∙ A .is
 
     same-set : (i : ℕ) → i < 4096 → setAt (R .graph) i ≡ setAt (S .graph) i
     same-set i l =
@@ -55,12 +57,12 @@ module _ (G : DifferenceGraph) (Vδ : Pair → ℕ) (Q : SetOf Node) where
         (⊎-elim (λ e. g .sets (pairOf i) e ∙ sym (h .sets (pairOf i) e)) (λ e. g .bare (pairOf i) (numbered i l) e ∙ sym (h .bare (pairOf i) (numbered i l) e))
         (in-or-not (G .N (aligned (pairOf i)))))
 
-  module _ (R S : Record) (g : IsGraph R G Vδ) (h : IsGraph S G Vδ) (c : IsCondition R G Q) (d : IsCondition S G Q) where
-    same-target : (i r : ℕ) → i < 4096 → r < 2 → target (R .graph) i r ≡ target (S .graph) i r
-    same-target i r l b =
+  module _ (R S : Record) (g : IsGraph new R G Vδ) (h : IsGraph new S G Vδ) (c : IsCondition new R G Q) (d : IsCondition new S G Q) where
+    same-target : (i k : ℕ) → i < 4096 → k < 2 → target (R .graph) i k ≡ target (S .graph) i k
+    same-target i k l b =
         ⊎-elim
-        (λ e. ⊎-elim (λ f. e ∙ sym f) (λ A. of-edge S R h g d c i r (A .0) (A .1) (A .2)) (h .aims i r l b))
-        (λ A. sym (of-edge R S g h c d i r (A .0) (A .1) (A .2))) (g .aims i r l b)
+        (λ e. ⊎-elim (λ f. e ∙ sym f) (λ A. of-edge S R h g d c i k A) (h .aims i k l b))
+        (λ A. sym (of-edge R S g h c d i k A)) (g .aims i k l b)
 
     same-record : Lengths R → Lengths S → R ≡ S
     same-record L M =
@@ -79,7 +81,7 @@ module _ (X : Compared) (F : FaultlessChart (X .old)) (H : FaultlessChart (X .ne
   pub returned-is-recorded : (R : Record) → Lengths R → Returned X R → R ≡ recorded X
   returned-is-recorded R L A =
       let E = read-ends X F H wn (A .state) (ended-read X F H wo wn (A .ran) (A .ended)) in
-      same-record _ (A .state .Vδ) (A .Q) R (recorded X) (A .graph) (E .graph) (A .condition (A .searched) (A .emptied)) (E .condition (A .searched) (A .emptied))
+      same-record (X .new) _ (A .state .Vδ) (A .Q) R (recorded X) (A .graph) (E .graph) (A .condition (A .searched) (A .emptied)) (E .condition (A .searched) (A .emptied))
       L (E .lengths)
 
   -- two records that they return are the same

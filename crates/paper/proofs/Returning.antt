@@ -14,11 +14,11 @@ use Rattle.base.proofs.Tests.{T-true, or-false}
 use Rattle.chart.specs.declared.places.NewPlace.{NewPlace}
 use Rattle.chart.specs.declared.places.OldPlace.{OldPlace}
 use Rattle.chart.specs.Places.{keptNumber, newOf}
-use Rattle.chart.specs.Charts.{size}
+use Rattle.chart.specs.Charts.{size, canBeTaken}
 use Rattle.chart.specs.Compared.{Compared, headsOf}
 use Rattle.chart.proofs.Words.{Words}
 use Rattle.chart.specs.Faultless.{FaultlessChart}
-use Rattle.chart.proofs.Parts.{two-at-most}
+use Rattle.chart.specs.Possible.{stripped}
 use Rattle.records.specs.Records.{Record, recordOf, mark, target, index}
 use Rattle.graph.specs.Buffers.{marked}
 use Rattle.chart.proofs.Starts.{firstPair, firstKept}
@@ -29,10 +29,11 @@ use Rattle.detector.proofs.Invariant.{Inv, Every, ToKept, ToPair, explored-inv}
 use Rattle.marker.proofs.Marks.{rank-there}
 use Rattle.condition.proofs.Left.{marks, left, final}
 use Rattle.paper.specs.Nodes.{_isIn_, _isNotIn_, Pair, pair, Node, aligned, indicator, Edge, edge, number, nodeNumber, pairOf, Numbered, NodeNumbered}
-use Rattle.paper.specs.Algorithm2.{State, nodes, indicators, Replaced, Line20, whole}
-use Rattle.paper.specs.Returned.{Marked, Targeted, Aimed, IsGraph}
-use Rattle.paper.proofs.Members.{not-in, pair-is, number-is, number-below, numbered}
+use Rattle.paper.specs.Algorithm2.{State, edges, nodes, indicators, Replaced, Line20, whole}
+use Rattle.paper.specs.Returned.{seat, Marked, Targeted, Aimed, IsGraph}
+use Rattle.paper.proofs.Members.{not-in, pair-is, number-below}
 use Rattle.paper.proofs.Edges as reading
+use Rattle.paper.proofs.Seats.{seated, at-pair, one-row, first-or-second}
 use Rattle.paper.proofs.Rows.{Reads}
 use Rattle.paper.proofs.Searching.{node-below, nodeOf, nodeOf-numbered}
 
@@ -57,6 +58,9 @@ redirection m t = go (ltb t 4096) refl (marked m (keptNumber (newOf t))) refl
 
 -- any state that is read in what the build explores, as the end of a run is
 module _ (X : Compared) (F : FaultlessChart (X .old)) (H : FaultlessChart (X .new)) (wn : Words (X .new .table)) (last : State) (reads : Reads X last (explored X)) where
+  abbrev Y : Compared
+  Y = stripped X
+
   abbrev I : Inv X Every (explored X)
   I = explored-inv X F H
 
@@ -111,27 +115,27 @@ module _ (X : Compared) (F : FaultlessChart (X .old)) (H : FaultlessChart (X .ne
       below : targetAt (explored X) i r < 4096
       there : 0 < markAt (explored X) (targetAt (explored X) i r)
 
-    module _ (i r : ℕ) (l : i < 4096) (p : 0 < markAt (explored X) i) (c : r < 2) (a : r < size (rowsOf (X .new) i)) where
-      goes : (targetAt (explored X) i r ≡ 65535 → ⊥) → GoesKept i r ⊎ GoesPair i r
-      goes u = go (I .led i r l p c a) (redirection (explored X .marks) (targetAt (explored X) i r))
+    module _ (i k : ℕ) (l : i < 4096) (p : 0 < markAt (explored X) i) (c : k < 2) (a : canBeTaken (rowsOf (X .new) i) k ≡ true) where
+      goes : (targetAt (explored X) i k ≡ 65535 → ⊥) → GoesKept i k ⊎ GoesPair i k
+      goes u = go (I .led i k l p c a) (redirection (explored X .marks) (targetAt (explored X) i k))
         where
           t : ℕ
-          t = targetAt (explored X) i r
+          t = targetAt (explored X) i k
 
-          same : t % 64 ≡ leadsTo (X .new) i r .0 → keptNumber (newOf t) ≡ keptNumber (leadsTo (X .new) i r)
+          same : t % 64 ≡ leadsTo (X .new) i k .0 → keptNumber (newOf t) ≡ keptNumber (leadsTo (X .new) i k)
           same e = omega arith
 
-          go : (t ≡ 65535) ⊎ (ToKept X (explored X .marks) i r t ⊎ ToPair X (explored X .marks) i r t) → Turned (explored X .marks) t ⊎ Stays (explored X .marks) t → GoesKept i r ⊎ GoesPair i r
+          go : (t ≡ 65535) ⊎ (ToKept X (explored X .marks) i k t ⊎ ToPair X (explored X .marks) i k t) → Turned (explored X .marks) t ⊎ Stays (explored X .marks) t → GoesKept i k ⊎ GoesPair i k
           go (inl e) d = absurd (u e)
-          go (inr (inl K)) (inl T) = ⊎-elim (λ e. absurd (omega (arith, T .below))) (λ e. inl (record { kept = K .kept; is = target-now i r ∙ T .is ∙ same (e .1) })) (K .leads)
+          go (inr (inl K)) (inl T) = ⊎-elim (λ e. absurd (omega (arith, T .below))) (λ e. inl (record { kept = K .kept; is = target-now i k ∙ T .is ∙ same (e .1) })) (K .leads)
           go (inr (inl K)) (inr S) =
-              ⊎-elim (λ e. inl (record { kept = K .kept; is = target-now i r ∙ S .is ∙ e })) (λ e. absurd (omega (arith, subst (λ (k : ℕ). getD (explored X .marks) k 0 ≡ 0) (same (e .1)) (S .free (e .0)), K .kept))) (K .leads)
+              ⊎-elim (λ e. inl (record { kept = K .kept; is = target-now i k ∙ S .is ∙ e })) (λ e. absurd (omega (arith, subst (λ (j : ℕ). getD (explored X .marks) j 0 ≡ 0) (same (e .1)) (S .free (e .0)), K .kept))) (K .leads)
           go (inr (inr P)) (inl T) = absurd (omega (arith, T .kept, I .apart t (P .below) (P .there)))
           go (inr (inr P)) (inr S) =
               inr
               (record {
-                not-kept = subst (λ (k : ℕ). markAt (explored X) k ≡ 0) (same (P .place)) (I .apart t (P .below) (P .there));
-                is = target-now i r ∙ S .is;
+                not-kept = subst (λ (j : ℕ). markAt (explored X) j ≡ 0) (same (P .place)) (I .apart t (P .below) (P .there));
+                is = target-now i k ∙ S .is;
                 below = P .below;
                 there = P .there;
               })
@@ -145,122 +149,157 @@ module _ (X : Compared) (F : FaultlessChart (X .old)) (H : FaultlessChart (X .ne
       sound : reading.Sound X (last .Δ) (edge (pairOf i) r y)
       sound = reads .edges .sound (edge (pairOf i) r y) h
 
-      two : r < 2
-      two = omega (arith, sound .row, two-at-most (X .new) H (wn .small) (i % 64))
+      abbrev k : ℕ
+      k = seat (X .new) (newOf i) r
 
-      used : targetAt (explored X) i r ≡ 65535 → ⊥
-      used e = not-in h (reads .edges .unused i r l two (free i l p) e y)
+      at : reading.At X i r k
+      at = record { row = sound .row; seated = refl }
 
-      leads : GoesKept i r ⊎ GoesPair i r
-      leads = goes i r l p two (sound .row) used
+      two : k < 2
+      two = first-or-second X H wn at
+
+      used : targetAt (explored X) i k ≡ 65535 → ⊥
+      used e = not-in h (reads .edges .unused i r k l two at (free i l p) e y)
+
+      leads : GoesKept i k ⊎ GoesPair i k
+      leads = goes i k l p two (seated X at .can) used
+
+      leads-to : leadsTo (X .new) i k .0 ≡ leadsTo (Y .new) i r .0
+      leads-to = sym (seated X at .same .to-same)
 
       -- to a place of Δ
-      kept-target : (q : NewPlace) → q .0 ≡ leadsTo (X .new) i r .0 → q isIn last .Δ → target (left X F H joint) i r ≡ keptNumber q
-      kept-target q e k =
-          let z : keptNumber (leadsTo (X .new) i r) ≡ keptNumber q = omega arith in
-          ⊎-elim (λ K. K .is ∙ z) (λ P. absurd (omega (arith, Δ-in q k .1, rw z at (P .not-kept)))) leads
+      kept-target : (q : NewPlace) → q .0 ≡ leadsTo (Y .new) i r .0 → q isIn last .Δ → target (left X F H joint) i k ≡ keptNumber q
+      kept-target q e m =
+          let z : keptNumber (leadsTo (X .new) i k) ≡ keptNumber q = omega (arith, leads-to) in
+          ⊎-elim (λ K. K .is ∙ z) (λ P. absurd (omega (arith, Δ-in q m .1, rw z at (P .not-kept)))) leads
 
     -- to a pair
-    pair-target : (i r : ℕ) → i < 4096 → 0 < markAt (explored X) i → (m : Pair) → m isIn last .Nₗ → edge (pairOf i) r (aligned m) isIn last .Eₗ → target (left X F H joint) i r ≡ number m
+    pair-target : (i r : ℕ) → i < 4096 → 0 < markAt (explored X) i → (m : Pair) → m isIn last .Nₗ → edge (pairOf i) r (aligned m) isIn last .Eₗ
+        → target (left X F H joint) i (seat (X .new) (newOf i) r) ≡ number m
     pair-target i r l p m v h =
         let S = sound i r l p (aligned m) h in
         let M = N-in m v in
-        let z : keptNumber (newOf (number m)) ≡ keptNumber (leadsTo (X .new) i r) = omega (arith, S .onto .0, M .0 .new) in
-        ⊎-elim (λ K. absurd (omega (arith, K .kept, subst (λ (k : ℕ). markAt (explored X) k ≡ 0) z (I .apart (number m) (number-below m (M .0)) (M .1)))))
-        (λ P. P .is ∙ same P S (reads .edges .aims i r l (two i r l p (aligned m) h) (free i l p) (used i r l p (aligned m) h))) (leads i r l p (aligned m) h)
+        let c = seat (X .new) (newOf i) r in
+        let z : keptNumber (newOf (number m)) ≡ keptNumber (leadsTo (X .new) i c) = omega (arith, S .onto .0, M .0 .new, leads-to i r l p (aligned m) h) in
+        ⊎-elim (λ K. absurd (omega (arith, K .kept, subst (λ (j : ℕ). markAt (explored X) j ≡ 0) z (I .apart (number m) (number-below m (M .0)) (M .1)))))
+        (λ P. P .is ∙ same P S (reads .edges .aims i c l (two i r l p (aligned m) h) (free i l p) (used i r l p (aligned m) h))) (leads i r l p (aligned m) h)
       where
-        same : GoesPair i r → reading.Sound X (last .Δ) (edge (pairOf i) r (aligned m)) → reading.Aims X (last .Eₗ) i r (targetAt (explored X) i r) → targetAt (explored X) i r ≡ number m
-        same P S (inl K) = absurd (omega (arith, K .is, P .below))
-        same P S (inr T) =
-            let U = reads .edges .sound (edge (pairOf i) r (aligned (pairOf (targetAt (explored X) i r)))) (T .edge) in
-            let o = ap (λ (x : OldPlace). x .0) (U .onto .1 ∙ sym (S .onto .1)) in
-            omega (arith, o, U .onto .0, S .onto .0)
+        -- the edge that is the target's is by the same row
+        Same : ℕ → Type 0
+        Same c = (r′ : ℕ) × reading.At X i r′ c × reading.Aims X (last .Eₗ) i r′ (targetAt (explored X) i c)
 
-    -- the target of pair i by row r is the node x
+        same : GoesPair i (seat (X .new) (newOf i) r) → reading.Sound X (last .Δ) (edge (pairOf i) r (aligned m)) → Same (seat (X .new) (newOf i) r) → targetAt (explored X) i (seat (X .new) (newOf i) r) ≡ number m
+        same P S (r′, a, inl K) = absurd (omega (arith, K .is, P .below))
+        same P S (r′, a, inr T) =
+            let U = reads .edges .sound (edge (pairOf i) r′ (aligned (pairOf (targetAt (explored X) i (seat (X .new) (newOf i) r))))) (T .edge) in
+            let e : r′ ≡ r = one-row X a (at i r l p (aligned m) h) in
+            let u = rw e at (U .onto) in
+            let o = ap (λ (x : OldPlace). x .0) (u .1 ∙ sym (S .onto .1)) in
+            omega (arith, o, u .0, S .onto .0)
+
+    -- the target of pair i by the r-th row that is left is the node x
     record Leads (i r : ℕ) (x : Node) : Type 0 where
-      row : r < 2
+      row : r < size (edges Y (newOf i))
       succ : NodeNumbered x
-      is : target (left X F H joint) i r ≡ nodeNumber x
+      is : target (left X F H joint) i (seat (X .new) (newOf i) r) ≡ nodeNumber x
 
     to-target : (i r : ℕ) → i < 4096 → 0 < markAt (explored X) i → (x : Node) → x isIn nodes last → Kind (pairOf i) r x → Leads i r x
     unfolding nodes
-    to-target i r l p (aligned m) v (inl h) = record { row = two i r l p (aligned m) h; succ = N-in m v .0; is = pair-target i r l p m v h }
+    to-target i r l p (aligned m) v (inl h) = record { row = sound i r l p (aligned m) h .row; succ = N-in m v .0; is = pair-target i r l p m v h }
     to-target i r l p (aligned m) v (inr b) = absurd b
     to-target i r l p (indicator q) v (inl h) =
-        record { row = two i r l p (indicator q) h; succ = Δ-in q v .0; is = kept-target i r l p (indicator q) h q (sound i r l p (indicator q) h .onto .0) v }
+        let S = sound i r l p (indicator q) h in
+        record { row = S .row; succ = Δ-in q v .0; is = kept-target i r l p (indicator q) h q (S .onto .0) v }
     to-target i r l p (indicator q) v (inr b) =
         let y = aligned (pair (b .1 .0) q) in
-        record { row = two i r l p y (b .1 .1); succ = Δ-in q v .0; is = kept-target i r l p y (b .1 .1) q (sound i r l p y (b .1 .1) .onto .0) v }
+        let S = sound i r l p y (b .1 .1) in
+        record { row = S .row; succ = Δ-in q v .0; is = kept-target i r l p y (b .1 .1) q (S .onto .0) v }
 
-    line20-targets : (e : Edge) → Line20 last e → Targeted built-graph e
+    line20-targets : (e : Edge) → Line20 last e → Targeted (X .new) built-graph e
     line20-targets e L =
         let N = N-in (e .pred) (L .from) in
+        let z : newOf (number (e .pred)) ≡ e .pred .new = ap (λ (m : Pair). m .new) (pair-is (e .pred) (N .0)) in
         let t =
         to-target (number (e .pred)) (e .row) (number-below (e .pred) (N .0)) (N .1) (e .succ) (L .to) (subst (λ (n : Pair). Kind n (e .row) (e .succ)) (sym (pair-is (e .pred) (N .0))) (L .edge)) in
-        record { pred = N .0; two = t .row; succ = t .succ; is = t .is }
+        record {
+          pred = N .0;
+          there = subst (λ (q : NewPlace). e .row < size (edges Y q)) z (t .row);
+          succ = t .succ;
+          is = subst (λ (q : NewPlace). target (left X F H joint) (number (e .pred)) (seat (X .new) q (e .row)) ≡ nodeNumber (e .succ)) z (t .is);
+        }
 
     -- ---- and from a target to an edge
-    module _ (i r : ℕ) (l : i < 4096) (c : r < 2) where
-      used-target : target (left X F H joint) i r < 4160 → targetAt (explored X) i r ≡ 65535 → ⊥
+    module _ (i k : ℕ) (l : i < 4096) (c : k < 2) where
+      used-target : target (left X F H joint) i k < 4160 → targetAt (explored X) i k ≡ 65535 → ⊥
       used-target b e =
-          ⊎-elim (λ T. omega (arith, T .below)) (λ S. omega (arith, target-now i r, S .is)) (redirection (explored X .marks) (targetAt (explored X) i r))
+          ⊎-elim (λ T. omega (arith, T .below)) (λ S. omega (arith, target-now i k, S .is)) (redirection (explored X .marks) (targetAt (explored X) i k))
 
-      module _ (u : targetAt (explored X) i r ≡ 65535 → ⊥) where
+      module _ (u : targetAt (explored X) i k ≡ 65535 → ⊥) where
         there : 0 < markAt (explored X) i
-        there = dite (ℕ-discrete (markAt (explored X) i) 0) (λ z. absurd (u (I .unused i r l c (inl z)))) (λ z. omega arith)
-
-        a-row : r < size (rowsOf (X .new) i)
-        a-row = dite (decLt r (size (rowsOf (X .new) i))) (λ z. z) (λ z. absurd (u (I .unused i r l c (inr (omega arith)))))
+        there = dite (ℕ-discrete (markAt (explored X) i) 0) (λ z. absurd (u (I .unused i k l c (inl z)))) (λ z. omega arith)
 
         -- some edge that leads to a place of Δ
-        to-place : (y : Node) → edge (pairOf i) r y isIn last .Eₗ → (q : NewPlace) → q .0 ≡ leadsTo (X .new) i r .0 → q isIn last .Δ → Kind (pairOf i) r (indicator q)
-        to-place (aligned m) h q e k =
-            let z : m ≡ pair (m .old) q = ap (λ (x : ℕ). pair (m .old) (record { 0 = x })) (sound i r l there (aligned m) h .onto .0 ∙ sym e) in
-            inr (k, (m .old, subst (λ (n : Pair). edge (pairOf i) r (aligned n) isIn last .Eₗ) z h))
-        to-place (indicator p) h q e k =
-            let z : p ≡ q = ap (λ (x : ℕ). record { 0 = x }) (sound i r l there (indicator p) h .onto .0 ∙ sym e) in
-            inl (subst (λ (x : NewPlace). edge (pairOf i) r (indicator x) isIn last .Eₗ) z h)
+        to-place : (r : ℕ) (y : Node) → edge (pairOf i) r y isIn last .Eₗ → (q : NewPlace) → q .0 ≡ leadsTo (Y .new) i r .0 → q isIn last .Δ → Kind (pairOf i) r (indicator q)
+        to-place r (aligned m) h q e z =
+            let f : m ≡ pair (m .old) q = ap (λ (x : ℕ). pair (m .old) (record { 0 = x })) (sound i r l there (aligned m) h .onto .0 ∙ sym e) in
+            inr (z, (m .old, subst (λ (n : Pair). edge (pairOf i) r (aligned n) isIn last .Eₗ) f h))
+        to-place r (indicator p) h q e z =
+            let f : p ≡ q = ap (λ (x : ℕ). record { 0 = x }) (sound i r l there (indicator p) h .onto .0 ∙ sym e) in
+            inl (subst (λ (x : NewPlace). edge (pairOf i) r (indicator x) isIn last .Eₗ) f h)
 
-        aims : reading.Aims X (last .Eₗ) i r (targetAt (explored X) i r)
-        aims = reads .edges .aims i r l c (free i l there) u
+        -- by the row that the target is of
+        module _ (r : ℕ) (a : reading.At X i r k) (aims : reading.Aims X (last .Eₗ) i r (targetAt (explored X) i k)) where
+          goes-on : GoesKept i k ⊎ GoesPair i k
+          goes-on = goes i k l there c (seated X a .can) u
 
-        to-edge : (x : Node) → NodeNumbered x → target (left X F H joint) i r ≡ nodeNumber x → (x isIn nodes last) × Kind (pairOf i) r x
-        unfolding nodes
-        to-edge (aligned n) B e =
-            ⊎-elim (λ K. absurd (omega (arith, K .is, number-below n B)))
-            (λ P. let z : pairOf (targetAt (explored X) i r) ≡ n = ap pairOf (sym (P .is) ∙ e) ∙ pair-is n B in (
-              subst (λ (m : Pair). m isIn last .Nₗ) z (in-N (targetAt (explored X) i r) (P .below) (P .there)),
-              ⊎-elim (λ K. absurd (omega (arith, K .is, P .below))) (λ T. inl (subst (λ (m : Pair). edge (pairOf i) r (aligned m) isIn last .Eₗ) z (T .edge))) aims,
-            )) (goes i r l there c a-row u)
-        to-edge (indicator q) b e =
-            ⊎-elim
-            (λ K. let z : q .0 ≡ leadsTo (X .new) i r .0 = omega (arith, K .is) in
-            let w : keptNumber (leadsTo (X .new) i r) ≡ keptNumber q = omega arith in
-            let k = in-Δ q b (rw w at (K .kept)) in
-            (k, ⊎-elim (λ T. to-place (T .succ) (T .edge) q z k) (λ T. to-place (aligned (pairOf (targetAt (explored X) i r))) (T .edge) q z k) aims))
-            (λ P. absurd (omega (arith, P .is, P .below))) (goes i r l there c a-row u)
+          to-edge : (x : Node) → NodeNumbered x → target (left X F H joint) i k ≡ nodeNumber x → (x isIn nodes last) × Kind (pairOf i) r x
+          unfolding nodes
+          to-edge (aligned n) B e =
+              ⊎-elim (λ K. absurd (omega (arith, K .is, number-below n B)))
+              (λ P. let z : pairOf (targetAt (explored X) i k) ≡ n = ap pairOf (sym (P .is) ∙ e) ∙ pair-is n B in (
+                subst (λ (m : Pair). m isIn last .Nₗ) z (in-N (targetAt (explored X) i k) (P .below) (P .there)),
+                ⊎-elim (λ K. absurd (omega (arith, K .is, P .below))) (λ T. inl (subst (λ (m : Pair). edge (pairOf i) r (aligned m) isIn last .Eₗ) z (T .edge))) aims,
+              )) goes-on
+          to-edge (indicator q) b e =
+              ⊎-elim
+              (λ K. let z : q .0 ≡ leadsTo (Y .new) i r .0 = omega (arith, K .is, seated X a .same .to-same) in
+              let w : keptNumber (leadsTo (X .new) i k) ≡ keptNumber q = omega (arith, seated X a .same .to-same) in
+              let d = in-Δ q b (rw w at (K .kept)) in
+              (d, ⊎-elim (λ T. to-place r (T .succ) (T .edge) q z d) (λ T. to-place r (aligned (pairOf (targetAt (explored X) i k))) (T .edge) q z d) aims))
+              (λ P. absurd (omega (arith, P .is, P .below))) goes-on
 
-    targets-line20 : (e : Edge) → Targeted built-graph e → Line20 last e
+          -- an edge of line 20
+          line20 : (x : Node) → NodeNumbered x → target (left X F H joint) i k ≡ nodeNumber x → Line20 last (edge (pairOf i) r x)
+          line20 x B e = let z = to-edge x B e in record { from = in-N i l there; to = z .0; edge = z .1 }
+
+    targets-line20 : (e : Edge) → Targeted (X .new) built-graph e → Line20 last e
     targets-line20 e T =
         let i = number (e .pred) in
         let l = number-below (e .pred) (T .pred) in
-        let u = used-target i (e .row) l (T .two) (omega (arith, T .is, node-below (e .succ) (T .succ))) in
-        let z = to-edge i (e .row) l (T .two) u (e .succ) (T .succ) (T .is) in
-        record {
-          from = subst (λ (n : Pair). n isIn last .Nₗ) (pair-is (e .pred) (T .pred)) (in-N i l (there i (e .row) l (T .two) u));
-          to = z .0;
-          edge = subst (λ (n : Pair). Kind n (e .row) (e .succ)) (pair-is (e .pred) (T .pred)) (z .1);
-        }
+        let a = at-pair X (e .pred) (T .pred) (e .row) (T .there) in
+        let k = seat (X .new) (e .pred .new) (e .row) in
+        let c = first-or-second X H wn a in
+        let u = used-target i k l c (omega (arith, T .is, node-below (e .succ) (T .succ))) in
+        let (r, b, A) = reads .edges .aims i k l c (free i l (there i k l c u)) u in
+        subst (λ (n : Pair). Line20 last (edge n (e .row) (e .succ))) (pair-is (e .pred) (T .pred))
+        (subst (λ (m : ℕ). Line20 last (edge (pairOf i) m (e .succ))) (one-row X b a) (line20 i k l c u r b A (e .succ) (T .succ) (T .is)))
 
     -- a target is unused, or there is an edge to it
-    each-target : (i r : ℕ) → i < 4096 → r < 2 → (target (left X F H joint) i r ≡ 65535) ⊎ Aimed built-graph (whole X last) i r
-    each-target i r l c = ⊎-elim (λ b. inr (by b)) inl (target-fits i r l c)
+    each-target : (i k : ℕ) → i < 4096 → k < 2 → (target (left X F H joint) i k ≡ 65535) ⊎ Aimed (X .new) built-graph (whole Y last) i k
+    each-target i k l c = ⊎-elim (λ b. inr (by b)) inl (target-fits i k l c)
       where
-        by : target (left X F H joint) i r < 4160 → Aimed built-graph (whole X last) i r
+        by : target (left X F H joint) i k < 4160 → Aimed (X .new) built-graph (whole Y last) i k
         by b =
-            let (B, z) = nodeOf-numbered (target (left X F H joint) i r) b in
-            let x = nodeOf (target (left X F H joint) i r) in
-            (x, z, targets-line20 (edge (pairOf i) r x) (record { pred = numbered i l; two = c; succ = B; is = ap (λ (j : ℕ). target (left X F H joint) j r) (number-is i) ∙ sym z }))
+            let (B, z) = nodeOf-numbered (target (left X F H joint) i k) b in
+            let u = used-target i k l c b in
+            let (r, a, A) = reads .edges .aims i k l c (free i l (there i k l c u)) u in
+            record {
+              row = r;
+              seated = a .seated;
+              node = nodeOf (target (left X F H joint) i k);
+              is = z;
+              edge = line20 i k l c u r a A (nodeOf (target (left X F H joint) i k)) B (sym z);
+            }
 
     -- ---- line 21
     module _ (k : ℕ) where
@@ -305,7 +344,7 @@ module _ (X : Compared) (F : FaultlessChart (X .old)) (H : FaultlessChart (X .ne
     kept-in (aligned n) M = absurd (not-two (number n) (number-below n (M .0)) (M .1))
     kept-in (indicator q) M = in-Δ q (M .0) (left-mark (keptNumber q) (λ z. omega (arith, M .1)) .1)
 
-    pub whole-graph : IsGraph built-graph (whole X last) (last .Vδ)
+    pub whole-graph : IsGraph (X .new) built-graph (whole Y last) (last .Vδ)
     unfolding nodes
     whole-graph =
         record {

@@ -1,31 +1,35 @@
 -- A turn of a build is one round of Algorithm 2's loop, lines 3 to 18, with the lowest waiting pair. All turns are one
 -- run of it, and every run of it has come to what the build comes to after some of its turns. Assumes nothing.
 use mathlib.Core.Path.{_≡_, refl, sym, ap, subst, _∙_}
-use mathlib.Core.Bool.{true, not}
+use mathlib.Core.Bool.{Bool, true, false, not}
 use mathlib.Core.Logic.{dite}
+use mathlib.Core.List.{List}
 use mathlib.Core.Option.{Option, none, some}
 use Prim.Native.Nat.{ℕ, zero, suc, _%_, _^_, _≤_, _<_}
 use native.Mathlib.Omega.{arith}
 use native.Mathlib.Decide.{ℕ-discrete, decLt}
-use borrow.Author.Tests.{le-ltb, eqb-true, not-false}
+use borrow.Author.Tests.{eqb-true, not-false}
 use lib.Dec.{eqb}
 use lib.ListN.{length, getD, set, replicate}
 use Rattle.base.proofs.Ones.{one-there, one-other}
 use Rattle.base.proofs.Tests.{T-true}
 use Rattle.base.proofs.Repeat.{Going, repeated-keeps, again-by, done-by}
 use Rattle.base.proofs.Walks.{zeros-at, same-at, first-is}
-use Rattle.chart.specs.Places.{keptNumber, oldOf, newOf}
-use Rattle.chart.specs.Charts.{size, operation}
+use Rattle.chart.specs.Places.{keptNumber, newOf}
+use Rattle.chart.specs.Charts.{size, operation, canBeTaken}
 use Rattle.chart.specs.Compared.{Compared, headsOf}
 use Rattle.chart.proofs.Words.{Words}
 use Rattle.chart.specs.Faultless.{FaultlessChart}
+use Rattle.chart.specs.Possible.{possibleRows, stripped}
+use Rattle.chart.proofs.Possible.{seen, seen-none, seen-more, seen-same, seen-all}
+use Rattle.chart.proofs.Takable.{not-there}
 use Rattle.align.specs.declared.spots.Spot.{Spot}
 use Rattle.chart.proofs.Parts.{two-at-most}
 use Rattle.records.specs.Records.{index}
 use Rattle.graph.specs.Buffers.{Buffers, marked, unwait}
 use Rattle.detector.specs.Turns.{rowsOf, next, lowest, setNow, begun, rowDone, secondDone, taken, explored}
 use Rattle.graph.proofs.Graphs.{markAt, setAt, Shaped, marked-yes, marked-no, is-marked, unwait-shaped}
-use Rattle.detector.proofs.Turns.{Waiter, set-now, set-had, set-now-small, next-waits, none-waits}
+use Rattle.detector.proofs.Turns.{Waiter, no-row, set-now, set-had, set-now-small, next-waits, none-waits}
 use Rattle.detector.proofs.Measure.{weight, turns, begun-shaped, begun-weight, row-lighter}
 use Rattle.detector.proofs.Invariant.{Inv, Every, turn-inv, begun-inv}
 use Rattle.paper.specs.Nodes.{_isIn_, _isNotIn_, Pair, onlyPair, pairOf, number, Numbered}
@@ -34,22 +38,26 @@ use Rattle.paper.specs.Algorithm2.{State, edges, called, popped, ForEach
 use Rattle.paper.specs.Algorithm2 as algorithm2
 use Rattle.paper.proofs.Members.{not-in, only-pair, numbered, same-pair, other-pair, pair-is, number-below}
 use Rattle.paper.proofs.Reading.{pop-sets}
+use Rattle.paper.proofs.Seats.{rows-left, at-seen, whole-rows}
 use Rattle.paper.proofs.Rows.{Reads, InHand, unwait-hand, Row, stepped, any-read, cameTo}
 
 module _ (X : Compared) (F : FaultlessChart (X .old)) (G : FaultlessChart (X .new)) where
+  abbrev Y : Compared
+  Y = stripped X
+
   -- ---- the loop of line 4 by its last edge
   record Last (s : State) (n : Pair) (k : ℕ) (t : State) : Type 0 where
     before : State
     spot : Option Spot
-    loop : ForEach X (Lines5to18 X) s n k before
-    lines : Lines5to18 X (n .old) (before .Vδ n) (operation (edges X (n .new)) k) spot
-    is : t ≡ called X before n k spot
+    loop : ForEach Y (Lines5to18 Y) s n k before
+    lines : Lines5to18 Y (n .old) (before .Vδ n) (operation (edges Y (n .new)) k) spot
+    is : t ≡ called Y before n k spot
 
   abbrev ByLast : State → Pair → ℕ → State → Type 0
   ByLast s n zero t = t ≡ s
   ByLast s n (suc k) t = Last s n k t
 
-  by-last : {s : State} {n : Pair} {k : ℕ} {t : State} → ForEach X (Lines5to18 X) s n k t → ByLast s n k t
+  by-last : {s : State} {n : Pair} {k : ℕ} {t : State} → ForEach Y (Lines5to18 Y) s n k t → ByLast s n k t
   by-last none-yet = refl
   by-last (one-more {k} {t} o f L) = record { before = t; spot = o; loop = f; lines = L; is = refl }
 
@@ -80,13 +88,15 @@ module _ (X : Compared) (F : FaultlessChart (X .old)) (G : FaultlessChart (X .ne
         (λ e. Z .reads .sets .Vδ n l (Z .reads .sets .Δ (newOf n) (omega arith) ∙ marked-no (h .marks) (keptNumber (newOf n)) (Z .hand .free (omega arith)))
         ∙ sym (set-now h n v (omega arith)))
 
-    no-row : (h : Buffers) (u r : ℕ) → size (rowsOf (X .new) n) ≤ r → rowDone X h n u r ≡ h
-    unfolding rowDone
-    no-row h u r b = rw (le-ltb r (size (rowsOf (X .new) n)) b, rowDone)
+    rows : List ℕ
+    rows = rowsOf (X .new) n
 
-    first-own : s₀ .Vδ (pairOf n) ≡ v
-    unfolding s₀ popped v
-    first-own = R .sets .Vδ n l free
+    -- nor has it changed before the first
+    first-own : (t : State) → Row X n v t (unwait g n) → t .Vδ (pairOf n) ≡ v
+    unfolding v unwait
+    first-own t Z =
+        dite (ℕ-discrete (markAt g n) 0) (λ e. Z .held e)
+        (λ e. Z .reads .sets .Vδ n l (Z .reads .sets .Δ (newOf n) (omega arith) ∙ marked-no (g .marks) (keptNumber (newOf n)) (Z .hand .free (omega arith))))
 
     v₁ : ℕ
     v₁ = setNow (first .marks) (first .sets) n v
@@ -99,73 +109,100 @@ module _ (X : Compared) (F : FaultlessChart (X .old)) (G : FaultlessChart (X .ne
     unfolding v v₁
     later-small = set-now-small first n v (S .small n) first-shaped
 
-    -- what is read after one edge, and after both
-    module _ (a : 0 < size (rowsOf (X .new) n)) where
-      one-read : (f : State) → f ≡ s₀ → (o : Option Spot) → Lines5to18 X (oldOf n) (f .Vδ (pairOf n)) (operation (rowsOf (X .new) n) 0) o
-          → Row X n v (called X f (pairOf n) 0 o) first
-      unfolding first v
-      one-read f e =
-          subst
-          (λ (x : State). (o : Option Spot) → Lines5to18 X (oldOf n) (x .Vδ (pairOf n)) (operation (rowsOf (X .new) n) 0) o → Row X n v (called X x (pairOf n) 0 o) first)
-          (sym e) (any-read X F G s₀ (unwait g n) n v 0 l (S .small n) (omega arith) a (unwait-shaped g n S) (start .reads) H first-own wo wn)
+    -- ---- one row, after those before it: the algorithms are given it, or it can't be taken
+    -- whatever lines 4 to 18 come to by the edges before row k is read in h, and their set is u
+    record Before (k u : ℕ) (h : Buffers) : Type 0 where
+      second : k < 2
+      small : u < 2 ^ 64
+      shaped : Shaped h
+      read : (t : State) → ForEach Y (Lines5to18 Y) s₀ (pairOf n) (seen rows k) t → Row X n v t h
+      own : (t : State) → Row X n v t h → t .Vδ (pairOf n) ≡ u
 
-      after-one : (t : State) → ForEach X (Lines5to18 X) s₀ (pairOf n) 1 t → Row X n v t first
-      after-one t f =
+    module _ (k u : ℕ) (h : Buffers) (B : Before k u h) where
+      edge-read : canBeTaken rows k ≡ true → (t : State) → ForEach Y (Lines5to18 Y) s₀ (pairOf n) (suc (seen rows k)) t → Row X n u t (rowDone X h n u k)
+      unfolding rows
+      edge-read e t f =
           let K = by-last f in
-          subst (λ (x : State). Row X n v x first) (sym (K .is)) (one-read (K .before) (by-last (K .loop)) (K .spot) (K .lines))
+          let Z = B .read (K .before) (K .loop) in
+          subst (λ (x : State). Row X n u x (rowDone X h n u k)) (sym (K .is))
+          (any-read X F G (K .before) h n u (seen rows k) k l (B .small) (B .second) (at-seen X n k e) (B .shaped) (Z .reads) (Z .hand) (B .own (K .before) Z) wo wn (K .spot) (K .lines))
 
-      after-two : 1 < size (rowsOf (X .new) n) → (t : State) → ForEach X (Lines5to18 X) s₀ (pairOf n) 2 t → Reads X t (rowDone X first n v₁ 1)
-      unfolding v₁
-      after-two c t f =
-          let K = by-last f in
-          let one = after-one (K .before) (K .loop) in
-          subst (λ (x : State). Reads X x (rowDone X first n v₁ 1)) (sym (K .is))
-          (any-read X F G (K .before) first n v₁ 1 l later-small (omega arith) c first-shaped (one .reads) (one .hand) (own (K .before) first one) wo wn (K .spot) (K .lines) .reads)
+      -- what is read after it
+      row-read : (t : State) → ForEach Y (Lines5to18 Y) s₀ (pairOf n) (seen rows (suc k)) t → Row X n u t (rowDone X h n u k)
+      unfolding rows
+      row-read = go (canBeTaken rows k) refl
+        where
+          go : (b : Bool) → canBeTaken rows k ≡ b → (t : State) → ForEach Y (Lines5to18 Y) s₀ (pairOf n) (seen rows (suc k)) t → Row X n u t (rowDone X h n u k)
+          go true e t f = edge-read e t (subst (λ (m : ℕ). ForEach Y (Lines5to18 Y) s₀ (pairOf n) m t) (seen-more rows k e) f)
+          go false e t f =
+              let Z = B .read t (subst (λ (m : ℕ). ForEach Y (Lines5to18 Y) s₀ (pairOf n) m t) (seen-same rows (whole-rows X (newOf n)) k e) f) in
+              subst (Row X n u t) (sym (no-row X h n u k e)) (record { reads = Z .reads; hand = Z .hand; held = λ z. B .own t Z })
 
-    -- lines 4 to 18 for as many edges as there are: whatever they come to is read in what the turn leaves
-    reads-after : (k : ℕ) → size (rowsOf (X .new) n) ≡ k → (t : State) → ForEach X (Lines5to18 X) s₀ (pairOf n) k t → Reads X t (rowDone X first n v₁ 1)
-    unfolding first v v₁
-    reads-after zero e t f =
-        subst (λ (h : Buffers). Reads X t h) (sym (no-row first v₁ 1 (omega arith) ∙ no-row (unwait g n) v 0 (omega arith)))
-        (subst (λ (x : State). Reads X x (unwait g n)) (sym (by-last f)) (start .reads))
-    reads-after (suc zero) e t f = subst (λ (h : Buffers). Reads X t h) (sym (no-row first v₁ 1 (omega arith))) (after-one (omega arith) t f .reads)
-    reads-after (suc (suc zero)) e t f = after-two (omega arith) (omega arith) t f
-    reads-after (suc (suc (suc k))) e t f = absurd (omega (arith, two-at-most (X .new) G (wn .small) (n % 64)))
+      -- and there is something to come to
+      row-loop : (t : State) × ForEach Y (Lines5to18 Y) s₀ (pairOf n) (seen rows k) t → (t : State) × ForEach Y (Lines5to18 Y) s₀ (pairOf n) (seen rows (suc k)) t
+      unfolding rows
+      row-loop (t, f) = go (canBeTaken rows k) refl
+        where
+          go : (b : Bool) → canBeTaken rows k ≡ b → (t : State) × ForEach Y (Lines5to18 Y) s₀ (pairOf n) (seen rows (suc k)) t
+          go true e =
+              let Z = B .read t f in (
+                called Y t (pairOf n) (seen rows k) (cameTo Y n u (seen rows k)),
+                subst (λ (m : ℕ). ForEach Y (Lines5to18 Y) s₀ (pairOf n) m (called Y t (pairOf n) (seen rows k) (cameTo Y n u (seen rows k)))) (sym (seen-more rows k e))
+                    (one-more (cameTo Y n u (seen rows k)) f
+                    (stepped X F G t h n u (seen rows k) k l (B .small) (B .second) (at-seen X n k e) (B .shaped) (Z .reads) (Z .hand) (B .own t Z) wo wn)),
+              )
+          go false e = (t, subst (λ (m : ℕ). ForEach Y (Lines5to18 Y) s₀ (pairOf n) m t) (sym (seen-same rows (whole-rows X (newOf n)) k e)) f)
 
-    pub round-read : (t : State) → ForEach X (Lines5to18 X) (popped s (pairOf n)) (pairOf n) (size (rowsOf (X .new) n)) t → Reads X t (taken X g n)
+    -- ---- both rows
+    before-first : Before 0 v (unwait g n)
+    unfolding v
+    before-first =
+        record {
+          second = omega arith;
+          small = S .small n;
+          shaped = unwait-shaped g n S;
+          read = λ t f. subst (λ (x : State). Row X n v x (unwait g n)) (sym (by-last (subst (λ (m : ℕ). ForEach Y (Lines5to18 Y) s₀ (pairOf n) m t) (seen-none rows) f))) start;
+          own = λ t Z. first-own t Z;
+        }
+
+    before-second : Before 1 v₁ first
+    unfolding first v₁
+    before-second =
+        record {
+          second = omega arith;
+          small = later-small;
+          shaped = first-shaped;
+          read = row-read 0 v (unwait g n) before-first;
+          own = λ t Z. own t first Z;
+        }
+
+    -- as many edges as there are
+    all-seen : seen rows 2 ≡ size (edges Y (newOf n))
+    unfolding rows
+    all-seen = go (size rows) refl ∙ sym (ap size (rows-left X n))
+      where
+        none-there : (k : ℕ) → size rows ≤ k → seen rows (suc k) ≡ seen rows k
+        none-there k l = seen-same rows (whole-rows X (newOf n)) k (not-there rows k l)
+
+        go : (m : ℕ) → size rows ≡ m → seen rows 2 ≡ size (possibleRows rows)
+        go zero e = none-there 1 (omega arith) ∙ none-there 0 (omega arith) ∙ ap (seen rows) (sym e) ∙ seen-all rows
+        go (suc zero) e = none-there 1 (omega arith) ∙ ap (seen rows) (sym e) ∙ seen-all rows
+        go (suc (suc zero)) e = ap (seen rows) (sym e) ∙ seen-all rows
+        go (suc (suc (suc m))) e = absurd (omega (arith, two-at-most (X .new) G (wn .small) (n % 64)))
+
+    pub round-read : (t : State) → ForEach Y (Lines5to18 Y) (popped s (pairOf n)) (pairOf n) (size (edges Y (newOf n))) t → Reads X t (taken X g n)
     unfolding taken secondDone first v v₁ s₀
-    round-read t f = reads-after (size (rowsOf (X .new) n)) refl t f
+    round-read t f = row-read 1 v₁ first before-second t (subst (λ (m : ℕ). ForEach Y (Lines5to18 Y) s₀ (pairOf n) m t) (sym all-seen) f) .reads
 
-    -- and they come to something
-    first-state : State
-    first-state = called X s₀ (pairOf n) 0 (cameTo X n v 0)
-
-    loop-one : 0 < size (rowsOf (X .new) n) → ForEach X (Lines5to18 X) s₀ (pairOf n) 1 first-state
-    unfolding v first-state
-    loop-one a = one-more (cameTo X n v 0) none-yet
-        (stepped X F G s₀ (unwait g n) n v 0 l (S .small n) (omega arith) a (unwait-shaped g n S) (start .reads) H first-own wo wn)
-
-    loops : (k : ℕ) → size (rowsOf (X .new) n) ≡ k → (t : State) × ForEach X (Lines5to18 X) s₀ (pairOf n) k t
-    unfolding v₁
-    loops zero e = (s₀, none-yet)
-    loops (suc zero) e = (first-state, loop-one (omega arith))
-    loops (suc (suc zero)) e =
-        let f = loop-one (omega arith) in
-        let one = after-one (omega arith) first-state f in (
-          called X first-state (pairOf n) 1 (cameTo X n v₁ 1),
-          one-more (cameTo X n v₁ 1) f
-              (stepped X F G first-state first n v₁ 1 l later-small (omega arith) (omega arith) first-shaped (one .reads) (one .hand) (own first-state first one) wo wn),
-        )
-    loops (suc (suc (suc k))) e = absurd (omega (arith, two-at-most (X .new) G (wn .small) (n % 64)))
-
-    pub round : (t : State) × ForEach X (Lines5to18 X) (popped s (pairOf n)) (pairOf n) (size (rowsOf (X .new) n)) t
+    pub round : (t : State) × ForEach Y (Lines5to18 Y) (popped s (pairOf n)) (pairOf n) (size (edges Y (newOf n))) t
     unfolding s₀
-    round = loops (size (rowsOf (X .new) n)) refl
+    round = subst (λ (m : ℕ). (t : State) × ForEach Y (Lines5to18 Y) s₀ (pairOf n) m t) all-seen
+        (row-loop 1 v₁ first before-second (row-loop 0 v (unwait g n) before-first (s₀, subst (λ (m : ℕ). ForEach Y (Lines5to18 Y) s₀ (pairOf n) m s₀) (sym (seen-none rows)) none-yet)))
 
   -- ---- the run
   pub record Ran (g : Buffers) : Type 0 where
     pub state : State
-    pub run : Run X (Lines5to18 X) Lowest state
+    pub run : Run Y (Lines5to18 Y) Lowest state
     pub reads : Reads X state g
     pub inv : Inv X Every g
 
@@ -217,7 +254,7 @@ module _ (X : Compared) (F : FaultlessChart (X .old)) (G : FaultlessChart (X .ne
         inv = turn-inv X F G g n I e;
       }
 
-  begun-read : Reads X (algorithm2.begun X) (begun (headsOf X))
+  begun-read : Reads X (algorithm2.begun Y) (begun (headsOf X))
   unfolding begun algorithm2.begun
   begun-read =
       record {
@@ -234,8 +271,8 @@ module _ (X : Compared) (F : FaultlessChart (X .old)) (G : FaultlessChart (X .ne
         edges =
             record {
               sound = λ e h. absurd (T-true h);
-              unused = λ i r b c f u x. refl;
-              aims = λ i r b c f u. absurd (u (same-at 8192 65535 (index i r) (omega arith)));
+              unused = λ i r k b c a f u x. refl;
+              aims = λ i k b c f u. absurd (u (same-at 8192 65535 (index i k) (omega arith)));
             };
       }
     where
@@ -249,7 +286,7 @@ module _ (X : Compared) (F : FaultlessChart (X .old)) (G : FaultlessChart (X .ne
   unfolding explored
   explored-ran wo wn =
       repeated-keeps next (taken X) Ran (turn-ran wo wn) (2 ^ 80) (begun (headsOf X))
-      (record { state = algorithm2.begun X; run = line1; reads = begun-read; inv = begun-inv X F G })
+      (record { state = algorithm2.begun Y; run = line1; reads = begun-read; inv = begun-inv X F G })
 
   -- ---- any run: the build, after some of its turns, reads what it has come to
   record Come (s : State) : Type 0 where
@@ -274,7 +311,7 @@ module _ (X : Compared) (F : FaultlessChart (X .old)) (G : FaultlessChart (X .ne
           e ∙ ap some z
 
   turn-come : Words (X .old .table) → Words (X .new .table) → (s t : State) → Come s → (i : ℕ) → i < 4096 → pairOf i isIn s .waitlist → Lowest s (pairOf i)
-      → ForEach X (Lines5to18 X) (popped s (pairOf i)) (pairOf i) (size (rowsOf (X .new) i)) t → Come t
+      → ForEach Y (Lines5to18 Y) (popped s (pairOf i)) (pairOf i) (size (edges Y (newOf i))) t → Come t
   turn-come wo wn s t A i l w c f =
       let g = A .graph in
       let R = A .reads in
@@ -287,7 +324,7 @@ module _ (X : Compared) (F : FaultlessChart (X .old)) (G : FaultlessChart (X .ne
         going = again-by next (taken X) weight Shaped (turns X F G) (A .going) e refl;
       }
 
-  come : Words (X .old .table) → Words (X .new .table) → {s : State} → Run X (Lines5to18 X) Lowest s → Come s
+  come : Words (X .old .table) → Words (X .new .table) → {s : State} → Run Y (Lines5to18 Y) Lowest s → Come s
   unfolding explored
   come wo wn line1 =
       record {
@@ -300,11 +337,11 @@ module _ (X : Compared) (F : FaultlessChart (X .old)) (G : FaultlessChart (X .ne
       let A = come wo wn r in
       let B = A .reads .sets .waits-numbered n w in
       subst
-      (λ (m : Pair). m isIn s .waitlist → Lowest s m → ForEach X (Lines5to18 X) (popped s m) m (size (edges X (m .new))) t → Come t)
+      (λ (m : Pair). m isIn s .waitlist → Lowest s m → ForEach Y (Lines5to18 Y) (popped s m) m (size (edges Y (m .new))) t → Come t)
       (pair-is n B) (turn-come wo wn s t A (number n) (number-below n B)) w c f
 
   -- a run that has ended is read in what the build explores
-  pub ended-read : Words (X .old .table) → Words (X .new .table) → {s : State} → Run X (Lines5to18 X) Lowest s → Ended s → Reads X s (explored X)
+  pub ended-read : Words (X .old .table) → Words (X .new .table) → {s : State} → Run Y (Lines5to18 Y) Lowest s → Ended s → Reads X s (explored X)
   ended-read wo wn {s} r d = go (come wo wn r)
     where
       go : Come s → Reads X s (explored X)

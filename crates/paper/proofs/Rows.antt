@@ -1,13 +1,12 @@
 -- One edge of the pair in hand: what a row of a turn does to the buffers, lines 5 to 18 and PROCESS do to the source's
 -- variables. Assumes nothing.
-use mathlib.Core.Path.{_≡_, refl, sym, ap, subst, _∙_}
+use mathlib.Core.Path.{_≡_, refl, sym, ap, ap₂, subst, _∙_}
 use mathlib.Core.Bool.{Bool, true, false, _&&_, _||_, not, or-true}
 use mathlib.Core.Logic.{inl, inr, dite}
 use mathlib.Core.Option.{Option, none, some, Option·none-ne-some, Option·some-injective}
 use Prim.Native.Nat.{ℕ, _%_, _^_, _<_}
 use native.Mathlib.Omega.{arith}
 use native.Mathlib.Decide.{ℕ-discrete}
-use borrow.Author.Tests.{lt-ltb}
 use lib.Dec.{eqb}
 use lib.ListN.{set}
 use Rattle.base.specs.Options.{when}
@@ -15,29 +14,33 @@ use Rattle.base.proofs.OnSome.{on-at}
 use Rattle.operations.specs.Assumptions.{Operands}
 use Rattle.chart.specs.declared.places.NewPlace.{NewPlace}
 use Rattle.chart.specs.Places.{pairNumber, keptNumber, oldOf, newOf}
-use Rattle.chart.specs.Charts.{size, operation}
+use Rattle.chart.specs.Charts.{operation}
 use Rattle.chart.specs.Compared.{Compared, headsOf}
 use Rattle.chart.proofs.Words.{Words}
 use Rattle.chart.specs.Faultless.{FaultlessChart}
+use Rattle.chart.specs.Possible.{stripped}
 use Rattle.align.specs.declared.spots.Spot.{Spot}
 use Rattle.align.specs.Steps.{moved, arrived, step}
 use Rattle.chart.proofs.Conflicts.{operands}
 use Rattle.chart.proofs.Parts.{row-of, row-same}
+use Rattle.chart.proofs.Takable.{takable}
 use Rattle.graph.specs.Buffers.{Buffers, marked, keep, aim, join, unwait}
 use Rattle.detector.specs.Turns.{rowsOf, leadsTo, stepOf, processed, rowDone}
 use Rattle.detector.specs.Turns as turns
 use Rattle.align.proofs.Steps.{Fits}
 use Rattle.graph.proofs.Graphs.{markAt, Shaped, not-marked, keep-node, keep-nodes, keep-mark, keep-mark-other, keep-shaped, by-aim, join-mark, join-mark-other, join-target, join-shaped}
-use Rattle.detector.proofs.Turns.{leads-below, step-of-fits}
+use Rattle.detector.proofs.Turns.{a-row, leads-below, step-of-fits}
 use Rattle.paper.specs.Nodes.{_isIn_, _isNotIn_, _plus_, Pair, pair, aligned, indicator, edge, onlyPlace, pairOf}
 use Rattle.paper.specs.Lines5to18.{Lines5to18}
 use Rattle.paper.specs.Algorithm2.{State, toPlace, line27, toPair, process, called}
 use Rattle.align.proofs.Successors.{successor, one-successor}
+use Rattle.align.proofs.NewTable.{step-same}
 use Rattle.paper.proofs.Members.{the-place, pair-is, other-pair}
 use Rattle.paper.proofs.Stepping.{step-lines}
 use Rattle.paper.proofs.Outcomes.{one-outcome}
 use Rattle.paper.proofs.Reading.{Sets, keep-sets, kept-sets, join-sets}
-use Rattle.paper.proofs.Edges.{Sound, Edges, keep-edges, aim-edges, added}
+use Rattle.paper.proofs.Edges.{Sound, Edges, At, keep-edges, aim-edges, added}
+use Rattle.paper.proofs.Seats.{Seated, seated}
 
 -- a store of a target changes nothing else
 module _ (g : Buffers) (n r t : ℕ) where
@@ -105,91 +108,101 @@ unfolding unwait
 unwait-hand g n J = record { there = J .there; free = J .free }
 
 module _ (X : Compared) (F : FaultlessChart (X .old)) (G : FaultlessChart (X .new)) where
-  module _ (s : State) (g : Buffers) (n v r : ℕ) (l : n < 4096) (w : v < 2 ^ 64) (c : r < 2) (a : r < size (rowsOf (X .new) n)) (S : Shaped g) (R : Reads X s g) (H : InHand g n) (own : s .Vδ (pairOf n) ≡ v) where
-    q-below : leadsTo (X .new) n r .0 < 64
-    q-below = omega (arith, leads-below X F G n v r a, G .few-places)
+  abbrev Y : Compared
+  Y = stripped X
+
+  -- row r of those that the algorithms are given, which is row k of the pair
+  module _ (s : State) (g : Buffers) (n v r k : ℕ) (l : n < 4096) (w : v < 2 ^ 64) (c : k < 2) (a : At X n r k) (S : Shaped g) (R : Reads X s g) (H : InHand g n) (own : s .Vδ (pairOf n) ≡ v) where
+    Z : Seated X n r k
+    Z = seated X a
+
+    leads-same : leadsTo (X .new) n k ≡ leadsTo (Y .new) n r
+    leads-same = ap (λ (x : ℕ). record { 0 = x }) (sym (Z .same .to-same))
+
+    q-below : leadsTo (Y .new) n r .0 < 64
+    q-below = omega (arith, Z .same .to-same, leads-below X F G n v k (Z .can), G .few-places)
 
     not-kept : newOf n isNotIn s .Δ → markAt g (keptNumber (newOf n)) ≡ 0
     not-kept e = not-marked (g .marks) (keptNumber (newOf n)) (sym (R .sets .Δ (newOf n) (omega arith)) ∙ e)
 
     -- lines 23 to 25
-    hand-kept : InHand (keep g (leadsTo (X .new) n r)) n
+    hand-kept : InHand (keep g (leadsTo (Y .new) n r)) n
     hand-kept =
         record {
-          there = λ e. (let z = away e in let y = H .there (sym (others z) ∙ e) in omega (arith, keep-mark-other g (leadsTo (X .new) n r) (S .sized) q-below n l z));
-          free = λ p. (let z : n % 64 ≡ leadsTo (X .new) n r .0 → ⊥ = λ h. omega (arith, keep-mark g (leadsTo (X .new) n r) (S .sized) q-below n l h) in
-              others z ∙ H .free (omega (arith, keep-mark-other g (leadsTo (X .new) n r) (S .sized) q-below n l z)));
+          there = λ e. (let z = away e in let y = H .there (sym (others z) ∙ e) in omega (arith, keep-mark-other g (leadsTo (Y .new) n r) (S .sized) q-below n l z));
+          free = λ p. (let z : n % 64 ≡ leadsTo (Y .new) n r .0 → ⊥ = λ h. omega (arith, keep-mark g (leadsTo (Y .new) n r) (S .sized) q-below n l h) in
+              others z ∙ H .free (omega (arith, keep-mark-other g (leadsTo (Y .new) n r) (S .sized) q-below n l z)));
         }
       where
-        away : markAt (keep g (leadsTo (X .new) n r)) (keptNumber (newOf n)) ≡ 0 → n % 64 ≡ leadsTo (X .new) n r .0 → ⊥
-        away e h = let y : keptNumber (newOf n) ≡ keptNumber (leadsTo (X .new) n r) = omega arith in omega (arith, rw y at e, keep-node g (leadsTo (X .new) n r) (S .sized) q-below)
+        away : markAt (keep g (leadsTo (Y .new) n r)) (keptNumber (newOf n)) ≡ 0 → n % 64 ≡ leadsTo (Y .new) n r .0 → ⊥
+        away e h = let y : keptNumber (newOf n) ≡ keptNumber (leadsTo (Y .new) n r) = omega arith in omega (arith, rw y at e, keep-node g (leadsTo (Y .new) n r) (S .sized) q-below)
 
-        others : (n % 64 ≡ leadsTo (X .new) n r .0 → ⊥) → markAt (keep g (leadsTo (X .new) n r)) (keptNumber (newOf n)) ≡ markAt g (keptNumber (newOf n))
-        others z = keep-nodes g (leadsTo (X .new) n r) (S .sized) q-below (keptNumber (newOf n)) (omega arith) (omega arith) (λ h. z (omega arith))
+        others : (n % 64 ≡ leadsTo (Y .new) n r .0 → ⊥) → markAt (keep g (leadsTo (Y .new) n r)) (keptNumber (newOf n)) ≡ markAt g (keptNumber (newOf n))
+        others z = keep-nodes g (leadsTo (Y .new) n r) (S .sized) q-below (keptNumber (newOf n)) (omega arith) (omega arith) (λ h. z (omega arith))
 
-    hand-aim : (f : Buffers) (t : ℕ) → InHand f n → InHand (aim f n r t) n
-    hand-aim f t J = by-aim f n r t (λ h. InHand h n) (λ p. record { there = J .there; free = J .free }) (λ z. J)
+    hand-aim : (f : Buffers) (t : ℕ) → InHand f n → InHand (aim f n k t) n
+    hand-aim f t J = by-aim f n k t (λ h. InHand h n) (λ p. record { there = J .there; free = J .free }) (λ z. J)
 
-    fails-row : Row X n v (toPlace s (pairOf n) r (leadsTo (X .new) n r)) (aim (keep g (leadsTo (X .new) n r)) n r (keptNumber (leadsTo (X .new) n r)))
+    fails-row : Row X n v (toPlace s (pairOf n) r (leadsTo (Y .new) n r)) (aim (keep g (leadsTo (Y .new) n r)) n k (keptNumber (leadsTo (Y .new) n r)))
     unfolding toPlace
     fails-row =
-        let q = leadsTo (X .new) n r in
+        let q = leadsTo (Y .new) n r in
         let K = keep-sets X s g (pairOf n) r q (S .sized) q-below (R .sets) in
         let there : newOf n isNotIn (s .Δ plus onlyPlace q) → 0 < markAt (keep g q) n =
         λ e. hand-kept .there (not-marked (keep g q .marks) (keptNumber (newOf n)) (sym (K .Δ (newOf n) (omega arith)) ∙ e)) in
-        let fits : Sound X (s .Δ plus onlyPlace q) (edge (pairOf n) r (indicator q)) = record { row = a; onto = (refl, rw (the-place q) (or-true (s .Δ q))) } in
-        let Z = keep-shaped g q S .sized in
+        let fits : Sound X (s .Δ plus onlyPlace q) (edge (pairOf n) r (indicator q)) = record { row = a .row; onto = (refl, rw (the-place q) (or-true (s .Δ q))) } in
+        let K′ = keep-shaped g q S .sized in
         record {
           reads =
               record {
-                sets = aim-sets (keep g q) n r (keptNumber q) (toPlace s (pairOf n) r q) K;
+                sets = aim-sets (keep g q) n k (keptNumber q) (toPlace s (pairOf n) r q) K;
                 edges =
-                    aim-edges X (s .Eₗ) (s .Δ plus onlyPlace q) (keep g q) n r (keptNumber q) (indicator q) Z l c there fits (λ e. omega (arith, q-below))
+                    aim-edges X (s .Eₗ) (s .Δ plus onlyPlace q) (keep g q) n r k (keptNumber q) (indicator q) K′ l c a there fits (λ e. omega (arith, q-below))
                     (keep-edges X (s .Eₗ) (s .Δ) g q (S .sized) q-below (R .edges))
                     (inl
                     (record {
                       is = refl;
                       succ = indicator q;
-                      edge = added X (s .Eₗ) (s .Δ plus onlyPlace q) (keep g q) n r (keptNumber q) (indicator q) Z l c there fits (λ e. omega (arith, q-below));
+                      edge = added X (s .Eₗ) (s .Δ plus onlyPlace q) (keep g q) n r k (keptNumber q) (indicator q) K′ l c a there fits (λ e. omega (arith, q-below));
                     }));
               };
           hand = hand-aim (keep g q) (keptNumber q) hand-kept;
           held = λ z. own;
         }
 
-    module _ (h : Spot) (came : cameTo X n v r ≡ some h) where
-      place : h .place ≡ successor X (oldOf n) (operation (rowsOf (X .new) n) r)
-      place = on-at _ (one-successor X (oldOf n) v (operation (rowsOf (X .new) n) r)) came
+    module _ (h : Spot) (came : cameTo Y n v r ≡ some h) where
+      place : h .place ≡ successor Y (oldOf n) (operation (rowsOf (Y .new) n) r)
+      place = on-at _ (one-successor Y (oldOf n) v (operation (rowsOf (Y .new) n) r)) came
 
-      kept-row : leadsTo (X .new) n r isIn s .Δ → Row X n v (toPair X s (pairOf n) r (pair (h .place) (leadsTo (X .new) n r)) (h .set)) (aim g n r (keptNumber (leadsTo (X .new) n r)))
+      kept-row : leadsTo (Y .new) n r isIn s .Δ → Row X n v (toPair Y s (pairOf n) r (pair (h .place) (leadsTo (Y .new) n r)) (h .set)) (aim g n k (keptNumber (leadsTo (Y .new) n r)))
       unfolding toPair
-      kept-row k =
-          let q = leadsTo (X .new) n r in
+      kept-row m =
+          let q = leadsTo (Y .new) n r in
           let x = aligned (pair (h .place) q) in
           let there : newOf n isNotIn s .Δ → 0 < markAt g n = λ e. H .there (not-kept e) in
-          let fits : Sound X (s .Δ) (edge (pairOf n) r x) = record { row = a; onto = (refl, place) } in
+          let fits : Sound X (s .Δ) (edge (pairOf n) r x) = record { row = a .row; onto = (refl, place) } in
           record {
             reads =
                 record {
-                  sets = aim-sets g n r (keptNumber q) (toPair X s (pairOf n) r (pair (h .place) q) (h .set)) (kept-sets X s g (pairOf n) r (pair (h .place) q) (h .set) k (R .sets));
+                  sets = aim-sets g n k (keptNumber q) (toPair Y s (pairOf n) r (pair (h .place) q) (h .set)) (kept-sets Y s g (pairOf n) r (pair (h .place) q) (h .set) m (R .sets));
                   edges =
-                      aim-edges X (s .Eₗ) (s .Δ) g n r (keptNumber q) x (S .sized) l c there fits (λ e. omega (arith, q-below)) (R .edges)
+                      aim-edges X (s .Eₗ) (s .Δ) g n r k (keptNumber q) x (S .sized) l c a there fits (λ e. omega (arith, q-below)) (R .edges)
                       (inl
                       (record {
                         is = refl;
                         succ = x;
-                        edge = added X (s .Eₗ) (s .Δ) g n r (keptNumber q) x (S .sized) l c there fits (λ e. omega (arith, q-below));
+                        edge = added X (s .Eₗ) (s .Δ) g n r k (keptNumber q) x (S .sized) l c a there fits (λ e. omega (arith, q-below));
                       }));
                 };
             hand = hand-aim g (keptNumber q) H;
-            held = λ z. rw (k, toPair) own;
+            held = λ z. rw (m, toPair) own;
           }
 
-      module _ (t : ℕ) (is : t ≡ pairNumber (h .place) (leadsTo (X .new) n r)) (T : Fits 64 h) (f : leadsTo (X .new) n r isNotIn s .Δ) where
+      module _ (t : ℕ) (is : t ≡ pairNumber (h .place) (leadsTo (Y .new) n r)) (T : Fits 64 h) (f : leadsTo (Y .new) n r isNotIn s .Δ) where
         below : t < 4096
         below = omega (arith, T .place, q-below)
 
-        new-place : newOf t ≡ leadsTo (X .new) n r
+        new-place : newOf t ≡ leadsTo (Y .new) n r
         new-place = ap (λ (y : ℕ). record { 0 = y }) (omega (arith, q-below))
 
         free : newOf t isNotIn s .Δ
@@ -211,78 +224,86 @@ module _ (X : Compared) (F : FaultlessChart (X .old)) (G : FaultlessChart (X .ne
             others : markAt j (keptNumber (newOf n)) ≡ markAt g (keptNumber (newOf n))
             others = join-mark-other (X .old .head .alarm) g t (h .set) (S .sized) below (keptNumber (newOf n)) (λ e. omega (arith, below))
 
-        joins-row : Row X n v (toPair X s (pairOf n) r (pairOf t) (h .set)) (aim j n r t)
+        joins-row : Row X n v (toPair Y s (pairOf n) r (pairOf t) (h .set)) (aim j n k t)
         unfolding toPair
         joins-row =
             let x = aligned (pairOf t) in
             let there : newOf n isNotIn s .Δ → 0 < markAt j n = λ e. hand-joined .there (join-mark-other (X .old .head .alarm) g t (h .set) (S .sized) below (keptNumber (newOf n)) (λ z. omega (arith, below)) ∙ not-kept e) in
             let fits : Sound X (s .Δ) (edge (pairOf n) r x) =
-            record { row = a; onto = (omega (arith, q-below), ap (λ (y : ℕ). record { 0 = y }) (omega (arith, q-below)) ∙ place) } in
-            let Z = join-shaped (X .old .head .alarm) g t (h .set) (T .set) S .sized in
+            record { row = a .row; onto = (omega (arith, q-below), ap (λ (y : ℕ). record { 0 = y }) (omega (arith, q-below)) ∙ place) } in
+            let J = join-shaped (X .old .head .alarm) g t (h .set) (T .set) S .sized in
             let E : Edges X (s .Eₗ) (s .Δ) (j .targets) = rw (join-target (X .old .head .alarm) g t (h .set)) (R .edges) in
             record {
               reads =
                   record {
-                    sets = aim-sets j n r t (toPair X s (pairOf n) r (pairOf t) (h .set)) (join-sets X s g (pairOf n) r t (h .set) (S .sized) below free (R .sets));
+                    sets = aim-sets j n k t (toPair Y s (pairOf n) r (pairOf t) (h .set)) (join-sets Y s g (pairOf n) r t (h .set) (S .sized) below free (R .sets));
                     edges =
-                        aim-edges X (s .Eₗ) (s .Δ) j n r t x Z l c there fits (λ e. omega (arith, below)) E
-                        (inr (record { below = below; edge = added X (s .Eₗ) (s .Δ) j n r t x Z l c there fits (λ e. omega (arith, below)) }));
+                        aim-edges X (s .Eₗ) (s .Δ) j n r k t x J l c a there fits (λ e. omega (arith, below)) E
+                        (inr (record { below = below; edge = added X (s .Eₗ) (s .Δ) j n r k t x J l c a there fits (λ e. omega (arith, below)) }));
                   };
               hand = hand-aim j t hand-joined;
-              held = λ z. (let y : n ≡ t → ⊥ = λ e. omega (arith, rw (aim-marks j n r t) at z, join-mark-same e) in
+              held = λ z. (let y : n ≡ t → ⊥ = λ e. omega (arith, rw (aim-marks j n k t) at z, join-mark-same e) in
                   rw (free, other-pair t n y, toPair) own);
             }
           where
             join-mark-same : n ≡ t → markAt j n ≡ 1
             join-mark-same e = rw e (join-mark (X .old .head .alarm) g t (h .set) (S .sized) below)
 
-    some-row : (h : Spot) → (cameTo X n v r) ≡ some h → Fits 64 h → (k : Bool) → marked (g .marks) (keptNumber (leadsTo (X .new) n r)) ≡ k
-        → Row X n v (toPair X s (pairOf n) r (pair (h .place) (leadsTo (X .new) n r)) (h .set))
-        (elim k as (λ _. Buffers) [
-          | true ↦ aim g n r (keptNumber (leadsTo (X .new) n r))
-          | false ↦ aim (join (X .old .head .alarm) g (pairNumber (h .place) (leadsTo (X .new) n r)) (h .set)) n r (pairNumber (h .place) (leadsTo (X .new) n r))
+    some-row : (h : Spot) → cameTo Y n v r ≡ some h → Fits 64 h → (b : Bool) → marked (g .marks) (keptNumber (leadsTo (Y .new) n r)) ≡ b
+        → Row X n v (toPair Y s (pairOf n) r (pair (h .place) (leadsTo (Y .new) n r)) (h .set))
+        (elim b as (λ _. Buffers) [
+          | true ↦ aim g n k (keptNumber (leadsTo (Y .new) n r))
+          | false ↦ aim (join (X .old .head .alarm) g (pairNumber (h .place) (leadsTo (Y .new) n r)) (h .set)) n k (pairNumber (h .place) (leadsTo (Y .new) n r))
         ])
-    some-row h e T true k = kept-row h e (R .sets .Δ (leadsTo (X .new) n r) q-below ∙ k)
-    some-row h e T false k =
-        let t = pairNumber (h .place) (leadsTo (X .new) n r) in
-        subst (λ (m : Pair). Row X n v (toPair X s (pairOf n) r m (h .set)) (aim (join (X .old .head .alarm) g t (h .set)) n r t))
-        (pair-is (pair (h .place) (leadsTo (X .new) n r)) (record { old = T .place; new = q-below }))
-        (joins-row h e t refl T (R .sets .Δ (leadsTo (X .new) n r) q-below ∙ k))
+    some-row h e T true b = kept-row h e (R .sets .Δ (leadsTo (Y .new) n r) q-below ∙ b)
+    some-row h e T false b =
+        let t = pairNumber (h .place) (leadsTo (Y .new) n r) in
+        subst (λ (m : Pair). Row X n v (toPair Y s (pairOf n) r m (h .set)) (aim (join (X .old .head .alarm) g t (h .set)) n k t))
+        (pair-is (pair (h .place) (leadsTo (Y .new) n r)) (record { old = T .place; new = q-below }))
+        (joins-row h e t refl T (R .sets .Δ (leadsTo (Y .new) n r) q-below ∙ b))
 
-    row-done : rowDone X g n v r ≡ processed (X .old .head .alarm) g n r (leadsTo (X .new) n r) (stepOf X n v r)
-    unfolding rowDone
-    row-done = rw (lt-ltb r (size (rowsOf (X .new) n)) a, rowDone)
+    -- the step is the one that the algorithms make: it does not look at the new table
+    step-is : stepOf X n v k ≡ stepOf Y n v r
+    unfolding stepOf
+    step-is =
+        step-same (X .old) (X .new .head) (X .new .table) (Y .new .table) _ (operation (rowsOf (X .new) n) k) (leadsTo (X .new) n k)
+        ∙ ap₂ (step Y (record { place = oldOf n; set = v })) (sym (Z .same .operation-same)) leads-same
 
-    edge-done : (o : Option Spot) → stepOf X n v r ≡ o → Row X n v (called X s (pairOf n) r (cameTo X n v r)) (processed (X .old .head .alarm) g n r (leadsTo (X .new) n r) o)
+    row-done : rowDone X g n v k ≡ processed (X .old .head .alarm) g n k (leadsTo (Y .new) n r) (stepOf Y n v r)
+    row-done =
+        a-row X g n v k (Z .can) step-is
+        ∙ ap (λ (q : NewPlace). processed (X .old .head .alarm) g n k q (stepOf Y n v r)) leads-same
+
+    edge-done : (o : Option Spot) → stepOf Y n v r ≡ o → Row X n v (called Y s (pairOf n) r (cameTo Y n v r)) (processed (X .old .head .alarm) g n k (leadsTo (Y .new) n r) o)
     unfolding stepOf step processed turns.arrived
     edge-done none e =
-        subst (λ (f : State). Row X n v f (aim (keep g (leadsTo (X .new) n r)) n r (keptNumber (leadsTo (X .new) n r)))) (sym (fails X s n r (cameTo X n v r) e)) fails-row
+        subst (λ (f : State). Row X n v f (aim (keep g (leadsTo (Y .new) n r)) n k (keptNumber (leadsTo (Y .new) n r)))) (sym (fails Y s n r (cameTo Y n v r) e)) fails-row
     edge-done (some h) e =
-        let z = arrives X s n r (cameTo X n v r) h e in
-        let T = step-of-fits X F G n v r a 64 (F .few-places) (omega arith) w h e in
-        subst (λ (f : State). Row X n v f (turns.arrived (X .old .head .alarm) g n r (leadsTo (X .new) n r) h)) (sym (z .1))
-        (some-row h (z .0) T (marked (g .marks) (keptNumber (leadsTo (X .new) n r))) refl)
+        let z = arrives Y s n r (cameTo Y n v r) h e in
+        let T = step-of-fits X F G n v k (Z .can) 64 (F .few-places) (omega arith) w h (step-is ∙ e) in
+        subst (λ (f : State). Row X n v f (turns.arrived (X .old .head .alarm) g n k (leadsTo (Y .new) n r) h)) (sym (z .1))
+        (some-row h (z .0) T (marked (g .marks) (keptNumber (leadsTo (Y .new) n r))) refl)
 
-    row-read : Row X n v (called X s (pairOf n) r (cameTo X n v r)) (rowDone X g n v r)
-    row-read = subst (λ (f : Buffers). Row X n v (called X s (pairOf n) r (cameTo X n v r)) f) (sym row-done) (edge-done (stepOf X n v r) refl)
+    row-read : Row X n v (called Y s (pairOf n) r (cameTo Y n v r)) (rowDone X g n v k)
+    row-read = subst (λ (f : Buffers). Row X n v (called Y s (pairOf n) r (cameTo Y n v r)) f) (sym row-done) (edge-done (stepOf Y n v r) refl)
 
     module _ (wo : Words (X .old .table)) (wn : Words (X .new .table)) where
-      fits : Operands (operation (rowsOf (X .new) n) r)
+      fits : Operands (operation (rowsOf (Y .new) n) r)
       fits =
-          let (i, k) = row-of (X .new .table) (n % 64) r a in
-          subst Operands (sym (row-same (X .new .table) (n % 64) k .operation-same)) (operands (X .new) G (wn .small) i (k .inside))
+          let (i, b) = row-of (X .new .table) (n % 64) k (takable (rowsOf (X .new) n) k (Z .can) .0) in
+          subst Operands (sym (Z .same .operation-same ∙ row-same (X .new .table) (n % 64) b .operation-same)) (operands (X .new) G (wn .small) i (b .inside))
 
       -- lines 5 to 18 can come to what the step comes to
-      pub stepped : Lines5to18 X (oldOf n) (s .Vδ (pairOf n)) (operation (rowsOf (X .new) n) r) (cameTo X n v r)
+      pub stepped : Lines5to18 Y (oldOf n) (s .Vδ (pairOf n)) (operation (rowsOf (Y .new) n) r) (cameTo Y n v r)
       stepped =
-          subst (λ (u : ℕ). Lines5to18 X (oldOf n) u (operation (rowsOf (X .new) n) r) (cameTo X n v r)) (sym own)
-          (step-lines X F wo (oldOf n) v (operation (rowsOf (X .new) n) r) (omega arith) w fits)
+          subst (λ (u : ℕ). Lines5to18 Y (oldOf n) u (operation (rowsOf (Y .new) n) r) (cameTo Y n v r)) (sym own)
+          (step-lines Y F wo (oldOf n) v (operation (rowsOf (Y .new) n) r) (omega arith) w fits)
 
       -- and to nothing else: whatever they come to, the row is read
-      pub any-read : (o : Option Spot) → Lines5to18 X (oldOf n) (s .Vδ (pairOf n)) (operation (rowsOf (X .new) n) r) o
-          → Row X n v (called X s (pairOf n) r o) (rowDone X g n v r)
+      pub any-read : (o : Option Spot) → Lines5to18 Y (oldOf n) (s .Vδ (pairOf n)) (operation (rowsOf (Y .new) n) r) o
+          → Row X n v (called Y s (pairOf n) r o) (rowDone X g n v k)
       any-read o L =
-          subst (λ (x : Option Spot). Row X n v (called X s (pairOf n) r x) (rowDone X g n v r))
+          subst (λ (x : Option Spot). Row X n v (called Y s (pairOf n) r x) (rowDone X g n v k))
           (sym
-          (one-outcome X F wo (oldOf n) v (omega arith) w (operation (rowsOf (X .new) n) r) fits
-          (subst (λ (u : ℕ). Lines5to18 X (oldOf n) u (operation (rowsOf (X .new) n) r) o) own L))) row-read
+          (one-outcome Y F wo (oldOf n) v (omega arith) w (operation (rowsOf (Y .new) n) r) fits
+          (subst (λ (u : ℕ). Lines5to18 Y (oldOf n) u (operation (rowsOf (Y .new) n) r) o) own L))) row-read

@@ -1,6 +1,6 @@
 -- Algorithm 1's search: it finds the least set that has n_0 and Δ and every node from which one of its nodes is reached
 -- by an edge; and on a graph whose edges are a record's targets it can be run to its end. Assumes nothing.
-use mathlib.Core.Path.{_≡_, refl, sym, ap, subst}
+use mathlib.Core.Path.{_≡_, refl, sym, ap, subst, _∙_}
 use mathlib.Core.Bool.{Bool, true, false, _&&_, _||_, not}
 use mathlib.Core.Logic.{inl, inr, ⊎-elim, _↔_, _≢_}
 use mathlib.Core.Option.{Option, some}
@@ -16,11 +16,13 @@ use Rattle.base.proofs.Repeat.{Falls, rests, repeated-keeps}
 use Rattle.base.proofs.Sums.{sum, sum-lt, sum-most}
 use Rattle.base.proofs.Tests.{T-true, is-true, and-true}
 use Rattle.chart.specs.Places.{newOf}
+use Rattle.chart.specs.Charts.{Chart, size, leaving}
+use Rattle.chart.specs.Possible.{possible}
 use Rattle.records.specs.Records.{Record, target}
 use Rattle.paper.specs.Nodes.{SetOf, _isIn_, _isNotIn_, _plus_, _minus_, Pair, Node, aligned, indicator, Edge, edge, onlyNode, number, nodeNumber, pairOf, Numbered, NodeNumbered}
 use Rattle.paper.specs.Algorithm2.{DifferenceGraph}
 use Rattle.paper.specs.Algorithm1.{Precedes, Turn, Search, line1, lines3to5}
-use Rattle.paper.specs.Returned.{Targeted}
+use Rattle.paper.specs.Returned.{Targeted, seat}
 use Rattle.paper.proofs.Members.{in-either, in-first, in-second, not-in, in-or-not, only-node, the-node, pair-is, number-is, number-below, numbered}
 
 -- ---- what any search finds
@@ -63,6 +65,9 @@ pub node-is : (x : Node) → NodeNumbered x → nodeOf (nodeNumber x) ≡ x
 unfolding nodeOf
 node-is (aligned n) B = rw (lt-ltb (number n) 4096 (number-below n B), nodeOf) (ap aligned (pair-is n B))
 node-is (indicator q) b = rw (le-ltb (4096 + q .0) 4096 (omega arith), nodeOf) (ap (λ (y : ℕ). indicator (record { 0 = y })) (omega arith))
+
+pub same-node : (x y : Node) → NodeNumbered x → NodeNumbered y → nodeNumber x ≡ nodeNumber y → x ≡ y
+same-node x y A B e = sym (node-is x A) ∙ ap nodeOf e ∙ node-is y B
 
 pub node-below : (x : Node) → NodeNumbered x → nodeNumber x < 4160
 node-below (aligned n) B = omega (arith, number-below n B)
@@ -135,9 +140,13 @@ pub record Found (G : DifferenceGraph) : Type 0 where
   pub search : Search G Q W
   pub emptied : (x : Node) → x isNotIn W
 
-module _ (R : Record) (G : DifferenceGraph) (edges : (e : Edge) → G .E e ↔ Targeted R e) where
+module _ (new : Chart) (R : Record) (G : DifferenceGraph) (edges : (e : Edge) → G .E e ↔ Targeted new R e) (few : (e : Edge) → Targeted new R e → e .row < 2) where
+  -- the target of pair n by the r-th of the rows that are left is x
+  hits : Node → Pair → ℕ → Bool
+  hits x n r = ltb r (size (leaving (possible new .table) (n .new .0))) && eqb (target (R .graph) (number n) (seat new (n .new) r)) (nodeNumber x)
+
   precedes : Node → SetOf Node
-  precedes x (aligned n) = small n && (eqb (target (R .graph) (number n) 0) (nodeNumber x) || eqb (target (R .graph) (number n) 1) (nodeNumber x))
+  precedes x (aligned n) = small n && (hits x n 0 || hits x n 1)
   precedes x (indicator q) = false
 
   precedes-numbered : (x p : Node) → p isIn precedes x → NodeNumbered p
@@ -147,31 +156,34 @@ module _ (R : Record) (G : DifferenceGraph) (edges : (e : Edge) → G .E e ↔ T
 
   module _ (x : Node) (B : NodeNumbered x) where
     precedes-so : (p : Node) → p isIn precedes x → Precedes G p x
-    unfolding precedes
+    unfolding precedes hits
     precedes-so (indicator q) e = absurd (T-true e)
     precedes-so (aligned n) e =
         let z = and-true (small n) _ e in
-        ⊎-elim (by 0 (small-numbered n (z .0)) (omega arith)) (by 1 (small-numbered n (z .0)) (omega arith)) (in-either (eqb (target (R .graph) (number n) 0) (nodeNumber x)) _ (z .1))
+        ⊎-elim (by 0 (small-numbered n (z .0))) (by 1 (small-numbered n (z .0))) (in-either (hits x n 0) (hits x n 1) (z .1))
       where
-        by : (r : ℕ) → Numbered n → r < 2 → eqb (target (R .graph) (number n) r) (nodeNumber x) ≡ true → Precedes G (aligned n) x
-        by r A b h =
+        by : (r : ℕ) → Numbered n → hits x n r ≡ true → Precedes G (aligned n) x
+        by r A h =
+            let y = and-true (ltb r (size (leaving (possible new .table) (n .new .0)))) _ h in
             record {
               pair = n;
               row = r;
               is = refl;
-              edge = edges (edge n r x) .1 (record { pred = A; two = b; succ = B; is = eqb-true (target (R .graph) (number n) r) (nodeNumber x) h });
+              edge = edges (edge n r x) .1 (record { pred = A; there = ltb-true r _ (y .0); succ = B; is = eqb-true (target (R .graph) (number n) (seat new (n .new) r)) (nodeNumber x) (y .1) });
             }
 
     so-precedes : (p : Node) → Precedes G p x → p isIn precedes x
-    unfolding precedes
+    unfolding precedes hits
     so-precedes p D =
         let t = edges (edge (D .pair) (D .row) x) .0 (D .edge) in
-        subst (λ (y : Node). y isIn precedes x) (sym (D .is)) (rw (numbered-small (D .pair) (t .pred)) (by (D .row) (t .two) (t .is)))
+        subst (λ (y : Node). y isIn precedes x) (sym (D .is)) (rw (numbered-small (D .pair) (t .pred)) (by (D .row) (few _ t) (hit (D .row) t)))
       where
-        by : (r : ℕ) → r < 2 → target (R .graph) (number (D .pair)) r ≡ nodeNumber x
-            → eqb (target (R .graph) (number (D .pair)) 0) (nodeNumber x) || eqb (target (R .graph) (number (D .pair)) 1) (nodeNumber x) ≡ true
-        by zero b h = in-first (eqb (target (R .graph) (number (D .pair)) 0) (nodeNumber x)) _ (eq-eqb (target (R .graph) (number (D .pair)) 0) (nodeNumber x) h)
-        by (suc zero) b h = in-second (eqb (target (R .graph) (number (D .pair)) 0) (nodeNumber x)) _ (eq-eqb (target (R .graph) (number (D .pair)) 1) (nodeNumber x) h)
+        hit : (r : ℕ) → Targeted new R (edge (D .pair) r x) → hits x (D .pair) r ≡ true
+        hit r t = rw (lt-ltb r _ (t .there), eq-eqb (target (R .graph) (number (D .pair)) (seat new (D .pair .new) r)) (nodeNumber x) (t .is))
+
+        by : (r : ℕ) → r < 2 → hits x (D .pair) r ≡ true → hits x (D .pair) 0 || hits x (D .pair) 1 ≡ true
+        by zero b h = in-first (hits x (D .pair) 0) (hits x (D .pair) 1) h
+        by (suc zero) b h = in-second (hits x (D .pair) 0) (hits x (D .pair) 1) h
         by (suc (suc r)) b h = absurd (omega arith)
 
   record Now : Type 0 where
