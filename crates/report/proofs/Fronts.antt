@@ -2,7 +2,7 @@
 -- Assumes nothing.
 use mathlib.Core.Path.{_≡_, refl, sym, ap, _∙_}
 use mathlib.Core.List.{List, [], _∷_, _++_}
-use Prim.Native.Nat.{ℕ, _+_, _*_, _%_, _≤_}
+use Prim.Native.Nat.{ℕ, _+_, _%_, _≤_}
 use native.Mathlib.Omega.{arith}
 use borrow.Author.Tests.{eq-eqb, ne-eqb}
 use lib.ListN.{length, getD, take, drop}
@@ -11,7 +11,7 @@ use Rattle.base.specs.declared.Refusal.{Refusal}
 use Rattle.text.specs.Written.{fieldsText}
 use Rattle.text.specs.inner.Puts.{Put}
 use Rattle.text.proofs.Puts.{put-then, put-length}
-use Rattle.records.specs.Records.{Graph, target}
+use Rattle.records.specs.Records.{Graph, graphOf, readTarget}
 use Rattle.report.specs.Lines.{line, refusalLine}
 use Rattle.report.specs.Transitions.{firstRow, transition, ofPair}
 use Rattle.condition.specs.declared.Summary.{Summary}
@@ -69,10 +69,11 @@ module _ (before : List ℕ) (at : ℕ) (t : List ℕ) (G : Graph) (n m : ℕ) w
   unfolding ofPair
   pair-none h = (rw (ne-eqb m 1 h, ofPair) (put-none before at), omega arith)
 
-  pub pair-two : (row : ℕ) (middle : List ℕ) (p : ℕ) (after : List ℕ) (r : ℕ) → m ≡ 1 → (row ≡ firstRow t (n % 64)) × (row ≤ 128)
-      → (Put before at (transition (G .marks) n row (getD (G .targets) (2 * n) 0)) middle p) × (p ≤ at + 45) → (Put middle p (transition (G .marks) n (row + 1) (target G n 1)) after r) × (r ≤ p + 45)
+  -- of the graph its targets alone are looked at
+  pub pair-two : (row x : ℕ) (middle : List ℕ) (p y : ℕ) (after : List ℕ) (r : ℕ) → m ≡ 1 → (row ≡ firstRow t (n % 64)) × (row ≤ 128)
+      → x ≡ readTarget t (graphOf [] (G .targets) []) n 0 → (Put before at (transition (G .marks) n row x) middle p) × (p ≤ at + 45)
+      → y ≡ readTarget t (graphOf [] (G .targets) []) n 1 → (Put middle p (transition (G .marks) n (row + 1) y) after r) × (r ≤ p + 45)
       → (Put before at (ofPair t G n m) after r) × (r ≤ at + 90)
-  unfolding ofPair
-  pair-two row middle p after r h e f g =
-      let z : 2 * n + 0 ≡ 2 * n = omega arith in
-      (rw (eq-eqb m 1 h, ofPair, z, ← e .0) (put-then (f .0) (g .0)), omega (arith, f .1, g .1))
+  unfolding ofPair readTarget
+  pair-two row x middle p y after r h e u f v g =
+      (rw (eq-eqb m 1 h, ofPair, ← e .0, ← u, ← v) (put-then (f .0) (g .0)), omega (arith, f .1, g .1))

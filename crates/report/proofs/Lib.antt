@@ -5,3 +5,4 @@ pub mod Fronts
 pub mod Going
 pub mod Lengths
 pub mod Whole
+pub mod Alike

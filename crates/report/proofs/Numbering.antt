@@ -8,7 +8,7 @@ use Prim.Native.Nat.{ℕ, zero, suc, _+_, _≤_, _<_}
 use native.Mathlib.Decide.{decLt}
 use native.Mathlib.Omega.{arith}
 use borrow.Author.Tests.{lt-ltb, le-ltb}
-use Rattle.chart.specs.Charts.{size, from, leavingOf}
+use Rattle.chart.specs.Charts.{size, from, rowsWhere}
 use Rattle.chart.specs.inner.Ascending.{Ascending}
 use Rattle.records.specs.Records.{rank}
 use Rattle.chart.proofs.Parts.{before, before-longer, before-same}
@@ -17,7 +17,7 @@ use Rattle.report.specs.Transitions.{rowsBelow, firstRow}
 module _ (t : List ℕ) (A : Ascending t) (i : ℕ) (inside : i < size t) where
   -- each row before row i leaves its place or a lower one
   passed : (n : ℕ) → n ≤ i → rowsBelow t (from t i) n + before t (from t i) n ≡ n
-  unfolding rowsBelow leavingOf
+  unfolding rowsBelow rowsWhere
   passed zero h = refl
   passed (suc n) h =
       let e = passed n (omega arith) in

@@ -1,13 +1,20 @@
--- Laws of counting rows and of the mark of a node.
+-- Laws of counting rows, of the rows that never hold and of the mark of a node.
 -- Assumes nothing.
 use mathlib.Core.Path.{_≡_, refl, sym, ap, _∙_}
-use mathlib.Core.List.{List}
-use Prim.Native.Nat.{ℕ, _+_, _*_, _≤_, _<_}
+use mathlib.Core.Bool.{Bool, true, false, cond}
+use mathlib.Core.List.{List, []}
+use Prim.Native.Nat.{ℕ, _+_, _-_, _*_, _%_, _≤_, _<_}
 use native.Mathlib.Numerals.{add-one}
 use native.Mathlib.Omega.{arith}
 use borrow.Author.Tests.{lt-ltb, le-ltb}
 use lib.ListN.{length, getD, List·getD-eq-default}
-use Rattle.chart.specs.Charts.{size}
+use Rattle.operations.specs.Operations.{kind}
+use Rattle.operations.specs.Trials.{neverHolds}
+use Rattle.chart.specs.Charts.{size, from, operation, rowsWhere, leaving}
+use Rattle.chart.specs.Places.{newOf}
+use Rattle.chart.proofs.Parts.{before, before-longer, before-same, whole, same-row}
+use Rattle.records.specs.Records.{graphOf, target, readTarget}
+use Rattle.records.proofs.Reading.{read-never, read-other}
 use Rattle.report.specs.Transitions.{rowsBelow, firstRow}
 
 -- i rows are counted
@@ -37,5 +44,59 @@ module _ (t : List ℕ) (q : ℕ) where
       let e : i ≡ size t = omega (arith, c .inside) in
       (c .is ∙ ap (rowsBelow t q) e, omega (arith, c .most, c .inside))
 
+-- ---- row k of a place
+-- of the first i rows so many leave place q that `left` rows of it are to come before its row k
+pub record Sought (t : List ℕ) (q k left i : ℕ) : Type 0 where
+  pub is : before t q i + left ≡ k
+  pub inside : i ≤ size t
+
+module _ (t : List ℕ) (q k : ℕ) where
+  pub sought-first : Sought t q k k 0
+  unfolding rowsWhere
+  sought-first = record { is = omega arith; inside = omega arith }
+
+  pub sought-one : (left i after : ℕ) → Sought t q k left i → i < size t → from t i ≡ q → (left ≡ 0 → ⊥) → after ≡ left - 1 → Sought t q k after (i + 1)
+  sought-one left i after s h g z e =
+      record { is = rw (add-one i) (omega (arith, s .is, before-longer t q i h g)); inside = omega arith }
+
+  pub sought-no : (left i after : ℕ) → Sought t q k left i → i < size t → (from t i ≡ q → ⊥) → after ≡ left → Sought t q k after (i + 1)
+  sought-no left i after s h g e =
+      record { is = rw (add-one i) (omega (arith, s .is, before-same t q i g)); inside = omega arith }
+
+  -- none is to come before row i, which leaves the place: it is its row k
+  pub sought-found : (left i : ℕ) (r : Bool) → Sought t q k left i → i < size t → from t i ≡ q → left ≡ 0 → r ≡ neverHolds (operation t i)
+      → r ≡ neverHolds (operation (leaving t q) k)
+  sought-found left i r s h g z e =
+      let p : before t q i ≡ k = omega (arith, s .is) in
+      e ∙ ap neverHolds (sym (same-row t q i h g .operation-same) ∙ ap (operation (leaving t q)) p)
+
+  -- past the rows of the place there is none that never holds
+  pub sought-end : (left i : ℕ) → Sought t q k left i → size t ≤ i → false ≡ neverHolds (operation (leaving t q) k)
+  unfolding leaving neverHolds kind
+  sought-end left i s h =
+      let z : i ≡ size t = omega (arith, s .inside) in
+      let u : before t q (size t) + left ≡ k = ap (λ (j : ℕ). before t q j + left) (sym z) ∙ s .is in
+      let e : getD (leaving t q) (k * 6 + 2) 0 ≡ 0 = List·getD-eq-default (leaving t q) 0 {n = k * 6 + 2} (omega (arith, whole t q (size t) (omega arith))) in
+      rw e
+
+-- ---- a target as a reader takes it
+module _ (t targets : List ℕ) (n k x : ℕ) (here : x ≡ target (graphOf [] targets []) n k) where
+  -- where there is none, the row does not matter
+  pub taken-none : x ≡ 65535 → x ≡ readTarget t (graphOf [] targets []) n k
+  unfolding readTarget
+  taken-none e = e ∙ go (neverHolds (operation (leaving t (newOf n .0)) k)) (sym e ∙ here)
+    where
+      go : (b : Bool) {y : ℕ} → 65535 ≡ y → 65535 ≡ cond b 65535 y
+      go true h = refl
+      go false h = h
+
+  module _ (r : Bool) (tested : r ≡ neverHolds (operation (leaving t (n % 64)) k)) where
+    pub taken-never : r ≡ true → 65535 ≡ readTarget t (graphOf [] targets []) n k
+    taken-never e = sym (read-never t (graphOf [] targets []) n k (sym tested ∙ e))
+
+    pub taken-other : r ≡ false → x ≡ readTarget t (graphOf [] targets []) n k
+    taken-other e = here ∙ sym (read-other t (graphOf [] targets []) n k (sym tested ∙ e))
+
+-- ---- marks
 pub no-node : (marks : List ℕ) (n : ℕ) → length marks ≤ n → 0 ≡ getD marks n 0
 no-node marks n h = sym (List·getD-eq-default marks 0 {n = n} h)

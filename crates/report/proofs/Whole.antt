@@ -14,7 +14,7 @@ use Rattle.base.specs.declared.Refusal.{Refusal}
 use Rattle.text.specs.Texts.{readText}
 use Rattle.text.proofs.Theorems.{cut-text}
 use Rattle.condition.specs.Builds.{recorded, summary}
-use Rattle.records.specs.Records.{Graph, graphOf}
+use Rattle.records.specs.Records.{Graph, graphOf, readTarget}
 use Rattle.report.specs.Lines.{refusalLine}
 use Rattle.report.specs.Transitions.{ofPair, ofPairs, remaining}
 use Rattle.report.specs.Printed.{bothRead, summaryLine, transitions, condition, conditionOf, printed}
@@ -35,7 +35,7 @@ portions-are t G (more h p ps) = ap₂ (λ (x y : List ℕ). x ++ y) (p .front .
 
 -- no set is looked at
 without-sets : (t : List ℕ) (G : Graph) (n : ℕ) (ms : List ℕ) → ofPairs t (graphOf (G .marks) (G .targets) []) n ms ≡ ofPairs t G n ms
-unfolding ofPairs ofPair
+unfolding ofPairs ofPair readTarget
 without-sets t G n [] = refl
 without-sets t G n (m ∷ ms) = ap (λ (l : List ℕ). ofPair t G n m ++ l) (without-sets t G (n + 1) ms)
 

@@ -8,7 +8,7 @@ use lib.ListN.{getD}
 use lib.Seq.{slice}
 use Rattle.chart.specs.Charts.{size, from}
 use Rattle.chart.specs.Places.{newOf}
-use Rattle.records.specs.Records.{Graph, target}
+use Rattle.records.specs.Records.{Graph, readTarget}
 use Rattle.report.specs.Lines.{line}
 
 -- ---- "row of the new table from 0"
@@ -28,12 +28,13 @@ unfoldable pub transition : List ℕ → ℕ → ℕ → ℕ → List ℕ
 transition marks n row x = elim (eqb x 65535) [ true ↦ [] | false ↦ line n row x (getD marks x 0) ]
 
 module _ (t : List ℕ) (G : Graph) where
-  -- "(target of an open pair)": those of pair n, whose mark is m, "for a place's first and second row"
+  -- "(target of an open pair)": those of pair n, whose mark is m, "for a place's first and second row". At a row that
+  -- never holds there is none: "readers of a record take 65535 there" (document 02, #101)
   unfoldable pub ofPair : ℕ → ℕ → List ℕ
   ofPair n m =
       elim (eqb m 1) [
-        | true ↦ transition (G .marks) n (firstRow t (newOf n .0)) (target G n 0)
-            ++ transition (G .marks) n (firstRow t (newOf n .0) + 1) (target G n 1)
+        | true ↦ transition (G .marks) n (firstRow t (newOf n .0)) (readTarget t G n 0)
+            ++ transition (G .marks) n (firstRow t (newOf n .0) + 1) (readTarget t G n 1)
         | false ↦ []
       ]
 

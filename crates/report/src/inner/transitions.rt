@@ -4,10 +4,15 @@ ghost use mathlib.Core.List.{[]};
 ghost use Prim.Native.Nat.{_+_, _<_, _≤_};
 ghost use lib.ListN.{length, getD};
 ghost use Rattle.text.specs.inner.Puts.{Put};
-ghost use Rattle.records.specs.Records.{graphOf};
+ghost use Rattle.operations.specs.Trials.{neverHolds};
+ghost use Rattle.chart.specs.Charts.{operation, leaving};
+ghost use Rattle.records.specs.Records.{graphOf, readTarget};
 ghost use Rattle.report.specs.Transitions.{firstRow, transition, ofPair};
 ghost use Rattle.report.specs.Portions.{Portioned};
 use crate::inner::lines::put_line;
+use chart::inner::rows::from_at;
+use chart::inner::rows::operation_at;
+use operations::assumptions::never_holds;
 
 // How far a portion goes: the pair that the next one begins with, and the count of its bytes.
 pub struct Extent {
@@ -30,6 +35,42 @@ fn first_row(table: &[u32], place: u32) -> usize
         i += 1;
     }
     rows
+}
+
+// Whether row k of a place can never be taken: an assumption that no values meet. The rows of the place are counted as
+// they come, so that the table may have any order.
+fn never_row(table: &[u32], place: u32, k: usize) -> bool
+    ensures { λ r. ⌜ r ≡ neverHolds (operation (leaving (now (table .entry)) place) k) ⌝ }
+{
+    let n = table.len() / 6;
+    let mut left = k;
+    let mut i = 0;
+    while i < n {
+        if from_at(table, i) == place {
+            if left == 0 {
+                return never_holds(operation_at(table, i));
+            }
+            left -= 1;
+        }
+        i += 1;
+    }
+    false
+}
+
+// The target, at a pair, of row k of its new place, as a reader takes it: none where the row never holds. Where there
+// is none anyway, the table need not be looked at.
+fn read_target(table: &[u32], targets: &[u16], pair: usize, k: usize) -> u16
+    requires { ⌜ (pair < 4096) × (k < 2) × (length (now targets) ≡ 8192) ⌝ }
+    ensures { λ r. ⌜ r ≡ readTarget (now (table .entry)) (graphOf [] (now (targets .entry)) []) pair k ⌝ }
+{
+    let entry = targets[2 * pair + k];
+    if entry == 65535 {
+        return entry;
+    }
+    if never_row(table, (pair % 64) as u32, k) {
+        return 65535;
+    }
+    entry
 }
 
 // The mark of a node; what is no node has none.
@@ -90,10 +131,11 @@ pub fn put_pair(
     if marks[pair] != 1 {
         return at;
     }
-    let first = 2 * pair;
     let row = first_row(table, (pair % 64) as u32);
-    let p = put_transition(bytes, at, marks, pair, row, targets[first]);
-    put_transition(bytes, p, marks, pair, row + 1, targets[first + 1])
+    let one = read_target(table, targets, pair, 0);
+    let p = put_transition(bytes, at, marks, pair, row, one);
+    let two = read_target(table, targets, pair, 1);
+    put_transition(bytes, p, marks, pair, row + 1, two)
 }
 
 // The transitions of some pairs from this one on, as far as the bytes have room.

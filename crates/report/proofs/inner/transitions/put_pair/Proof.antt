@@ -1,4 +1,4 @@
--- The transitions of a pair that is not open are none. Assumes nothing.
+-- A pair that is not open has no transitions; an open one has those of its two rows, as read. Assumes nothing.
 use Rattle.report.proofs.Fronts.{pair-none, pair-two}
 use borrow.Author.Needs.{needs}
 use Rattle.report.proofs.inner.transitions.put_pair.Statement.{statement}
@@ -10,35 +10,23 @@ shared-slice-read-if1 c = search needs
 returns : tie.Need-returns
 returns c = pair-none _ _ _ _ _ _ (c .if1 .taken)
 
-mul-first : tie.Need-mul-first
-mul-first c = search needs
-
 cast-first-row : tie.Need-cast-first-row
 cast-first-row c = search needs
 
 first-row-requires : tie.Need-first-row-requires
 first-row-requires c κs = search needs
 
-mul-put-transition : tie.Need-mul-put-transition
-mul-put-transition c = search needs
-
-shared-slice-read-put-transition : tie.Need-shared-slice-read-put-transition
-shared-slice-read-put-transition c = search needs
+read-target-requires : tie.Need-read-target-requires
+read-target-requires c κs = search needs
 
 put-transition-requires : tie.Need-put-transition-requires
 put-transition-requires c κs = search needs
 
+read-target-requires-2 : tie.Need-read-target-requires-2
+read-target-requires-2 c κs = search needs
+
 add-put-transition : tie.Need-add-put-transition
 add-put-transition c = search needs
-
-add-put-transition-2 : tie.Need-add-put-transition-2
-add-put-transition-2 c = search needs
-
-mul-put-transition-2 : tie.Need-mul-put-transition-2
-mul-put-transition-2 c = search needs
-
-shared-slice-read-put-transition-2 : tie.Need-shared-slice-read-put-transition-2
-shared-slice-read-put-transition-2 c = search needs
 
 put-transition-requires-2 : tie.Need-put-transition-requires-2
 put-transition-requires-2 c κs = search needs
@@ -47,7 +35,9 @@ same-length : tie.Need-same-length
 same-length c = search needs
 
 returns-2 : tie.Need-returns-2
-returns-2 c = pair-two _ _ _ _ _ _ _ _ _ _ _ (c .before .before .before .before .before .before .before .before .before .before .before .if1 .left) (c .before .before .before .before .before .before .before .before .before .before .first-row .ensures) (c .before .before .before .before .before .before .before .put-transition .ensures) (c .before .before .put-transition2 .ensures)
+returns-2 c =
+    pair-two _ _ _ _ _ _ _ _ _ _ _ _ _ (c .before .before .before .before .before .before .before .before .before .before .before .if1 .left) (c .before .before .before .before .before .before .before .before .before .before .first-row .ensures) (c .before .before .before .before .before .before .before .before .before .read-target .ensures) (c .before .before .before .before .before .before .before .put-transition .ensures)
+    (c .before .before .before .before .read-target2 .ensures) (c .before .before .put-transition2 .ensures)
 
 pub put-pair-spec : {M : Type 1} → statement M
 put-pair-spec =
@@ -55,16 +45,12 @@ put-pair-spec =
     (tie.spec
     shared-slice-read-if1
     returns
-    mul-first
     cast-first-row
     first-row-requires
-    mul-put-transition
-    shared-slice-read-put-transition
+    read-target-requires
     put-transition-requires
+    read-target-requires-2
     add-put-transition
-    add-put-transition-2
-    mul-put-transition-2
-    shared-slice-read-put-transition-2
     put-transition-requires-2
     same-length
     returns-2)
