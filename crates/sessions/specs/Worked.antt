@@ -1,5 +1,5 @@
--- The cases that document 01 marks by § ("Worked sessions"), in its order, and those of document 02 that have landed.
--- That each is so is one theorem, in proofs/Theorem.antt.
+-- The cases that document 01 marks by § ("Worked sessions"), in its order, and one for each of #102 and #101 of
+-- document 02. That each is so is one theorem, in proofs/Theorem.antt.
 use mathlib.Core.List.{List, [], _∷_}
 use Prim.Native.String.{String}
 use Rattle.sessions.specs.Cases.{Case, prints, implied, notImplied, anything, sum, constant, signedConstant, variables}
@@ -15,6 +15,14 @@ amended = "6,5,5,0,0,0\r\n0,1,0,1,0,6\r\n1,2,18,0,0,100\r\n1,3,21,0,0,100\r\n3,5
 -- "New alarm 0"
 abbrev pub alarmed : String
 alarmed = "6,0,5,0,0,0\r\n0,1,0,1,0,5\r\n1,2,18,0,0,100\r\n1,3,21,0,0,100\r\n3,5,20,1,0,50\r\n3,4,19,1,0,50\r\n"
+
+-- the files of a case of #101 (document 02): v0 < 0 never holds. In the old chart it does not lead to the alarm
+abbrev pub oldNever : String
+oldNever = "3,2,3,0,0,0\r\n0,1,18,0,0,0\r\n0,2,21,0,0,0\r\n1,2,0,0,0,1\r\n"
+
+-- in the new one it does
+abbrev pub newNever : String
+newNever = "3,2,3,0,0,0\r\n0,2,18,0,0,0\r\n0,1,21,0,0,0\r\n1,2,0,0,0,1\r\n"
 
 -- "Those with §, gathered as one list checked by one theorem."
 unfoldable pub worked : List Case
@@ -44,4 +52,6 @@ worked =
     ∷ sum 4294967295 1 0
     -- "v0 <s 0 implies v0 ≥ 2147483648" (document 02, #102)
     ∷ implied (signedConstant 2 0 0) (constant 5 0 2147483648)
+    -- "A new row that never holds has target 65535, nothing is explored behind it" (document 02, #101)
+    ∷ prints oldNever newNever "0,1,0,1\r\n0,1,129,3\r\n"
     ∷ []
