@@ -1,5 +1,6 @@
 //! Algorithms 1 and 2 of the source, written line by line from it over sets and lists of their own, and made total by document 01's order
-//! (the lowest waiting pair first) and cut (a place come to twice). They share nothing with the proved code.
+//! (the lowest waiting pair first) and cut (a place come to twice). They are given the new chart without its rows that
+//! never hold (document 02, #101). They share nothing with the proved code.
 
 use crate::{model, Chart, Operation};
 use std::collections::{BTreeMap, BTreeSet, HashMap, HashSet};
@@ -68,11 +69,14 @@ struct Automaton<L> {
 }
 
 impl<L: Copy + Ord> Automaton<L> {
-    fn new(chart: &Chart, location: impl Fn(u32) -> L) -> Automaton<L> {
+    /// That of a chart without the rows that are not asked for. An edge has its row number in the whole table.
+    fn new(chart: &Chart, location: impl Fn(u32) -> L, asked_for: impl Fn(Operation) -> bool) -> Automaton<L> {
         let mut edges: BTreeMap<L, Vec<Edge<L>>> = BTreeMap::new();
         for row in 0..chart.rows.len() / 6 {
             let (from, to, op) = model::row(&chart.rows, row);
-            edges.entry(location(from)).or_default().push(Edge { row, op, to: location(to) });
+            if asked_for(op) {
+                edges.entry(location(from)).or_default().push(Edge { row, op, to: location(to) });
+            }
         }
         Automaton { edges, err: location(chart.alarm) }
     }
@@ -227,9 +231,9 @@ impl Detector<'_> {
     }
 }
 
-/// Algorithm 2.
-pub fn difference_graph(old: &Chart, new: &Chart) -> DifferenceGraph {
-    let (old, new) = (Automaton::new(old, Old), Automaton::new(new, New));
+/// Algorithm 2, given the old chart whole and the new one without the rows that are not asked for.
+fn difference_graph(old: &Chart, new: &Chart, asked_for: impl Fn(Operation) -> bool) -> DifferenceGraph {
+    let (old, new) = (Automaton::new(old, Old, |_| true), Automaton::new(new, New, asked_for));
     Detector {
         old: &old,
         new: &new,
@@ -285,9 +289,16 @@ pub struct Built {
     pub waiting: Vec<u8>,
 }
 
-/// Both algorithms for two faultless charts, laid out as document 01 says.
+/// Both algorithms for two faultless charts, given the new one without its rows that never hold.
 pub fn build(old: &Chart, new: &Chart) -> Built {
-    let graph = difference_graph(old, new);
+    build_by(old, new, |o| !never_holds(o))
+}
+
+/// Both algorithms for two faultless charts, given the new one without the rows that are not asked for, laid out as
+/// document 01 says: a target stands where the whole table has its row, as the place's first or second one. To ask for
+/// other rows than `build` does is to be wrong, so as to see that charts tell it from what is right.
+pub fn build_by(old: &Chart, new: &Chart, asked_for: impl Fn(Operation) -> bool) -> Built {
+    let graph = difference_graph(old, new, asked_for);
     let states = condition(&graph);
     let mut built = Built {
         start: graph.start.number() as u32,
@@ -325,14 +336,15 @@ pub fn build(old: &Chart, new: &Chart) -> Built {
     built
 }
 
-/// The records that the program prints, without their CRLF.
+/// The records that the program prints, without their CRLF. Whoever reads a record takes 65535 for the target of a row
+/// that never holds.
 pub fn printed(new: &Chart, start: u32, counts: [u32; 3], marks: &[u8], targets: &[u16]) -> Vec<String> {
     let mut records = vec![format!("{start},{},{},{}", counts[0], counts[1], counts[2])];
     for from in (0..4096).filter(|&n| marks[n] == 1) {
         let rows = (0..new.rows.len() / 6).filter(|i| new.rows[6 * i] as usize == from % 64);
         for (which, row) in rows.enumerate() {
             let to = targets[2 * from + which];
-            if to != 65535 {
+            if to != 65535 && !never_holds(model::row(&new.rows, row).2) {
                 records.push(format!("{from},{row},{to},{}", marks[to as usize]));
             }
         }
@@ -432,6 +444,11 @@ fn met_within(all: &[Operation], mut bounds: Bounds, seats: &[Seat]) -> bool {
         }
         met_within(rest, bounds, seats)
     })
+}
+
+/// Whether an operation is an assumption that no values meet.
+pub fn never_holds(o: Operation) -> bool {
+    model::is_assumption(o) && !met_together(&[o])
 }
 
 /// 0 where no values meet the first, 1 where all that meet it meet the second, else 2.

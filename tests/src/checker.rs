@@ -1,5 +1,6 @@
 //! The checker once more, in plain Rust, written from "One aligned step", "The checker" and "Who can cause a refusal" of document 01, and
-//! following a run. It shares nothing with the proved code, and its step nothing with the detector of `algorithms`.
+//! following a run. It shares nothing with the proved code, its step nothing with the detector of `algorithms`, and
+//! what it does not look at (document 02, #101) is found by the trial of values.
 
 use crate::texts::{self, Refusal};
 use crate::{algorithms, model, Chart, Operation};
@@ -122,9 +123,14 @@ fn broken_rule(old: &Chart, new: &Chart, record: &Record) -> Option<usize> {
         return Some(8192);
     }
     let (old_rows, new_rows) = (rows_by_place(old), rows_by_place(new));
+    let never = never_held(new);
     for pair in (0..4096).filter(|&n| marks[n] != 0) {
         let (p, q) = (pair as u32 / 64, pair % 64);
         for (which, &row) in new_rows[q].iter().enumerate() {
+            // "refusal 32 ignores its target", by either rule and at the old alarm too.
+            if never[row.0] {
+                continue;
+            }
             let index = 2 * pair + which;
             let target = record.targets[index] as usize;
             let q2 = row.1 as usize;
@@ -145,14 +151,30 @@ fn broken_rule(old: &Chart, new: &Chart, record: &Record) -> Option<usize> {
     None
 }
 
-/// Whether a run of the new chart, given by its row numbers, is covered by a record.
-pub fn covers(new: &Chart, record: &Record, run: &[usize]) -> bool {
+/// By row of a chart: whether it never holds.
+pub fn never_held(chart: &Chart) -> Vec<bool> {
+    (0..chart.rows.len() / 6).map(|row| model::never_holds(model::row(&chart.rows, row).2)).collect()
+}
+
+/// Whether a list of rows of the new chart, given by their numbers, is covered by a record. "readers of a record take
+/// 65535" for the target of a row that never holds, whatever stands there.
+pub fn covers(new: &Chart, record: &Record, rows: &[usize]) -> bool {
+    follows(new, record, rows, |row| model::never_holds(model::row(&new.rows, row).2))
+}
+
+/// The same for one who takes the targets as they stand: no matter for a run, which takes no row that never holds.
+pub fn covers_as_it_stands(new: &Chart, record: &Record, run: &[usize]) -> bool {
+    follows(new, record, run, |_| false)
+}
+
+/// Whether rows lead to a node with mark 3, those that lead nowhere said by their number.
+fn follows(new: &Chart, record: &Record, rows: &[usize], nowhere: impl Fn(usize) -> bool) -> bool {
     let mut node = record.start as usize;
     if record.marks[node] == 3 {
         return true;
     }
-    for &row in run {
-        if node >= 4096 || record.marks[node] != 1 {
+    for &row in rows {
+        if node >= 4096 || record.marks[node] != 1 || nowhere(row) {
             return false;
         }
         let from = new.rows[6 * row];

@@ -72,6 +72,9 @@ pub fn pair(random: &mut Random, sort: Sort) -> (Chart, Chart) {
                 if random.below(3) == 0 {
                     compare_in_the_other_order(chart);
                 }
+                if random.below(4) == 0 {
+                    bar_some_rows(random, chart);
+                }
             }
             let [old, new] = both;
             (old, new)
@@ -138,6 +141,16 @@ fn assignment(random: &mut Random, taste: Taste) -> Operation {
     operation(random, taste, &model::CODES[..6])
 }
 
+/// The operation of a row that is alone at its place: an assignment, or where both orders are drawn now and then an
+/// assumption that no values meet.
+fn alone(random: &mut Random, taste: Taste) -> Operation {
+    if taste.orders == Orders::Both && random.below(60) == 0 {
+        impossible(random, taste)
+    } else {
+        assignment(random, taste)
+    }
+}
+
 /// A signed assumption and an unsigned one of one variable, of which exactly one holds, each as its code and constant:
 /// one half of the numbers beside the other, or one number beside all others.
 const MIXED: [[(u32, u32); 2]; 8] = [
@@ -151,7 +164,28 @@ const MIXED: [[(u32, u32); 2]; 8] = [
     [(24, u32::MAX), (18, u32::MAX)],
 ];
 
-/// Two assumptions of which exactly one holds, now and then of different operands or in different orders.
+/// An assumption that no values meet: beyond an end of either order, or of a variable and itself.
+fn impossible(random: &mut Random, taste: Taste) -> Operation {
+    let a = random.below(taste.variables) as u32;
+    let beyond = random.one_of(&[(18, 0), (20, u32::MAX), (26, HALF), (28, HALF - 1)]);
+    let itself = random.one_of(&[33, 34, 36, 41, 42, 44]);
+    if random.below(2) == 0 {
+        Operation { code: beyond.0, a, b: 0, c: beyond.1 }
+    } else {
+        Operation { code: itself, a, b: a, c: 0 }
+    }
+}
+
+/// An assumption that no values meet and one that all do, its opposite or that of another one, in either order.
+fn barred(random: &mut Random, taste: Taste) -> (Operation, Operation) {
+    let never = impossible(random, taste);
+    let of = if random.below(2) == 0 { never } else { impossible(random, taste) };
+    let always = Operation { code: of.code / 8 * 8 + [1, 0, 5, 4, 3, 2][of.code as usize % 8], ..of };
+    random.one_of(&[(never, always), (always, never)])
+}
+
+/// Two assumptions of which exactly one holds, now and then of different operands or in different orders, or such that
+/// one of them never holds.
 fn choice(random: &mut Random, taste: Taste) -> (Operation, Operation) {
     let o = operation(random, taste, taste.codes());
     let (over, r) = (o.code / 8 * 8, o.code as usize % 8);
@@ -169,8 +203,25 @@ fn choice(random: &mut Random, taste: Taste) -> (Operation, Operation) {
             random.one_of(&[(f, g), (g, f)])
         }
         (5 | 6, _) if r < 2 => (o, in_the_other_order(other)),
+        (7, _) => barred(random, taste),
         _ => (o, other),
     }
+}
+
+/// Bars one of the two rows, by v0 alone, at a few places of a wide chart.
+fn bar_some_rows(random: &mut Random, chart: &mut Chart) {
+    let taste = Taste::both(1, 1);
+    for i in 1..chart.rows.len() / 6 {
+        if chart.rows[6 * i] == chart.rows[6 * i - 6] && random.below(16) == 0 {
+            let (f, g) = barred(random, taste);
+            set_operation(chart, i - 1, f);
+            set_operation(chart, i, g);
+        }
+    }
+}
+
+fn set_operation(chart: &mut Chart, row: usize, o: Operation) {
+    chart.rows[6 * row + 2..6 * row + 6].copy_from_slice(&[o.code, o.a, o.b, o.c]);
 }
 
 /// Turns every comparison of a wide chart, which has v < 5 beside v ≥ 5 alone, to the other order.
@@ -199,7 +250,8 @@ fn instead(random: &mut Random, taste: Taste, another: (Operation, Operation), f
 /// Nothing but choices.
 const ALL: u64 = u64::MAX;
 
-/// Per place, of ten and so many: no row, one assumption, an assignment (eight of them), or a choice of two assumptions.
+/// Per place, of ten and so many: no row, one assumption, an assignment (eight of them, now and then an assumption that
+/// never holds), or a choice of two assumptions.
 fn graph(random: &mut Random, taste: Taste, places: u32, choices: u64) -> Chart {
     let mut rows = Vec::new();
     for from in 0..places {
@@ -207,7 +259,7 @@ fn graph(random: &mut Random, taste: Taste, places: u32, choices: u64) -> Chart 
         match if choices == ALL { ALL } else { random.below(10 + choices) } {
             0 => {}
             1 => put(&mut rows, from, to[0], operation(random, taste, taste.codes())),
-            2..=9 => put(&mut rows, from, to[0], assignment(random, taste)),
+            2..=9 => put(&mut rows, from, to[0], alone(random, taste)),
             _ => {
                 let (f, g) = choice(random, taste);
                 put(&mut rows, from, to[0], f);
@@ -240,9 +292,8 @@ fn amended_graph(random: &mut Random, taste: Taste, old: &Chart) -> Chart {
                 let [f, g] = [first, first + 1].map(|j| model::row(&new.rows, j).2);
                 let another = choice(random, taste);
                 let (f, g) = instead(random, taste, another, f, g);
-                for (j, o) in [(first, f), (first + 1, g)] {
-                    new.rows[6 * j + 2..6 * j + 6].copy_from_slice(&[o.code, o.a, o.b, o.c]);
-                }
+                set_operation(&mut new, first, f);
+                set_operation(&mut new, first + 1, g);
             }
             2 if both => {
                 for k in 0..6 {
@@ -251,8 +302,8 @@ fn amended_graph(random: &mut Random, taste: Taste, old: &Chart) -> Chart {
             }
             3 if random.below(4) == 0 => new.alarm = random.below(new.places as u64) as u32,
             _ if model::is_assignment(o) => {
-                let o = assignment(random, taste);
-                new.rows[6 * i + 2..6 * i + 6].copy_from_slice(&[o.code, o.a, o.b, o.c]);
+                let o = alone(random, taste);
+                set_operation(&mut new, i, o);
             }
             4 if !both && taste.orders == Orders::Both => new.rows[6 * i + 2] = in_the_other_order(o).code,
             _ => {}
@@ -265,7 +316,8 @@ fn amended_graph(random: &mut Random, taste: Taste, old: &Chart) -> Chart {
 
 #[derive(Clone)]
 enum Statement {
-    Assign(Operation),
+    /// An assignment, or an assumption that never holds.
+    Alone(Operation),
     /// The first assumption leads to the alarm.
     Check(Operation, Operation),
     If(Operation, Operation, Vec<Statement>, Vec<Statement>),
@@ -276,7 +328,7 @@ fn statement(random: &mut Random, taste: Taste, depth: u32) -> Statement {
     let (f, g) = choice(random, taste);
     match random.below(if depth == 0 { 6 } else { 9 }) {
         0 => Statement::Check(f, g),
-        1..=5 => Statement::Assign(assignment(random, taste)),
+        1..=5 => Statement::Alone(alone(random, taste)),
         6 | 7 => Statement::If(f, g, block(random, taste, depth - 1), block(random, taste, depth - 1)),
         _ => Statement::While(f, g, block(random, taste, depth - 1)),
     }
@@ -291,7 +343,7 @@ fn places_of(block: &[Statement]) -> u32 {
     block
         .iter()
         .map(|s| match s {
-            Statement::Assign(_) | Statement::Check(..) => 1,
+            Statement::Alone(_) | Statement::Check(..) => 1,
             Statement::If(_, _, yes, no) => 3 + places_of(yes) + places_of(no),
             Statement::While(_, _, body) => 2 + places_of(body),
         })
@@ -312,7 +364,7 @@ fn amend(random: &mut Random, taste: Taste, block: &mut Vec<Statement>) {
     }
     let another = choice(random, taste);
     match &mut block[at] {
-        Statement::Assign(o) => *o = assignment(random, taste),
+        Statement::Alone(o) => *o = alone(random, taste),
         Statement::Check(f, g) => (*f, *g) = instead(random, taste, another, *f, *g),
         Statement::If(f, g, yes, no) => match random.below(4) {
             0 => (*f, *g) = instead(random, taste, another, *f, *g),
@@ -342,7 +394,7 @@ fn chart_of(procedure: &[Statement]) -> Chart {
         fn lay(&mut self, block: &[Statement], mut at: u32) -> u32 {
             for s in block {
                 at = match s {
-                    Statement::Assign(o) => {
+                    Statement::Alone(o) => {
                         let end = self.place();
                         self.rows.push((at, end, *o));
                         end

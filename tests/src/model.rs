@@ -123,6 +123,12 @@ pub fn implies(f: Operation, g: Operation) -> u32 {
     }
 }
 
+/// Whether an operation is an assumption that no values meet: a row with it can never be taken. Whether it is an
+/// assumption is asked first, as an assignment holds of nothing and is always taken.
+pub fn never_holds(o: Operation) -> bool {
+    is_assumption(o) && !together(o, true, o, true)
+}
+
 pub fn row(rows: &[u32], i: usize) -> (u32, u32, Operation) {
     let r = &rows[6 * i..6 * i + 6];
     (r[0], r[1], Operation { code: r[2], a: r[3], b: r[4], c: r[5] })

@@ -26,20 +26,38 @@ fn blocks<'a>(file: &'a str, words: &'a [&str]) -> impl Iterator<Item = Vec<&'a 
     })
 }
 
-/// The text of the old chart, that of the new one and what the program prints: of document 01, and of signed comparisons.
-fn pairs() -> Vec<Vec<&'static str>> {
+/// The blocks of a few files, of each no fewer than it had.
+fn blocks_of(files: &[(&'static str, usize)], words: &'static [&str]) -> Vec<Vec<&'static str>> {
     let mut all = Vec::new();
-    for (file, least) in [(include_str!("../vectors/pairs.txt"), 300), (include_str!("../vectors/102/pairs.txt"), 150)] {
+    for &(file, least) in files {
         let before = all.len();
-        all.extend(blocks(file, &["old", "new", "out"]));
-        assert!(all.len() >= before + least, "only {} pairs of {least}", all.len() - before);
+        all.extend(blocks(file, words));
+        assert!(all.len() >= before + least, "only {} blocks of {least}", all.len() - before);
     }
     all
 }
 
-/// Old chart, new chart, the edits of the built record and the checker's answer.
+/// The text of the old chart, that of the new one and what the program prints: of document 01 (as #101 amends it), of
+/// rows that never hold, and of signed comparisons.
+fn pairs() -> Vec<Vec<&'static str>> {
+    let files = [
+        (include_str!("../vectors/pairs.txt"), 300),
+        (include_str!("../vectors/101/pairs.txt"), 150),
+        (include_str!("../vectors/102/pairs.txt"), 150),
+    ];
+    blocks_of(&files, &["old", "new", "out"])
+}
+
+/// Old chart, new chart, the edits of the built record and the checker's answer: of document 01 (as #101 amends it),
+/// and of rows that never hold.
 fn records() -> Vec<(Chart, Chart, &'static str, Result<(), Refusal>)> {
-    let all: Vec<_> = blocks(include_str!("../vectors/records.txt"), &["old", "new", "edits", "answer"])
+    let files = [
+        (include_str!("../vectors/records.txt"), 400),
+        (include_str!("../vectors/101/records.txt"), 200),
+        (include_str!("../vectors/101/edge-records.txt"), 12),
+    ];
+    blocks_of(&files, &["old", "new", "edits", "answer"])
+        .into_iter()
         .map(|lines| {
             let answer = match lines[3].split_whitespace().collect::<Vec<_>>()[..] {
                 ["passed"] => Ok(()),
@@ -48,9 +66,7 @@ fn records() -> Vec<(Chart, Chart, &'static str, Result<(), Refusal>)> {
             };
             (chart_of(lines[0]), chart_of(lines[1]), lines[2], answer)
         })
-        .collect();
-    assert!(all.len() >= 400, "only {} records", all.len());
-    all
+        .collect()
 }
 
 fn edit(record: &mut Record, edits: &str) {
@@ -92,6 +108,64 @@ fn vectors_of_records_as_rendered() {
     }
 }
 
+/// Rows that never hold, and rows that are none. Old chart, new chart, what is printed, and what a wrong program
+/// prints: one that explores such rows, or one that takes assignments for them.
+const NEVER: [[&str; 4]; 7] = [
+    // The worked session of #101: v0 < 0 comes to the new alarm beside an old place that isn't the old one.
+    [
+        "3,2,3,0,0,0 0,1,18,0,0,0 0,2,21,0,0,0 1,2,0,0,0,1",
+        "3,2,3,0,0,0 0,2,18,0,0,0 0,1,21,0,0,0 1,2,0,0,0,1",
+        "0,1,0,1 0,1,129,3",
+        "0,1,1,1 0,0,4098,2 0,1,129,3",
+    ],
+    // The same with such a row second, and signed: v0 ≤s 2147483647, then v0 >s 2147483647.
+    [
+        "3,2,3,0,0,0 0,2,27,0,0,2147483647 0,1,28,0,0,2147483647 1,2,0,0,0,1",
+        "3,2,3,0,0,0 0,1,27,0,0,2147483647 0,2,28,0,0,2147483647 1,2,0,0,0,1",
+        "0,1,0,1 0,0,129,3",
+        "0,1,1,1 0,0,129,3 0,1,4098,2",
+    ],
+    // Alone at its place, of a variable and itself, beside an old assignment that comes back to its place.
+    ["2,1,1,0,0,0 0,0,0,0,0,1", "3,2,2,0,0,0 0,1,41,5,5,0 1,2,0,0,0,7", "0,1,0,0", "0,1,1,0 0,0,4097,2"],
+    // v5 := v5 + 1, v5 := v5, v5 := v5 − v1 and v5 := v6 + 0: by the code's remainder by 8 and the operands alone, as
+    // if they were v5 < v5, v5 ≠ v5, v5 > v5 and v5 < 0, they would never hold.
+    ["2,1,1,0,0,0 0,0,0,0,0,1", "2,1,1,0,0,0 0,0,2,5,5,1", "0,1,0,0 0,0,0,1", "0,1,0,0"],
+    ["2,1,1,0,0,0 0,0,0,0,0,1", "2,1,1,0,0,0 0,0,1,5,5,0", "0,1,0,0 0,0,0,1", "0,1,0,0"],
+    ["2,1,1,0,0,0 0,0,0,0,0,1", "2,1,1,0,0,0 0,0,4,5,5,1", "0,1,0,0 0,0,0,1", "0,1,0,0"],
+    ["2,1,1,0,0,0 0,0,0,0,0,1", "2,1,1,0,0,0 0,0,2,5,6,0", "0,1,0,0 0,0,0,1", "0,1,0,0"],
+];
+
+/// What one would say who asks of an assignment too whether it never holds, as of a comparison of va with vb or with c.
+fn never_by_operands(o: Operation) -> bool {
+    algorithms::never_holds(o) || ([1, 2, 4].contains(&o.code) && o.a == o.b) || (o.code == 2 && o.c == 0)
+}
+
+#[test]
+fn rows_that_never_hold_as_rendered() {
+    for [old, new, out, wrong] in NEVER {
+        rendered(old, new, out);
+        let (old, new) = (chart_of(old), chart_of(new));
+        let built = if rows_that_never_hold(&new).is_empty() {
+            algorithms::build_by(&old, &new, |o| !never_by_operands(o))
+        } else {
+            algorithms::build_by(&old, &new, |_| true)
+        };
+        assert_eq!(as_it_stands(&new, &built).join(" "), wrong, "{old:?} {new:?}");
+    }
+}
+
+/// What one would print who takes every target as it stands.
+fn as_it_stands(new: &Chart, built: &algorithms::Built) -> Vec<String> {
+    let mut records = vec![format!("{},{},{},{}", built.start, built.open, built.kept, built.covered)];
+    for from in (0..4096).filter(|n| built.marks[*n] == 1) {
+        let rows = (0..new.rows.len() / 6).filter(|i| new.rows[6 * i] as usize == from % 64);
+        for (row, &to) in rows.zip(&built.targets[2 * from..]).filter(|(_, to)| **to != 65535) {
+            records.push(format!("{from},{row},{to},{}", built.marks[to as usize]));
+        }
+    }
+    records
+}
+
 /// The worked sessions of document 01.
 #[test]
 fn worked_sessions_as_rendered() {
@@ -107,11 +181,18 @@ fn worked_sessions_as_rendered() {
     }
 }
 
-/// The quick test of two assumptions agrees with the vectors and with the slow one.
+/// The quick test of two assumptions agrees with the vectors and with the slow one, and so does that of one of them.
 #[test]
 fn implication_by_differences() {
     for (f, g, answer) in vectors::implications() {
         assert_eq!([algorithms::implies(f, g), model::implies(f, g)], [answer; 2], "{f:?} {g:?}");
+        assert_eq!([algorithms::never_holds(f), model::never_holds(f)], [answer == 0; 2], "{f:?}");
+    }
+    // No assignment is an assumption that no values meet, whatever its operands.
+    for code in 0..6 {
+        let (b, c) = (if code == 0 { 0 } else { 5 }, if code == 3 || code == 4 { 5 } else { 0 });
+        let o = Operation { code, a: 5, b, c };
+        assert_eq!([algorithms::never_holds(o), model::never_holds(o)], [false; 2], "{o:?}");
     }
     let mut random = Random::new(20267);
     for _ in 0..cases(3000) {
@@ -179,7 +260,7 @@ fn drawn_charts_are_varied() {
     let (mut signed, mut both_orders, mut other_order) = (0, 0, 0);
     for sort in SORTS {
         let (mut marks, mut lone, mut most) = ([0usize; 5], 0, 0);
-        for _ in 0..cases(if sort == Sort::Wide { 20 } else { 40 }) {
+        for _ in 0..cases(if sort == Sort::Wide { 20 } else { 200 }) {
             let (old, new) = drawn::pair(&mut random, sort);
             let built = algorithms::build(&old, &new);
             for &mark in &built.marks {
@@ -200,6 +281,68 @@ fn drawn_charts_are_varied() {
     }
     println!("signed rows {signed}; rows beside one of the other order {both_orders}, amended to the other order {other_order}");
     assert!(signed > 3000 && both_orders > 500 && other_order > 50);
+}
+
+/// How a row that never holds stands in a chart.
+#[derive(Clone, Copy, Debug, PartialEq, Eq, PartialOrd, Ord)]
+enum Stand {
+    Alone,
+    First,
+    Second,
+}
+
+/// The rows of a chart that never hold, each with its number.
+fn rows_that_never_hold(chart: &Chart) -> Vec<(usize, Stand, Operation)> {
+    let from = |i: usize| chart.rows.get(6 * i);
+    let stand = |i: usize| match (i > 0 && from(i - 1) == from(i), from(i) == from(i + 1)) {
+        (false, false) => Stand::Alone,
+        (false, true) => Stand::First,
+        _ => Stand::Second,
+    };
+    let all = (0..chart.rows.len() / 6).map(|i| (i, stand(i), model::row(&chart.rows, i).2));
+    all.filter(|(_, _, o)| model::never_holds(*o)).collect()
+}
+
+/// The indices in targets of the new rows that never hold, at pairs with any old place.
+fn targets_that_are_ignored(new: &Chart) -> Vec<usize> {
+    let rows = rows_that_never_hold(new);
+    let which = |stand: Stand| (stand == Stand::Second) as usize;
+    let of = |p: usize| rows.iter().map(move |&(i, stand, _)| 2 * (64 * p + new.rows[6 * i] as usize) + which(stand));
+    (0..64).flat_map(of).collect()
+}
+
+/// Both drawn charts have rows that never hold: alone, first and second at their place, in both orders, beyond an end
+/// and of a variable and itself. And the charts tell wrong builds: one that explores such rows, one that passes over
+/// assignments too, and one that counts ranks without the rows passed over.
+#[test]
+fn drawn_rows_that_never_hold() {
+    let mut random = Random::new(20297);
+    let mut stands = std::collections::BTreeMap::new();
+    let [mut explored, mut assigned, mut ranked, mut amended] = [0; 4];
+    for sort in SORTS {
+        for _ in 0..cases(if sort == Sort::Wide { 10 } else { 100 }) {
+            let (old, new) = drawn::pair(&mut random, sort);
+            for (which, chart) in [&old, &new].into_iter().enumerate() {
+                for (_, stand, o) in rows_that_never_hold(chart) {
+                    *stands.entry((which, stand, model::is_signed(o), o.code >= 32)).or_insert(0) += 1;
+                }
+            }
+            let was = rows_that_never_hold(&old);
+            amended += rows_that_never_hold(&new).iter().filter(|row| !was.contains(row)).count();
+            let built = algorithms::build(&old, &new);
+            explored += (algorithms::build_by(&old, &new, |_| true) != built) as usize;
+            assigned += (algorithms::build_by(&old, &new, |o| !never_by_operands(o)) != built) as usize;
+            // The second row, where the first never holds, leads somewhere: without that row it would be the first.
+            let firsts = targets_that_are_ignored(&new).into_iter().filter(|i| i % 2 == 0);
+            ranked += firsts.filter(|i| built.targets[i + 1] != 65535).count();
+        }
+    }
+    println!("rows that never hold, by chart, stand, signed, of two variables: {stands:?}");
+    println!("in the new chart alone {amended}");
+    println!("other builds if explored {explored}, if assignments are passed over {assigned}");
+    println!("second rows that lead somewhere, after a first one that never holds: {ranked}");
+    assert!(stands.len() == 24 && stands.values().all(|n| *n > 20) && amended > 100);
+    assert!(explored > 50 && assigned > 50 && ranked > 100);
 }
 
 // ---- the proved code
@@ -249,6 +392,7 @@ mod proved {
     #[test]
     fn vectors_of_pairs() {
         let mut random = Random::new(20270);
+        let mut barred = 0;
         for line in pairs() {
             let mut read = |text: &str| {
                 let mut table = vec![random.word(); 768];
@@ -260,8 +404,13 @@ mod proved {
             let answer = build(&old, &new, &mut buffers).unwrap().map(|x| x as u32);
             let out = printed(&new, answer[0], [answer[1], answer[2], answer[3]], &buffers.marks, &buffers.targets);
             assert_eq!(out.join(" "), line[2], "{old:?} {new:?}");
+            // What is printed says nothing of these, whatever stands there.
+            let ignored = targets_that_are_ignored(&new);
+            assert!(ignored.iter().all(|i| buffers.targets[*i] == 65535), "{old:?} {new:?}");
+            barred += (!ignored.is_empty()) as usize;
             assert_eq!(compare_check(&old, &new, &record(answer[0] as u64, buffers)), Ok(()));
         }
+        assert!(barred >= 287, "only {barred} new charts with rows that never hold");
     }
 
     #[test]
@@ -344,14 +493,17 @@ mod proved {
     #[test]
     fn small_records_as_modelled() {
         let mut random = Random::new(20278);
-        let charts: [&[u32]; 4] = [
+        // The last two have rows that never hold: first, second and alone.
+        let charts: [&[u32]; 6] = [
             &[0, 1, 0, 0, 0, 7],
             &[0, 0, 0, 0, 0, 7, 1, 0, 0, 1, 0, 7],
             &[0, 1, 18, 0, 0, 5, 0, 0, 21, 0, 0, 5],
             &[0, 0, 18, 1, 0, 5, 0, 1, 21, 1, 0, 5, 1, 1, 0, 0, 0, 7],
+            &[0, 1, 18, 0, 0, 0, 0, 0, 21, 0, 0, 0, 1, 0, 0, 1, 0, 7],
+            &[0, 1, 35, 1, 1, 0, 0, 0, 36, 1, 1, 0, 1, 0, 42, 0, 0, 0],
         ];
         let mut record = Record::from(algorithms::build(&faultless(), &faultless()));
-        let (mut passed, mut at_start, mut elsewhere, mut covered) = ([0; 8], [0; 8], 0, 0);
+        let (mut passed, mut at_start, mut elsewhere, mut covered, mut barred) = ([0; 8], [0; 8], 0, 0, 0);
         for _ in 0..cases(60_000) {
             let mut drawn = || Chart { places: 2, alarm: random.below(2) as u32, rows: random.one_of(&charts).to_vec() };
             let (old, new) = (drawn(), drawn());
@@ -370,6 +522,8 @@ mod proved {
             match compare_check(&old, &new, &record) {
                 Ok(()) => {
                     passed[kind] += 1;
+                    let ignored = targets_that_are_ignored(&new);
+                    barred += ignored.iter().any(|i| record.marks[i / 2] != 0 && record.targets[*i] != 65535) as usize;
                     for values in [[0; 64], [4; 64], [5; 64], [u32::MAX; 64]] {
                         covered += keeps_promise(&old, &new, &record, &values, &checker::run(&new, &values, 20)) as usize;
                     }
@@ -378,9 +532,10 @@ mod proved {
                 Err(_) => elsewhere += 1,
             }
         }
-        println!("by start, old alarm and new alarm: passed {passed:?}, refused at the start {at_start:?}; refused elsewhere {elsewhere}; covered runs {covered}");
+        println!("by start, old alarm and new alarm: passed {passed:?}, refused at the start {at_start:?}; refused elsewhere {elsewhere}; covered runs {covered}; targets that are ignored {barred}");
         // A start pair at the new alarm alone is never passed; everything else is, now and then.
         assert!((0..8).all(|kind| at_start[kind] > 0 && (passed[kind] > 0) == (kind != 2)) && elsewhere > 1000 && covered > 20);
+        assert!(barred > 100);
     }
 
     /// Whether a run of the new chart reaches its alarm and is covered; then the old chart's run from the same values reaches its own.
@@ -449,6 +604,210 @@ mod proved {
             assert_eq!(runs.each_ref().map(|run| run.rows.clone()), [vec![0, last], vec![0, 1, last + 1]]);
             assert_eq!(runs.each_ref().map(|run| run.reached), [left < 50; 2]);
         }
+    }
+
+    /// The worked session of #101 among them. Would catch the wrong programs of `NEVER`, which leave other records.
+    #[test]
+    fn rows_that_never_hold_in_builds() {
+        let mut random = Random::new(20298);
+        for [old, new, out, _] in NEVER {
+            let (old, new) = (chart_of(old), chart_of(new));
+            let record = compare(&old, &new, rubbish(&mut random));
+            let count = |mark| record.marks.iter().filter(|m| **m == mark).count() as u32;
+            let all = printed(&new, record.start, [count(1), count(2), count(3)], &record.marks, &record.targets);
+            assert_eq!(all.join(" "), out, "{old:?} {new:?}");
+        }
+    }
+
+    /// A built record has 65535 for every new row that never holds, whatever the lent targets held. Would catch a build
+    /// that explores such a row, that stores a target for it, that leaves what it found there, or that stores the other
+    /// row's target in its place.
+    #[test]
+    fn targets_of_rows_that_never_hold() {
+        let mut random = Random::new(20299);
+        let (mut taken_up, mut at_alarm, mut beside) = (0, 0, 0);
+        for sort in SORTS {
+            for _ in 0..share(sort, 500) {
+                let (old, new) = drawn::pair(&mut random, sort);
+                let mut buffers = rubbish(&mut random);
+                build(&old, &new, &mut buffers).unwrap();
+                for index in targets_that_are_ignored(&new) {
+                    assert_eq!(buffers.targets[index], 65535, "{index} {old:?} {new:?}");
+                    let pair = index / 2;
+                    let present = buffers.marks[pair] != 0;
+                    taken_up += (present && pair as u32 / 64 != old.alarm) as usize;
+                    at_alarm += (present && pair as u32 / 64 == old.alarm) as usize;
+                    beside += (present && buffers.targets[index ^ 1] != 65535) as usize;
+                }
+            }
+        }
+        println!("at pairs taken up {taken_up}, beside a row with a target {beside}, at the old alarm {at_alarm}");
+        assert!(taken_up > 1000 && beside > 1000 && at_alarm > 20);
+    }
+
+    /// The record with any targets that fit refusal 31 in place of those that are ignored.
+    fn retargeted(random: &mut Random, record: &Record, ignored: &[usize]) -> Record {
+        let mut other = record.clone();
+        for &index in ignored {
+            let any = random.below(4160) as u16;
+            other.targets[index] = random.one_of(&[any, any, 65535, 0, 4095, 4096, 4159]);
+        }
+        other
+    }
+
+    /// Rows of the new chart that follow each other from place 0, at most so many, whether or not they hold.
+    fn chained(random: &mut Random, new: &Chart, most: usize) -> Vec<usize> {
+        let (mut place, mut list) = (0, Vec::new());
+        while list.len() < most {
+            let rows: Vec<usize> = (0..new.rows.len() / 6).filter(|i| new.rows[6 * i] == place).collect();
+            if rows.is_empty() {
+                break;
+            }
+            list.push(random.one_of(&rows));
+            place = new.rows[6 * list.last().unwrap() + 1];
+        }
+        list
+    }
+
+    /// Of two records that differ only in targets of rows that never hold, and whose targets fit refusal 31, the
+    /// check's answer is the same, position and all, be the record a built or a spoilt one. Would catch a check that
+    /// looks at such a target by the rule of targets, at the old alarm or elsewhere, or by that of marks.
+    #[test]
+    fn checks_ignore_targets_of_rows_that_never_hold() {
+        let mut random = Random::new(20300);
+        // Of built records the targets ignored, by whether their pair is at the old alarm, and by its mark.
+        let (mut passed, mut refused, mut judged) = (0, 0, [[0; 5]; 2]);
+        for sort in SORTS {
+            for _ in 0..share(sort, 400) {
+                let (old, new) = drawn::pair(&mut random, sort);
+                let ignored = targets_that_are_ignored(&new);
+                if ignored.is_empty() {
+                    continue;
+                }
+                let built = Record::from(algorithms::build(&old, &new));
+                for changes in 0..4 {
+                    let mut record = built.clone();
+                    (0..changes).for_each(|_| drawn::spoil(&mut random, &mut record));
+                    if ignored.iter().any(|i| (4160..65535).contains(&record.targets[*i])) {
+                        continue;
+                    }
+                    let other = retargeted(&mut random, &record, &ignored);
+                    let answers = [&record, &other].map(|r| compare_check(&old, &new, r));
+                    assert_eq!(answers[0], answers[1], "{old:?} {new:?} {other:?}");
+                    match answers[0] {
+                        Ok(()) => passed += (other != record) as usize,
+                        Err((number, ..)) => refused += (number == 32 && other != record) as usize,
+                    }
+                    // 65535 would be right at the old alarm if anybody looked, and so it is not counted there.
+                    for &index in ignored.iter().filter(|_| changes == 0) {
+                        let at_alarm = index as u32 / 128 == old.alarm;
+                        let counts = !at_alarm || other.targets[index] != 65535;
+                        judged[at_alarm as usize][record.marks[index / 2] as usize] += counts as usize;
+                    }
+                }
+            }
+        }
+        println!("passed {passed}, refused by 32 {refused}; not at the old alarm and at it, by mark: {judged:?}");
+        assert!(passed > 300 && refused > 100);
+        assert!([1, 3, 4].iter().all(|mark| judged[0][*mark] > 50) && judged[1][3] + judged[1][4] > 20);
+    }
+
+    /// Refusal 31 looks at every target, those of rows that never hold too: any from 4,160 to 65,534 is refused, in a
+    /// record that is passed without it. Would catch a check that passes over such rows before it looks at their form.
+    #[test]
+    fn odd_targets_of_rows_that_never_hold() {
+        let mut random = Random::new(20301);
+        let (mut present, mut absent) = (0, 0);
+        for sort in SORTS {
+            for _ in 0..share(sort, 100) {
+                let (old, new) = drawn::pair(&mut random, sort);
+                let built = Record::from(algorithms::build(&old, &new));
+                let ignored = targets_that_are_ignored(&new);
+                let here = ignored.iter().filter(|i| built.marks[*i / 2] != 0).take(4);
+                for &index in here.chain(ignored.first()) {
+                    let mut record = built.clone();
+                    let any = 4160 + random.below(65535 - 4160) as u16;
+                    for odd in [4160, 4161, 32768, 65534, any] {
+                        record.targets[index] = odd;
+                        assert_eq!(compare_check(&old, &new, &record), Err((31, 0, 0)), "{index} {odd}: {new:?}");
+                    }
+                    present += (built.marks[index / 2] != 0) as usize;
+                    absent += (built.marks[index / 2] == 0) as usize;
+                }
+            }
+        }
+        println!("at present pairs {present}, at absent ones {absent}");
+        assert!(present > 100 && absent > 100);
+    }
+
+    /// The row beside one that never holds is looked at as any other, and the position is its own. Would catch a check
+    /// that passes over the whole place, that takes the one row for the other, or that counts ranks without such rows.
+    #[test]
+    fn the_row_beside_one_that_never_holds() {
+        let mut random = Random::new(20302);
+        let mut beside = [0; 2];
+        for sort in SORTS {
+            for _ in 0..share(sort, 200) {
+                let (old, new) = drawn::pair(&mut random, sort);
+                let built = Record::from(algorithms::build(&old, &new));
+                let ignored = targets_that_are_ignored(&new);
+                // At the old alarm 65535 would be right.
+                let elsewhere = |i: &&usize| **i as u32 / 128 != old.alarm && built.marks[**i / 2] != 0;
+                let here = ignored.iter().filter(elsewhere).filter(|i| built.targets[**i ^ 1] != 65535);
+                for &index in here.take(4) {
+                    let mut record = retargeted(&mut random, &built, &ignored);
+                    record.targets[index ^ 1] = 65535;
+                    assert_eq!(compare_check(&old, &new, &record), Err((32, 0, index ^ 1)), "{old:?} {new:?}");
+                    beside[index % 2] += 1;
+                }
+            }
+        }
+        println!("rows beside a first and a second one that never holds: {beside:?}");
+        assert!(beside.iter().all(|n| *n > 100));
+    }
+
+    /// Whether a list of rows is covered does not depend on targets of rows that never hold, as readers take 65535
+    /// there; and for runs nobody needs to look: they take no such row. Would catch a build that stores a target there,
+    /// or a check that refuses one; of the reading itself it shows only that these lists tell the two readings apart.
+    #[test]
+    fn following_past_rows_that_never_hold() {
+        let mut random = Random::new(20303);
+        let [mut lists, mut misled, mut runs, mut covered] = [0; 4];
+        for sort in [Sort::Graphs, Sort::AmendedGraphs, Sort::Procedures, Sort::Renumbered, Sort::Sparse, Sort::Dense] {
+            for _ in 0..share(sort, 200) {
+                let (old, new) = drawn::pair(&mut random, sort);
+                let ignored = targets_that_are_ignored(&new);
+                let never = checker::never_held(&new);
+                if ignored.is_empty() {
+                    continue;
+                }
+                let mut buffers = rubbish(&mut random);
+                let start = build(&old, &new, &mut buffers).unwrap()[0];
+                let built = record(start, buffers);
+                let other = retargeted(&mut random, &built, &ignored);
+                assert_eq!(compare_check(&old, &new, &other), Ok(()));
+                for _ in 0..60 {
+                    let list = chained(&mut random, &new, 12);
+                    let said = checker::covers(&new, &built, &list);
+                    assert_eq!(checker::covers(&new, &other, &list), said, "{list:?} {old:?} {new:?} {other:?}");
+                    // A built record says it by itself.
+                    assert_eq!(checker::covers_as_it_stands(&new, &built, &list), said, "{list:?} {old:?} {new:?}");
+                    lists += list.iter().any(|row| never[*row]) as usize;
+                    misled += (checker::covers_as_it_stands(&new, &other, &list) != said) as usize;
+                    let values = std::array::from_fn(|_| random.one_of(&[0, 1, 2, 100, HALF, u32::MAX]));
+                    let run = checker::run(&new, &values, 50).rows;
+                    assert!(!run.iter().any(|row| never[*row]));
+                    let said = checker::covers(&new, &built, &run);
+                    let read = [&built, &other].map(|r| checker::covers_as_it_stands(&new, r, &run));
+                    assert_eq!(read, [said; 2], "{run:?} {old:?} {new:?} {other:?}");
+                    runs += 1;
+                    covered += said as usize;
+                }
+            }
+        }
+        println!("lists with such rows {lists}, misled if targets are read as they stand {misled}");
+        println!("runs {runs}, covered {covered}");
+        assert!(lists > 1000 && misled > 50 && covered > 500);
     }
 
     #[test]

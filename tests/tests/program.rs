@@ -97,6 +97,17 @@ fn sessions() {
     assert_eq!(printed(Some(OLD), Some(&alarmed)), "4096,0,1,0\r\n");
 }
 
+/// The worked session of rows that never hold (#101): v0 < 0 leads to the new alarm, and nothing is printed of it. A
+/// program that explores such a row prints `0,1,1,1` and `0,0,4098,2`; one that counts rows without it `0,0,129,3`.
+#[test]
+fn a_row_that_never_holds() {
+    let old = "3,2,3,0,0,0\r\n0,1,18,0,0,0\r\n0,2,21,0,0,0\r\n1,2,0,0,0,1\r\n";
+    let new = "3,2,3,0,0,0\r\n0,2,18,0,0,0\r\n0,1,21,0,0,0\r\n1,2,0,0,0,1\r\n";
+    assert_eq!(printed(Some(old), Some(new)), "0,1,0,1\r\n0,1,129,3\r\n");
+    // In the old chart such a row is as it was: nothing matches it, and nothing amended is all covered.
+    assert_eq!(printed(Some(old), Some(old)), "0,1,0,1\r\n0,1,130,3\r\n");
+}
+
 #[test]
 fn places_and_rows() {
     let two = |n: u32| -> Vec<[u32; 6]> {
@@ -160,8 +171,15 @@ fn examples_of_the_reference() {
     for (text, answer) in examples {
         assert_eq!(printed(Some(OLD), Some(&text)), answer, "{text:?}");
     }
-    for (from, to) in [("0,1,0,1,0,5", "0,1,0,1,0,6"), ("", ""), ("6,5,5,0,0,0", "6,0,5,0,0,0")] {
-        let shown: String = printed(Some(OLD), Some(&OLD.replace(from, to))).lines().map(|l| format!("    {l}\n")).collect();
+    let amended = [("0,1,0,1,0,5", "0,1,0,1,0,6"), ("", ""), ("6,5,5,0,0,0", "6,0,5,0,0,0")];
+    let mut pairs = amended.map(|(from, to)| (OLD.to_string(), OLD.replace(from, to))).to_vec();
+    // The one of a row that never holds, in which two rows change their ends.
+    let turned = |first: u32, second: u32| {
+        text(3, 2, &[[0, first, 18, 0, 0, 0], [0, second, 21, 0, 0, 0], [1, 2, 0, 0, 0, 1]])
+    };
+    pairs.push((turned(1, 2), turned(2, 1)));
+    for (old, new) in pairs {
+        let shown: String = printed(Some(&old), Some(&new)).lines().map(|l| format!("    {l}\n")).collect();
         assert!(reference.contains(&format!("\n\n{shown}\n")), "not in the reference:\n{shown}");
     }
 }
@@ -173,7 +191,8 @@ fn many_portions() {
     let mut random = Random::new(20280);
     let (mut long, mut longest) = (0, 0);
     for sort in SORTS {
-        for _ in 0..cases(if sort == Sort::Wide { 10 } else { 20 }) {
+        // Few others are long.
+        for _ in 0..cases(if sort == Sort::Dense { 50 } else { 20 }) {
             let (old, new) = drawn::pair(&mut random, sort);
             let built = algorithms::build(&old, &new);
             let counts = [built.open, built.kept, built.covered];
