@@ -3,7 +3,7 @@
 //! has it; charts are judged and assumptions compared as by the plain Rust beside it. The record stays in the
 //! collections: nobody lays it out in buffers, which the others have to do.
 
-use crate::plain_build::{implied, judged, read_by, Refusal};
+use crate::plain_build::{can_be_taken, implied, judged, read_by, Refusal};
 use picker_tests::Chart;
 use std::collections::hash_map::Entry;
 use std::collections::{BTreeSet, HashMap, HashSet};
@@ -147,7 +147,7 @@ fn explore(old: &Graph, new: &Graph) -> (HashMap<Pair, State>, HashSet<usize>) {
     all.join(START, 0);
     while let Some(pair) = all.waiting.pop_first() {
         let mut set = 0;
-        for (which, row) in new.rows[pair.new].iter().enumerate() {
+        for (which, row) in new.rows[pair.new].iter().enumerate().filter(|(_, row)| can_be_taken(row)) {
             // A pair that has left the graph is finished under the set it had.
             if let Some(state) = all.pairs.get(&pair) {
                 set = state.set;
@@ -218,7 +218,7 @@ pub fn check(old: &Chart, new: &Chart, condition: &Condition) -> Result<bool, Re
         Node::Kept(place) => kept.contains(place),
     };
     let keeps = |(&pair, state): (&Pair, &State)| {
-        new.rows[pair.new].iter().zip(state.targets).all(|(row, target)| match target {
+        new.rows[pair.new].iter().zip(state.targets).filter(|(row, _)| can_be_taken(row)).all(|(row, target)| match target {
             None => pair.old == old.alarm,
             Some(Node::Kept(q)) => q == row[1] as usize && kept.contains(&q) && state.mark == Mark::Open,
             Some(Node::Pair(to)) => pairs.get(&to).is_some_and(|reached| {

@@ -109,6 +109,16 @@ fn in_the_other_order(lets: u8) -> u8 {
     }
 }
 
+/// Whether a row can be taken: other than an assumption that no values meet. With no jump, as it is asked of all rows.
+#[inline]
+pub fn can_be_taken(row: &[u32]) -> bool {
+    let (code, r) = (row[2], row[2] % 8);
+    let end = (row[5] ^ turn(row)).wrapping_add(r >> 2) == 0;
+    let constant = (code & !15 == 16) & end & (0x14 >> r & 1 == 1);
+    let variables = (code & !15 == 32) & (row[3] == row[4]) & (0x16 >> r & 1 == 1);
+    !(constant | variables)
+}
+
 /// Some values meet the first assumption, and all that do meet the second.
 pub fn implied(f: &[u32], g: &[u32]) -> bool {
     let (f_lets, g_lets) = (LETS[(f[2] % 8) as usize], LETS[(g[2] % 8) as usize]);
@@ -257,6 +267,7 @@ fn explore<const KEPT_UP: bool>(old: &Chart, new: &Chart, b: &mut Buffers) -> Re
         return Err((21, 0, 0));
     }
     judged(old, new)?;
+    let all_taken = new.rows.chunks_exact(6).fold(true, |all, row| all & can_be_taken(row));
     let (old, new) = (Index::new(old), Index::new(new));
     marks.fill(0);
     targets.fill(65535);
@@ -284,7 +295,7 @@ fn explore<const KEPT_UP: bool>(old: &Chart, new: &Chart, b: &mut Buffers) -> Re
             waiting[pair] = 0;
         }
         let mut set = sets[pair];
-        for (which, row) in new.rows(q).enumerate() {
+        for (which, row) in new.rows(q).enumerate().filter(|(_, row)| all_taken || can_be_taken(row)) {
             let q2 = row[1] as usize;
             if kept >> q & 1 == 0 {
                 set = sets[pair];
@@ -552,7 +563,7 @@ pub fn check(old: &Chart, new: &Chart, start: u32, marks: &[u8], targets: &[u16]
                 let to = targets[index] as usize;
                 let q2 = row[1] as usize;
                 if to == 65535 {
-                    if p == old.alarm {
+                    if p == old.alarm || !can_be_taken(row) {
                         continue;
                     }
                     return Err((32, 0, index));
@@ -569,7 +580,7 @@ pub fn check(old: &Chart, new: &Chart, start: u32, marks: &[u8], targets: &[u16]
                         None => false,
                     }
                 };
-                if !(allowed && leads) {
+                if !(allowed && leads) && can_be_taken(row) {
                     return Err((32, 0, index));
                 }
             }
@@ -589,6 +600,19 @@ mod tests {
 
     fn row(o: Operation) -> [u32; 6] {
         [0, 0, o.code, o.a, o.b, o.c]
+    }
+
+    /// The rows that never hold are those of the trial of values, and no assignment is one.
+    #[test]
+    fn rows_that_can_be_taken() {
+        let mut random = Random::new(20296);
+        let mut never = [0; 2];
+        for _ in 0..cases(20_000) {
+            let o = model::operation(&mut random, &model::CODES);
+            assert_eq!(can_be_taken(&row(o)), !model::never_holds(o), "{o:?}");
+            never[model::is_signed(o) as usize] += model::never_holds(o) as usize;
+        }
+        assert!(never.iter().all(|n| *n > 500), "{never:?} never hold, unsigned and signed");
     }
 
     #[test]
