@@ -7,8 +7,14 @@
  *
  * A record says something only if picker_check passes it, for these two charts and as it stands now: then no run that
  * it covers shows a new fault. A mark 3 in any other record means nothing. So this program follows one record alone,
- * in memory of its own: the one that it has just built and checked. Either would do. What picker_build makes always
- * passes, which is proved; a record from elsewhere has to be checked, each time that it or a chart was out of hand. */
+ * in memory of its own: the one that it has just built and checked. For runs either would do. What picker_build makes
+ * always passes, which is proved; a record from elsewhere has to be checked, each time that it or a chart was out of
+ * hand.
+ *
+ * Whoever reads a record takes PICKER_NO_NODE for the target of a row that never holds (v0 < 0). This program does not
+ * test for such rows, and need not: in a record that was built these targets are PICKER_NO_NODE. In one that was only
+ * checked they may be any node. For a run even so the answer would be the same, as no run takes such a row; for a list
+ * that no values let through it might be "covered" where it is "walk again". */
 #include <stdio.h>
 #include <stdlib.h>
 
@@ -82,7 +88,8 @@ static int build(const struct chart *o, const struct chart *n, struct record *r)
     return !complained("check", answer) && picker_check_passed(answer);
 }
 
-/* The node to which a row of the new chart leads, or PICKER_NO_NODE where following ends. */
+/* The node to which a row of the new chart leads, or PICKER_NO_NODE where following ends. The target is read as it
+ * stands: the record was built here, and has PICKER_NO_NODE for rows that never hold. */
 static uint32_t next(const struct record *r, const struct chart *n, uint32_t node, size_t row)
 {
     const uint32_t *at = n->rows + PICKER_ROW_LEN * row;
@@ -94,8 +101,8 @@ static uint32_t next(const struct record *r, const struct chart *n, uint32_t nod
     return r->targets[picker_target_index(node, which)];
 }
 
-/* Follows rows through a record that was just built or checked. Each has to leave the place that those before it led
- * to. Whether its assumption holds is not looked at: a covered list is covered from all values that let it through. */
+/* Follows rows through the record that was just built. Each has to leave the place that those before it led to.
+ * Whether its assumption holds is not looked at: a covered list is covered from all values that let it through. */
 static enum verdict follow(const struct record *r, const struct chart *n, const size_t *rows, size_t count)
 {
     uint32_t node = r->start, place = 0;

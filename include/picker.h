@@ -65,7 +65,7 @@ extern "C" {
 #define PICKER_NODES 4160      /* how many nodes */
 #define PICKER_START_PAIR 0    /* the start, places 0 and 0 */
 #define PICKER_START_KEPT 4096 /* the start where nothing is covered, kept place 0 */
-#define PICKER_NO_NODE 65535   /* the target of a row that has none */
+#define PICKER_NO_NODE 65535   /* the target of a row that has none: see picker_target_index */
 
 /* Refusals. Of a text, position: an offset in it. */
 #define PICKER_NO_BYTES 11   /* the text has no bytes; position 0 */
@@ -116,7 +116,8 @@ uint64_t picker_lookup(uint32_t old_places, uint32_t old_alarm,
 
 /* Builds the condition of two charts. picker_build_start, _open, _kept, _covered. What the four held before has no
  * effect; waiting is all 0 afterwards. With the start, marks, targets and sets are a record that picker_check
- * passes for the same charts. */
+ * passes for the same charts. The target of a new row that never holds (an assumption that no values meet, v0 < 0) is
+ * PICKER_NO_NODE, and nothing is explored behind it. */
 uint64_t picker_build(uint32_t old_places, uint32_t old_alarm,
                       const uint32_t *old_rows, size_t old_rows_len, /* old_rows_len: entries, six for each row */
                       uint32_t new_places, uint32_t new_alarm,
@@ -126,7 +127,8 @@ uint64_t picker_build(uint32_t old_places, uint32_t old_alarm,
                       uint64_t *sets, size_t sets_len,               /* PICKER_SETS_LEN: bit i for variable i */
                       uint8_t *waiting, size_t waiting_len);         /* PICKER_WAITING_LEN */
 
-/* Checks a record, whoever made it. picker_check_passed. Nothing is written. */
+/* Checks a record, whoever made it. picker_check_passed. Nothing is written. Targets of new rows that never hold are
+ * below PICKER_NODES or PICKER_NO_NODE, as all are (PICKER_BAD_SHAPE); else they are not looked at. */
 uint64_t picker_check(uint32_t old_places, uint32_t old_alarm,
                       const uint32_t *old_rows, size_t old_rows_len, /* old_rows_len: entries, six for each row */
                       uint32_t new_places, uint32_t new_alarm,
@@ -195,7 +197,10 @@ static inline int picker_is_pair(uint32_t node) { return node < PICKER_PAIRS; }
 static inline uint32_t picker_old_place(uint32_t pair) { return pair / 64; }
 /* Of any node. */
 static inline uint32_t picker_new_place(uint32_t node) { return node % 64; }
-/* Where in targets a pair's target stands for the first row (0) or the second (1) of its new place. */
+/* Where in targets a pair's target stands for the first row (0) or the second (1) of its new place. Whoever reads a
+ * record, to follow a run or otherwise, takes PICKER_NO_NODE there if the row never holds, whatever stands in it. A
+ * record of picker_build has that there; one that picker_check passed may have any node, which makes no difference to
+ * a run: none takes such a row. */
 static inline size_t picker_target_index(uint32_t pair, uint32_t which) { return 2 * (size_t)pair + which; }
 
 #ifdef __cplusplus
