@@ -16,7 +16,7 @@ use Rattle.base.proofs.Options.{both-missing, not-due}
 use Rattle.base.proofs.Tests.{or-false}
 use Rattle.operations.specs.Operations.{isKnown, operandsFit}
 use Rattle.chart.specs.Charts.{Chart, size, operation}
-use Rattle.chart.specs.Compared.{Compared}
+use Rattle.chart.specs.Compared.{Compared, editionNamed}
 use Rattle.chart.specs.Faults.{lacks, exceeds, alarmOutside, strays, descends, conflicts, whole, countFault, alarmFault, rowFault, conflictFault, rowsFault, fault, refusal, judged}
 
 module _ (k : ℕ) (near : k < 2) where
@@ -69,6 +69,6 @@ refusal-fits C =
 pub judged-fits : (lent : Bool) (X : Compared) → OnSome Fits (judged lent X)
 unfolding judged
 judged-fits lent X =
-    let lengths = not (lent && (whole (X .old .table) && whole (X .new .table))) in
+    let lengths = not (lent && (editionNamed (X .edition) && (whole (X .old .table) && whole (X .new .table)))) in
     or-on Fits (due lengths 21 0) (orElse (fault 0 (X .old)) (fault 1 (X .new))) (whole-due 0 (omega arith) lengths 21 tt)
     (λ _. or-on Fits (fault 0 (X .old)) (fault 1 (X .new)) (fault-fits 0 (omega arith) (X .old)) (λ _. fault-fits 1 (omega arith) (X .new)))

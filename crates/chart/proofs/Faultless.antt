@@ -15,7 +15,7 @@ use Rattle.base.proofs.Options.{missing-none, both-missing, not-due, none-of, n
 use Rattle.base.proofs.Tests.{and-true, or-false, not-both, none-below, none-below-at}
 use Rattle.operations.specs.Operations.{isKnown, isAssumption}
 use Rattle.chart.specs.Charts.{Chart, size, from, to, operation}
-use Rattle.chart.specs.Compared.{Compared}
+use Rattle.chart.specs.Compared.{Compared, editionNamed}
 use Rattle.chart.specs.Faults.{lacks, strays, fromBefore, descends, clash, whole, countFault, alarmFault, rowFault, conflictFault, rowsFault, fault, refusal, judged}
 use Rattle.chart.specs.Faultless.{FaultlessRow, Apart, FaultlessChart}
 use Rattle.chart.specs.Lookup.{openTo}
@@ -151,21 +151,22 @@ module _ (C : Chart) where
 
 -- ---- two charts
 module _ (lent : Bool) (X : Compared) where
-  pub none-judged : (lent ≡ true) × FaultlessChart (X .old) × FaultlessChart (X .new) → judged lent X ≡ none
+  pub none-judged : (lent ≡ true) × FaultlessChart (X .old) × FaultlessChart (X .new) × (editionNamed (X .edition) ≡ true) → judged lent X ≡ none
   unfolding judged
-  none-judged (l, F, H) = rw (l, is-whole (X .old) F, is-whole (X .new) H, no-fault (X .old) F 0) (no-fault (X .new) H 1)
+  none-judged (l, F, H, n) = rw (l, n, is-whole (X .old) F, is-whole (X .new) H, no-fault (X .old) F 0) (no-fault (X .new) H 1)
 
-  pub both-faultless : judged lent X ≡ none → (lent ≡ true) × FaultlessChart (X .old) × FaultlessChart (X .new)
+  pub both-faultless : judged lent X ≡ none → (lent ≡ true) × FaultlessChart (X .old) × FaultlessChart (X .new) × (editionNamed (X .edition) ≡ true)
   unfolding judged
   both-faultless e =
-      let a = both-missing (due (not (lent && (whole (X .old .table) && whole (X .new .table)))) 21 0) _ e in
+      let a = both-missing (due (not (lent && (editionNamed (X .edition) && (whole (X .old .table) && whole (X .new .table))))) 21 0) _ e in
       let b = both-missing (fault 0 (X .old)) (fault 1 (X .new)) (a .1) in
       let l = and-true lent _ (not-false _ (not-due _ _ (a .0))) in
-      let w = and-true (whole (X .old .table)) (whole (X .new .table)) (l .1) in
-      (l .0, unfaulted 0 (X .old) (w .0) (b .0), unfaulted 1 (X .new) (w .1) (b .1))
+      let n = and-true (editionNamed (X .edition)) _ (l .1) in
+      let w = and-true (whole (X .old .table)) (whole (X .new .table)) (n .1) in
+      (l .0, unfaulted 0 (X .old) (w .0) (b .0), unfaulted 1 (X .new) (w .1) (b .1), n .0)
 
-  -- none is due exactly where the lengths are the stated ones and both charts are faultless
-  pub judged-exactly : (judged lent X ≡ none) ↔ ((lent ≡ true) × FaultlessChart (X .old) × FaultlessChart (X .new))
+  -- none is due exactly where the lengths are the stated ones, both charts are faultless and the edition is one of the two
+  pub judged-exactly : (judged lent X ≡ none) ↔ ((lent ≡ true) × FaultlessChart (X .old) × FaultlessChart (X .new) × (editionNamed (X .edition) ≡ true))
   judged-exactly = (both-faultless, none-judged)
 
 -- the rows of a faultless chart can be indexed

@@ -16,7 +16,7 @@ use Rattle.chart.specs.declared.charts.Judged.{Judged}
 use Rattle.chart.specs.declared.charts.Judged.the-variants.{Faultless, Refused}
 use Rattle.chart.specs.declared.charts.Head.{Head}
 use Rattle.chart.specs.Charts.{Chart, size, from, to, operation}
-use Rattle.chart.specs.Compared.{Compared}
+use Rattle.chart.specs.Compared.{Compared, editionNamed}
 
 -- ---- the tests
 -- "1 no places or rows"
@@ -95,11 +95,11 @@ unfoldable pub refusal : Chart → Option Refusal
 refusal C = orElse (due (not (whole (C .table))) 21 0) (fault 0 C)
 
 -- of two charts, where `lent` says whether the caller's other lengths are the stated ones: "21, a lent length differs
--- from the stated one [..], or a chart table's isn't a multiple of 6. Always first"; "elsewhere the old chart comes
--- before the new"
+-- from the stated one [..], or a chart table's isn't a multiple of 6. Always first"; "Any other edition is 21"
+-- (document 02, #104); "elsewhere the old chart comes before the new"
 unfoldable pub judged : Bool → Compared → Option Refusal
 judged lent X =
-    orElse (due (not (lent && (whole (X .old .table) && whole (X .new .table)))) 21 0)
+    orElse (due (not (lent && (editionNamed (X .edition) && (whole (X .old .table) && whole (X .new .table))))) 21 0)
     (orElse (fault 0 (X .old)) (fault 1 (X .new)))
 
 -- what the code's answer says, "for each of the enum's cases"

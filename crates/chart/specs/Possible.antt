@@ -22,7 +22,7 @@ possible C = charted (C .head) (possibleRows (C .table))
 
 -- what "the algorithms [are] given": "the new chart without such rows", and the old chart as it is
 abbrev pub stripped : Compared → Compared
-stripped X = both (X .old) (possible (X .new))
+stripped X = both (X .edition) (X .old) (possible (X .new))
 
 -- ---- "a place's first and second row" count such rows too: the number that each row had before
 -- the numbers, among the first n rows of a table, of those that are left

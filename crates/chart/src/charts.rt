@@ -23,8 +23,9 @@ pub struct NewHead {
     pub alarm: NewPlace,
 }
 
-// What is compared, beside the two tables: it is passed on whole.
+// What is compared, beside the two tables, and by which edition of the detector: it is passed on whole.
 pub struct Heads {
+    pub edition: u32,
     pub old: OldHead,
     pub new: NewHead,
 }
@@ -36,11 +37,12 @@ pub enum Judged {
     Refused(Refusal),
 }
 
-// Both heads, of charts that came one by one.
-pub fn both_heads(old: Head, new: Head) -> Heads
-    ensures { λ r. ⌜ r ≡ bothHeads old new ⌝ }
+// Both heads, of charts that came one by one, with the edition that is named.
+pub fn both_heads(edition: u32, old: Head, new: Head) -> Heads
+    ensures { λ r. ⌜ r ≡ bothHeads edition old new ⌝ }
 {
     Heads {
+        edition,
         old: OldHead {
             places: old.places,
             alarm: OldPlace(old.alarm),

@@ -90,12 +90,14 @@ pub fn judge(head: Head, rows: &[u32]) -> Judged
     fault(0, head, rows)
 }
 
-// The refusal that is due for two charts: 21, where another length of the caller's is not the stated one or a table is
-// not whole rows, else the old chart's first fault, with chart 0, else the new one's, with chart 1.
+// The refusal that is due for two charts: 21, where another length of the caller's is not the stated one, the edition
+// is neither 1 nor 2, or a table is not whole rows, else the old chart's first fault, with chart 0, else the new one's,
+// with chart 1.
 pub fn judged<'a>(lent: bool, heads: Heads, old_rows: &'a [u32], new_rows: &'a [u32]) -> Judged
     ensures { λ r. ⌜ told r ≡ judged lent (compared heads (now («old_rows» .entry)) (now («new_rows» .entry))) ⌝ }
 {
-    if !(lent & (faults::whole(old_rows) & faults::whole(new_rows))) {
+    let named = faults::edition_named(heads.edition);
+    if !(lent & (named & (faults::whole(old_rows) & faults::whole(new_rows)))) {
         return refused(0, 21, 0);
     }
     match fault(0, heads.old.head(), old_rows) {

@@ -15,6 +15,9 @@ use Rattle.chart.proofs.judged.Tie as tie
 judged-head : (k : ℕ) (t : List ℕ) {o : Option Refusal} {h g : Head} → o ≡ fault k (charted h t) → h ≡ g → o ≡ fault k (charted g t)
 judged-head k t e f = e ∙ ap (λ (h : Head). fault k (charted h t)) f
 
+edition-named-requires : tie.Need-edition-named-requires
+edition-named-requires c κs = search needs
+
 whole-requires : tie.Need-whole-requires
 whole-requires c κs = search needs
 
@@ -26,7 +29,7 @@ refused-requires c κs = search needs
 
 returns : tie.Need-returns
 unfolding judged
-returns c = rw (← c .before .before .before .whole .ensures, ← c .before .before .whole2 .ensures, c .before .if1 .taken) (c .refused .ensures)
+returns c = rw (← c .before .before .before .before .edition-named .ensures, ← c .before .before .before .whole .ensures, ← c .before .before .whole2 .ensures, c .before .if1 .taken) (c .refused .ensures)
 
 head-requires : tie.Need-head-requires
 head-requires c κs = search needs
@@ -49,18 +52,19 @@ fault-requires-2 c κs = search needs
 returns-2 : tie.Need-returns-2
 unfolding judged
 returns-2 c =
-    rw (← c .before .before .before .before .before .before .before .whole .ensures, ← c .before .before .before .before .before .before .whole2 .ensures, c .before .before .before .before .before .if1 .left, sym (judged-head 0 _ (c .before .before .before .fault .ensures) (c .before .before .before .before .head .ensures)) ∙ ap told (c .before .r .given .1))
+    rw (← c .before .before .before .before .before .before .before .before .edition-named .ensures, ← c .before .before .before .before .before .before .before .whole .ensures, ← c .before .before .before .before .before .before .whole2 .ensures, c .before .before .before .before .before .if1 .left, sym (judged-head 0 _ (c .before .before .before .fault .ensures) (c .before .before .before .before .head .ensures)) ∙ ap told (c .before .r .given .1))
 
 returns-3 : tie.Need-returns-3
 unfolding judged
 returns-3 c =
-    rw (← c .before .before .before .before .before .before .before .before .whole .ensures, ← c .before .before .before .before .before .before .before .whole2 .ensures, c .before .before .before .before .before .before .if1 .left, sym (judged-head 0 _ (c .before .before .before .before .fault .ensures) (c .before .before .before .before .before .head .ensures)) ∙ ap told (c .before .before .enum-told .given .1))
+    rw (← c .before .before .before .before .before .before .before .before .before .edition-named .ensures, ← c .before .before .before .before .before .before .before .before .whole .ensures, ← c .before .before .before .before .before .before .before .whole2 .ensures, c .before .before .before .before .before .before .if1 .left, sym (judged-head 0 _ (c .before .before .before .before .fault .ensures) (c .before .before .before .before .before .head .ensures)) ∙ ap told (c .before .before .enum-told .given .1))
     (judged-head 1 _ (c .fault2 .ensures) (c .before .head2 .ensures))
 
 pub judged-spec : {M : Type 1} → statement M
 judged-spec =
     tie.close
     (tie.spec
+    edition-named-requires
     whole-requires
     whole-requires-2
     refused-requires

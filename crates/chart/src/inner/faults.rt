@@ -8,6 +8,7 @@ ghost use Rattle.base.specs.Options.{when, firstOf};
 ghost use Rattle.operations.specs.Operations.{isAssumption};
 ghost use Rattle.operations.specs.Trials.{exclusive};
 ghost use Rattle.chart.specs.Charts.{charted, size, from};
+ghost use Rattle.chart.specs.Compared.{editionNamed};
 ghost use Rattle.chart.specs.Faults.{lacks, exceeds, alarmOutside, strays, descends, conflicts, whole};
 ghost use Rattle.chart.specs.inner.Ascending.{Ascending};
 ghost use Rattle.chart.specs.inner.Faulty.{faulty};
@@ -25,6 +26,13 @@ pub fn whole(rows: &[u32]) -> bool
     ensures { λ r. ⌜ r ≡ whole (now (rows .entry)) ⌝ }
 {
     rows.len() % 6 == 0
+}
+
+// 21: whether an edition is one of the two.
+pub fn edition_named(edition: u32) -> bool
+    ensures { λ r. ⌜ r ≡ editionNamed edition ⌝ }
+{
+    (edition == 1) | (edition == 2)
 }
 
 // 1: whether places or rows are missing.
