@@ -5,11 +5,12 @@ use mathlib.Core.List.{List}
 use mathlib.Core.Option.{Option, none, some}
 use Prim.Native.Nat.{ℕ, zero, suc, _-_, _^_, _<_, _≤_}
 use native.Mathlib.Omega.{arith}
-use Rattle.base.specs.Options.{orElse}
+use lib.Dec.{eqb}
+use Rattle.base.specs.Options.{when, orElse}
 use Rattle.base.specs.Says.{bool}
 use Rattle.base.proofs.Tests.{and-true}
 use Rattle.base.proofs.Picks.{pick-true, pick-false, pick-none, pick-some}
-use Rattle.base.proofs.OnSome.{OnSome, on-at, when-so, or-on, picked, further}
+use Rattle.base.proofs.OnSome.{OnSome, on-at, when-so, or-on, picked, further, on-map}
 use Rattle.operations.specs.declared.Operation.{Operation}
 use Rattle.operations.specs.Operations.{isAssignment, isAssumption, same}
 use Rattle.operations.specs.Trials.{implication}
@@ -20,10 +21,10 @@ use Rattle.chart.specs.Faultless.{FaultlessChart}
 use Rattle.align.specs.declared.spots.Spot.{Spot}
 use Rattle.sets.specs.Sets.{alone, joined, with, without, meets}
 use Rattle.align.specs.Reads.{readSet}
-use Rattle.align.specs.Steps.{find, isImplied, along, matching, matched, rewritten, rowsAt, atAlarm, assigned, onward, follow, followed, counterpart, assumed, moved, fair, arrived, step}
-use Rattle.align.proofs.Onto.{same→eq, Among, found}
+use Rattle.align.specs.Steps.{find, isImplied, along, matching, matched, rewritten, rowsAt, atAlarm, writer, unequal, assigned, onward, follow, followed, counterpart, assumed, moved, fair, atBoth, rescued, arrived, step}
+use Rattle.align.proofs.Onto.{same→eq, Among, found, writer-writes}
 use Rattle.chart.proofs.Parts.{row-to}
-use Rattle.chart.specs.Compared.{Compared, headsOf}
+use Rattle.chart.specs.Compared.{Compared, isSecond, headsOf}
 
 -- ---- lines 7 and 8
 module _ (s : ℕ) (o : Operation) {m : Bool} (t : m ≡ meets s (readSet o)) where
@@ -67,6 +68,27 @@ matching-assumes rows o t =
 pub matched-assumes : (rows : List ℕ) (o : Operation) (k : ℕ) → isAssumption o ≡ true → some k ≡ matching rows o → isAssumption (operation rows k) ≡ true
 matched-assumes rows o k t e = on-at _ (matching-assumes rows o t) (sym e) .fits
 
+-- ---- line 10
+module _ (X : Compared) (h : Spot) (a : ℕ) {s : ℕ} (z : s ≡ with (h .set) a) where
+  pub unequal-first : isSecond X ≡ false → record { place = h .place; set = s } ≡ unequal X h a (writer X (h .place) a)
+  unfolding unequal writer
+  unequal-first b = (λ j. record { place = h .place; set = z j }) ∙ ap (unequal X h a) (sym (pick-false (isSecond X) _ none b))
+
+  -- footnote 6
+  module _ {rows : List ℕ} {x : Option ℕ} (b : isSecond X ≡ true) (r : rows ≡ rowsAt X (h .place)) (e : x ≡ find rows (λ o. isAssignment o && eqb (o .a) a)) where
+    wrote : x ≡ writer X (h .place) a
+    unfolding writer
+    wrote = e ∙ ap (λ (rows : List ℕ). find rows (λ o. isAssignment o && eqb (o .a) a)) r ∙ sym (pick-true (isSecond X) _ none b)
+
+    pub unequal-both : {k : ℕ} {t : OldPlace} → x ≡ some k → t .0 ≡ to rows k → record { place = t; set = s } ≡ unequal X h a (writer X (h .place) a)
+    unfolding unequal
+    unequal-both {k} q p =
+        (λ j. record { place = record { 0 = (p ∙ ap (λ (rows : List ℕ). to rows k) r) j }; set = z j }) ∙ ap (unequal X h a) (sym (sym wrote ∙ q))
+
+    pub unequal-alone : x ≡ none → record { place = h .place; set = s } ≡ unequal X h a (writer X (h .place) a)
+    unfolding unequal
+    unequal-alone q = (λ j. record { place = h .place; set = z j }) ∙ ap (unequal X h a) (sym (sym wrote ∙ q))
+
 -- ---- lines 6 to 10
 module _ (X : Compared) (h : Spot) (o : Operation) {rows : List ℕ} {x : Option ℕ} (r : rows ≡ rowsAt X (h .place)) (e : x ≡ find rows (λ o′. same o′ o)) where
   sought : x ≡ find (rowsAt X (h .place)) (λ o′. same o′ o)
@@ -79,12 +101,10 @@ module _ (X : Compared) (h : Spot) (o : Operation) {rows : List ℕ} {x : Option
       (λ j. record { place = record { 0 = (p ∙ ap (λ (rows : List ℕ). to rows k) r) j }; set = (z ∙ ap (rewritten (h .set)) i) j })
       ∙ ap (assigned X h o) (sym (sym sought ∙ q))
 
-  pub assigned-alone : {a s : ℕ} → x ≡ none → a ≡ o .a → s ≡ with (h .set) a
-      → record { place = h .place; set = s } ≡ assigned X h o (find (rowsAt X (h .place)) (λ o′. same o′ o))
+  pub assigned-unequal : {a : ℕ} {s : Spot} → x ≡ none → a ≡ o .a → s ≡ unequal X h a (writer X (h .place) a)
+      → s ≡ assigned X h o (find (rowsAt X (h .place)) (λ o′. same o′ o))
   unfolding assigned
-  assigned-alone q i z =
-      (λ j. record { place = h .place; set = (z ∙ ap (with (h .set)) i) j })
-      ∙ ap (assigned X h o) (sym (sym sought ∙ q))
+  assigned-unequal q i z = z ∙ ap (λ (a : ℕ). unequal X h a (writer X (h .place) a)) i ∙ ap (assigned X h o) (sym (sym sought ∙ q))
 
 -- a place that a row of a faultless chart leads to is one of 64
 pub part-below : (C : Chart) → FaultlessChart C → (p k : ℕ) → k < size (leaving (C .table) p) → to (leaving (C .table) p) k < 64
@@ -126,12 +146,17 @@ module _ (X : Compared) (F : FaultlessChart (X .old)) where
   unfolding counterpart
   counterpart-there p o = picked _ (atAlarm X p) none _ (λ t. tt) (λ t. matching-there (rowsAt X p) o)
 
+  unequal-below : (h : Spot) (a : ℕ) → Below h → (x : Option ℕ) → OnSome (λ k. k < size (rowsAt X (h .place))) x → Below (unequal X h a x)
+  unfolding unequal
+  unequal-below h a b none q = b
+  unequal-below h a b (some k) q = part-below (X .old) F (h .place .0) k q
+
   assigned-below : (h : Spot) (o : Operation) → Below h → (x : Option ℕ) → OnSome (Among (rowsAt X (h .place)) (λ o. Unit {0})) x → Below (assigned X h o x)
   unfolding assigned
-  assigned-below h o b none q = b
+  assigned-below h o b none q = unequal-below h (o .a) b (writer X (h .place) (o .a)) (on-map _ _ (writer X (h .place) (o .a)) (λ k A. A .inside) (writer-writes X (h .place) (o .a)))
   assigned-below h o b (some k) q = part-below (X .old) F (h .place .0) k (q .inside)
 
-  moved-below : (h : Spot) (o : Operation) → Below h → OnSome Below (moved X h o)
+  pub moved-below : (h : Spot) (o : Operation) → Below h → OnSome Below (moved X h o)
   unfolding moved followed
   moved-below h o b =
       picked _ (isAssignment o) _ _
@@ -139,14 +164,22 @@ module _ (X : Compared) (F : FaultlessChart (X .old)) where
       (λ t. further Below _ (follow X 64 (alone (h .place .0)) h) none _ (follow-below 64 (alone (h .place .0)) h b) tt
       (λ h′ b′. assumed-below h′ o b′ (counterpart X (h′ .place) o) (counterpart-there (h′ .place) o)))
 
+  rescued-below : (h : Spot) → Below h → OnSome Below (rescued X h)
+  unfolding rescued atBoth
+  rescued-below h b = picked _ (isSecond X) _ none (λ t. go (followed X h) (followed-below h b)) (λ t. tt)
+    where
+      go : (x : Option Spot) → OnSome Below x → OnSome Below (atBoth X x)
+      go none f = tt
+      go (some h′) f = when-so _ (atAlarm X (h′ .place)) h′ (λ t. f)
+
   -- the old place that a step comes to is one of 64
   pub step-below : (h : Spot) (o : Operation) (q : NewPlace) → Below h → OnSome Below (step X h o q)
   unfolding step arrived
   step-below h o q b = go (moved X h o) (moved-below h o b)
     where
-      go : (x : Option Spot) → OnSome Below x → OnSome Below (arrived (headsOf X) q x)
+      go : (x : Option Spot) → OnSome Below x → OnSome Below (arrived X q x)
       go none f = tt
-      go (some h′) f = when-so _ (bool (fair (headsOf X) (h′ .place) q)) h′ (λ t. f)
+      go (some h′) f = picked _ (bool (fair (headsOf X) (h′ .place) q)) (some h′) (rescued X h′) (λ t. f) (λ t. rescued-below h′ f)
 
 module _ (X : Compared) where
   -- ---- lines 13 and 14
@@ -209,6 +242,30 @@ module _ (X : Compared) where
         → r ≡ assumed X h′ o (counterpart X (h′ .place) o) → r ≡ moved X h o
     unfolding moved
     moved-assumed h′ t e q p = p ∙ sym (pick-false (isAssignment o) (some (assigned X h o (find (rowsAt X (h .place)) (λ o′. same o′ o)))) _ t ∙ pick-some (followed X h) none _ h′ (sym e ∙ q))
+
+  -- ---- line 27
+  module _ (h : Spot) where
+    pub rescued-first : isSecond X ≡ false → none ≡ rescued X h
+    unfolding rescued
+    rescued-first b = sym (pick-false (isSecond X) (atBoth X (followed X h)) none b)
+
+    -- footnote 8
+    module _ {f : Option Spot} (b : isSecond X ≡ true) (e : f ≡ followed X h) where
+      searched : atBoth X f ≡ rescued X h
+      unfolding rescued
+      searched = ap (atBoth X) e ∙ sym (pick-true (isSecond X) (atBoth X (followed X h)) none b)
+
+      pub rescued-both : (h′ : Spot) → f ≡ some h′ → atAlarm X (h′ .place) ≡ true → some h′ ≡ rescued X h
+      unfolding atBoth
+      rescued-both h′ q t = sym (ap (atBoth X) q ∙ ap (λ (a : Bool). when a h′) t) ∙ searched
+
+      pub rescued-elsewhere : (h′ : Spot) → f ≡ some h′ → atAlarm X (h′ .place) ≡ false → none ≡ rescued X h
+      unfolding atBoth
+      rescued-elsewhere h′ q t = sym (ap (atBoth X) q ∙ ap (λ (a : Bool). when a h′) t) ∙ searched
+
+      pub rescued-twice : f ≡ none → none ≡ rescued X h
+      unfolding atBoth
+      rescued-twice q = sym (ap (atBoth X) q) ∙ searched
 
 -- ---- the loop that follows: the walk so far and the walk from here on are one
 module _ (X : Compared) (h : Spot) where

@@ -1,30 +1,35 @@
 -- The aligned step does not look at the new table: of the new chart it knows the row that it is given, and the alarm.
 -- Assumes nothing.
-use mathlib.Core.Path.{_≡_, refl}
+use mathlib.Core.Path.{_≡_, refl, ap, _∙_}
 use mathlib.Core.Bool.{true, false}
 use mathlib.Core.List.{List}
 use mathlib.Core.Option.{Option, none, some}
 use Prim.Native.Nat.{ℕ, zero, suc}
+use Rattle.base.specs.Says.{bool}
 use Rattle.operations.specs.declared.Operation.{Operation}
 use Rattle.operations.specs.Operations.{isAssignment, same}
 use Rattle.chart.specs.declared.charts.Head.{Head}
 use Rattle.chart.specs.declared.places.NewPlace.{NewPlace}
 use Rattle.chart.specs.Charts.{Chart, charted}
-use Rattle.chart.specs.Compared.{Compared, both, headsOf}
+use Rattle.chart.specs.Compared.{Compared, both, isSecond, headsOf}
 use Rattle.align.specs.declared.spots.Spot.{Spot}
 use Rattle.sets.specs.Sets.{alone, with, meets}
-use Rattle.align.specs.Steps.{find, rowsAt, assigned, onward, follow, followed, counterpart, assumed, moved, arrived, step}
+use Rattle.align.specs.Steps.{find, rowsAt, writer, unequal, assigned, onward, follow, followed, counterpart, assumed, moved, fair, atBoth, rescued, arrived, step}
 
-module _ (old : Chart) (new : Head) (t u : List ℕ) where
+module _ (edition : ℕ) (old : Chart) (new : Head) (t u : List ℕ) where
   abbrev X : Compared
-  X = both old (charted new t)
+  X = both edition old (charted new t)
 
   abbrev Y : Compared
-  Y = both old (charted new u)
+  Y = both edition old (charted new u)
 
   assigned-same : (h : Spot) (o : Operation) (x : Option ℕ) → assigned X h o x ≡ assigned Y h o x
-  unfolding assigned
-  assigned-same h o none = refl
+  unfolding assigned unequal writer
+  assigned-same h o none = unequal-same (writer X (h .place) (o .a))
+    where
+      unequal-same : (x : Option ℕ) → unequal X h (o .a) x ≡ unequal Y h (o .a) x
+      unequal-same none = refl
+      unequal-same (some k) = refl
   assigned-same h o (some k) = refl
 
   follow-same : (n met : ℕ) (h : Spot) → follow X n met h ≡ follow Y n met h
@@ -52,6 +57,19 @@ module _ (old : Chart) (new : Head) (t u : List ℕ) where
         | false ↦ elim (follow-same 64 (alone (h .place .0)) h i) as (λ _. Option Spot) [ none ↦ none | some h′ ↦ assumed-same h′ o (counterpart X (h′ .place) o) i ]
       ]
 
+  rescued-same : (h : Spot) → rescued X h ≡ rescued Y h
+  unfolding rescued followed atBoth
+  rescued-same h = λ i. elim (isSecond X) as (λ _. Option Spot) [ true ↦ (ap (atBoth X) (follow-same 64 (alone (h .place .0)) h) ∙ at-both (follow Y 64 (alone (h .place .0)) h)) i | false ↦ none ]
+    where
+      at-both : (x : Option Spot) → atBoth X x ≡ atBoth Y x
+      at-both none = refl
+      at-both (some h) = refl
+
+  arrived-same : (q : NewPlace) (x : Option Spot) → arrived X q x ≡ arrived Y q x
+  unfolding arrived
+  arrived-same q none = refl
+  arrived-same q (some h) = λ i. elim (bool (fair (headsOf X) (h .place) q)) as (λ _. Option Spot) [ true ↦ some h | false ↦ rescued-same h i ]
+
   pub step-same : (h : Spot) (o : Operation) (q : NewPlace) → step X h o q ≡ step Y h o q
   unfolding step
-  step-same h o q = λ i. arrived (headsOf X) q (moved-same h o i)
+  step-same h o q = ap (arrived X q) (moved-same h o) ∙ arrived-same q (moved Y h o)

@@ -1,12 +1,12 @@
 -- The aligned step simulates: where old values lead from its end to the old alarm, they do so from its beginning. Assumes nothing.
-use mathlib.Core.Path.{_≡_, refl, sym, subst, _∙_}
-use mathlib.Core.Bool.{Bool, true, false, _&&_, _||_, not}
+use mathlib.Core.Path.{_≡_, refl, sym, ap, subst, _∙_}
+use mathlib.Core.Bool.{Bool, true, false, _&&_, _||_, not, or-true}
 use mathlib.Core.List.{List}
 use mathlib.Core.Option.{Option, none, some}
 use Prim.Native.Nat.{ℕ, zero, suc, _^_, _<_}
-use lib.Dec.{eqb, eqb→eq}
+use lib.Dec.{T, eqb, eqb→eq}
 use lib.ListN.{getD, set}
-use borrow.Author.Tests.{not-true}
+use borrow.Author.Tests.{not-true, eqb-true}
 use Rattle.base.specs.Says.{Says, bool}
 use Rattle.base.proofs.Tests.{T-and, T-true, is-true, and-true, or-false}
 use Rattle.base.proofs.Says.{says}
@@ -27,14 +27,14 @@ use Rattle.chart.specs.Runs.{lets, after}
 use Rattle.align.specs.declared.spots.Spot.{Spot}
 use Rattle.sets.specs.Sets.{alone, with, without, meets}
 use Rattle.align.specs.Reads.{readSet}
-use Rattle.align.specs.Steps.{find, isImplied, along, matching, matched, rewritten, rowsAt, atAlarm, assigned, onward, follow, followed, counterpart, assumed, moved, fair, arrived, step}
+use Rattle.align.specs.Steps.{find, isImplied, along, matching, matched, rewritten, rowsAt, atAlarm, writer, unequal, assigned, onward, follow, followed, counterpart, assumed, moved, fair, atBoth, rescued, arrived, step}
 use Rattle.sets.proofs.Sets.{with-here}
 use Rattle.chart.proofs.Conflicts.{operands}
 use Rattle.chart.proofs.Parts.{row-of, row-same}
 use Rattle.align.proofs.Agree.{Agree, value-agrees, holds-agrees, write-new, write-old, agree-with, agree-both}
 use Rattle.chart.proofs.Taken.{after-assignment, after-other, lets-assignment, lets-assumption, let-other, not-assignment}
 use Rattle.chart.proofs.Reach.{Hits, hits-row}
-use Rattle.chart.specs.Compared.{Compared, headsOf}
+use Rattle.chart.specs.Compared.{Compared, isSecond, headsOf}
 
 -- ---- what is found
 pub same→eq : (o o′ : Operation) → same o o′ ≡ true → o ≡ o′
@@ -72,12 +72,40 @@ module _ (X : Compared) where
   pub record Onto (w : List ℕ) (h : Spot) : Type 0 where
     pub leads : (v : List ℕ) → Agree (h .set) v w → Hits (X .old) (h .place .0) v
 
+  -- an assignment to variable a
+  abbrev pub Writes : ℕ → Operation → Type 0
+  Writes a o = (isAssignment o ≡ true) × (o .a ≡ a)
+
+  -- footnote 6: the old row that is found is one
+  pub writer-writes : (p : OldPlace) (a : ℕ) → OnSome (Among (rowsAt X p) (Writes a)) (writer X p a)
+  unfolding writer
+  writer-writes p a =
+      picked _ (isSecond X) _ none
+      (λ t. found (rowsAt X p) (λ o. isAssignment o && eqb (o .a) a) (λ o e. let z = and-true (isAssignment o) _ e in (z .0, eqb-true (o .a) a (z .1))))
+      (λ t. tt)
+
   module _ (w : List ℕ) where
+    -- line 10; footnote 6: an old assignment to the same variable, which may differ from now on
+    unequal-onto : (h : Spot) (o : Operation) → isAssignment o ≡ true → (x : Option ℕ) → OnSome (Among (rowsAt X (h .place)) (Writes (o .a))) x
+        → Onto (after o w) (unequal X h (o .a) x) → Onto w h
+    unfolding unequal
+    unequal-onto h o t none q K = record { leads = λ v A. K .leads v (rw (after-assignment o w t) (write-new (agree-with A (o .a)) (o .a) (value o (var w)) (with-here (o .a) (h .set) (o .a)))) }
+    unequal-onto h o t (some k) q K =
+        record {
+          leads = λ v A.
+              (let o′ = operation (rowsAt X (h .place)) k in
+              let m = with-here (o .a) (h .set) (o .a) in
+              let e = after-assignment o′ v (q .fits .0) ∙ ap (λ (a : ℕ). set v a (value o′ (var v))) (q .fits .1) in
+              hits-row (X .old) (h .place .0) k v (q .inside) (lets-assignment o′ v (q .fits .0))
+              (K .leads (after o′ v) (rw (e, after-assignment o w t)
+              (write-old (write-new (agree-with A (o .a)) (o .a) (value o (var w)) m) (o .a) (value o′ (var v)) m))));
+        }
+
     -- lines 6 to 10
     assigned-onto : (h : Spot) (o : Operation) → isAssignment o ≡ true → o .a < 64 → (x : Option ℕ) → OnSome (Among (rowsAt X (h .place)) (λ o′. same o′ o ≡ true)) x
         → Onto (after o w) (assigned X h o x) → Onto w h
     unfolding assigned rewritten
-    assigned-onto h o t l none q K = record { leads = λ v A. K .leads v (rw (after-assignment o w t) (write-new (agree-with A (o .a)) (o .a) (value o (var w)) (with-here (o .a) (h .set) (o .a)))) }
+    assigned-onto h o t l none q K = unequal-onto h o t (writer X (h .place) (o .a)) (writer-writes (h .place) (o .a)) K
     assigned-onto h o t l (some k) q K =
         record {
           leads = λ v A.
@@ -117,6 +145,19 @@ module _ (X : Compared) where
         further _ _ (onward X h) (some h) _ (onward-onto h) (λ K. K)
         (λ h′ q. picked _ (meets met (alone (h′ .place .0))) none _ (λ t. tt)
         (λ t. on-map _ _ (follow X n (with met (h′ .place .0)) h′) (λ h″ f K. q (f K)) (follow-onto n (with met (h′ .place .0)) h′)))
+
+    -- footnote 8: old assignments alone, up to the old alarm
+    rescued-onto : (h : Spot) (q : NewPlace) → OnSome (λ h′. (Onto w h′ → Onto w h) × Says (fair (headsOf X) (h′ .place) q)) (rescued X h)
+    unfolding rescued followed atBoth
+    rescued-onto h q =
+        picked _ (isSecond X) _ none (λ t. go (follow X 64 (alone (h .place .0)) h) (follow-onto 64 (alone (h .place .0)) h)) (λ t. tt)
+      where
+        both : (p : OldPlace) → T (atAlarm X p) → Says (fair (headsOf X) p q)
+        both p t = says (fair (headsOf X) p q) (T-true {b = bool (fair (headsOf X) p q)} (rw (is-true (atAlarm X p) t) (or-true (not (eqb (q .0) (X .new .head .alarm))))))
+
+        go : (x : Option Spot) → OnSome (λ h′. Onto w h′ → Onto w h) x → OnSome (λ h′. (Onto w h′ → Onto w h) × Says (fair (headsOf X) (h′ .place) q)) (atBoth X x)
+        go none f = tt
+        go (some h′) f = when-so _ (atAlarm X (h′ .place)) h′ (λ t. (f, both (h′ .place) t))
 
     -- lines 16 to 18: the set meets nothing that a matched assumption reads
     assumed-onto : (h : Spot) (o : Operation) (x : Option ℕ) → OnSome (Among (rowsAt X (h .place)) (λ o′. (isAssumption o′ ≡ true) × (holds o′ (var w) ≡ true))) x
@@ -170,6 +211,8 @@ module _ (X : Compared) where
     step-onto h o q O l = go (moved X h o) (moved-onto h o O l)
       where
         go : (x : Option Spot) → OnSome (λ h′. Onto (after o w) h′ → Onto w h) x
-            → OnSome (λ h′. (Onto (after o w) h′ → Onto w h) × Says (fair (headsOf X) (h′ .place) q)) (arrived (headsOf X) q x)
+            → OnSome (λ h′. (Onto (after o w) h′ → Onto w h) × Says (fair (headsOf X) (h′ .place) q)) (arrived X q x)
         go none f = tt
-        go (some h′) f = when-so _ (bool (fair (headsOf X) (h′ .place) q)) h′ (λ t. (f, says (fair (headsOf X) (h′ .place) q) t))
+        go (some h′) f =
+            picked _ (bool (fair (headsOf X) (h′ .place) q)) (some h′) (rescued X h′) (λ t. (f, says (fair (headsOf X) (h′ .place) q) (T-true t)))
+            (λ t. on-map _ _ (rescued X h′) (λ h″ z. (λ K. f (z .0 K), z .1)) (rescued-onto (after o w) h′ q))

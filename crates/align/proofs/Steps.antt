@@ -5,7 +5,7 @@ use mathlib.Core.Option.{Option, none, some}
 use Prim.Native.Nat.{ℕ, zero, suc, _^_, _≤_, _<_}
 use native.Mathlib.Omega.{arith}
 use Rattle.base.specs.Says.{bool}
-use Rattle.base.proofs.OnSome.{OnSome, when-so, or-on, first-on, picked, further}
+use Rattle.base.proofs.OnSome.{OnSome, when-so, or-on, first-on, picked, further, on-map}
 use Rattle.operations.specs.declared.Operation.{Operation}
 use Rattle.operations.specs.Operations.{isAssignment, isAssumption, same}
 use Rattle.operations.specs.Trials.{implication}
@@ -16,11 +16,11 @@ use Rattle.chart.specs.Faultless.{FaultlessChart}
 use Rattle.align.specs.declared.spots.Spot.{Spot}
 use Rattle.sets.specs.Sets.{alone, with, without, meets}
 use Rattle.align.specs.Reads.{readSet}
-use Rattle.align.specs.Steps.{find, isImplied, along, matching, matched, rewritten, rowsAt, atAlarm, assigned, onward, follow, followed, counterpart, assumed, moved, fair, arrived, step}
+use Rattle.align.specs.Steps.{find, isImplied, along, matching, matched, rewritten, rowsAt, atAlarm, writer, unequal, assigned, onward, follow, followed, counterpart, assumed, moved, fair, atBoth, rescued, arrived, step}
 use Rattle.chart.proofs.Parts.{row-to, row-a}
 use Rattle.sets.proofs.Sets.{with-small, without-small}
-use Rattle.chart.specs.declared.charts.Heads.{Heads}
-use Rattle.chart.specs.Compared.{Compared, headsOf}
+use Rattle.align.proofs.Onto.{writer-writes}
+use Rattle.chart.specs.Compared.{Compared, isSecond, headsOf}
 
 -- the place is below b, and the set has 64 variables at most
 pub record Fits (b : ℕ) (h : Spot) : Type 0 where
@@ -44,9 +44,14 @@ module _ (X : Compared) (F : FaultlessChart (X .old)) (b : ℕ) (wide : X .old .
       go true = with-small t (o .a) f l
       go false = without-small t (o .a) f
 
+  unequal-fits : (h : Spot) (a : ℕ) → a < 64 → (x : Option ℕ) → OnSome (λ k. k < size (rowsAt X (h .place))) x → Fits b h → Fits b (unequal X h a x)
+  unfolding unequal
+  unequal-fits h a l none q f = record { place = f .place; set = with-small (h .set) a (f .set) l }
+  unequal-fits h a l (some k) q f = record { place = to-fits (h .place) k q; set = with-small (h .set) a (f .set) l }
+
   assigned-fits : (h : Spot) (o : Operation) → o .a < 64 → (x : Option ℕ) → OnSome (λ k. k < size (rowsAt X (h .place))) x → Fits b h → Fits b (assigned X h o x)
   unfolding assigned
-  assigned-fits h o l none q f = record { place = f .place; set = with-small (h .set) (o .a) (f .set) l }
+  assigned-fits h o l none q f = unequal-fits h (o .a) l (writer X (h .place) (o .a)) (on-map _ _ (writer X (h .place) (o .a)) (λ k A. A .inside) (writer-writes X (h .place) (o .a))) f
   assigned-fits h o l (some k) q f = record { place = to-fits (h .place) k q; set = rewritten-small (h .set) o l (f .set) }
 
   along-fits : (t : ℕ) (p : OldPlace) (x : Option ℕ) → OnSome (λ k. k < size (rowsAt X p)) x → t < 2 ^ 64 → OnSome (Fits b) (along t (rowsAt X p) x)
@@ -80,7 +85,7 @@ module _ (X : Compared) (F : FaultlessChart (X .old)) (b : ℕ) (wide : X .old .
       picked _ (atAlarm X p) none _ (λ e. tt) (λ e. or-on _ (find (rowsAt X p) (λ o′. same o′ o)) _ (found (rowsAt X p) (λ o′. same o′ o))
       (λ _. found (rowsAt X p) (λ o′. isAssumption o′ && isImplied (implication o o′))))
 
-  moved-fits : (h : Spot) (o : Operation) → o .a < 64 → Fits b h → OnSome (Fits b) (moved X h o)
+  pub moved-fits : (h : Spot) (o : Operation) → o .a < 64 → Fits b h → OnSome (Fits b) (moved X h o)
   unfolding moved followed
   moved-fits h o l f =
       picked _ (isAssignment o) _ _
@@ -88,11 +93,19 @@ module _ (X : Compared) (F : FaultlessChart (X .old)) (b : ℕ) (wide : X .old .
       (λ t. further (Fits b) _ (follow X 64 (alone (h .place .0)) h) none _ (follow-fits 64 (alone (h .place .0)) h f) tt
       (λ h′ f′. assumed-fits h′ o (counterpart X (h′ .place) o) (counterpart-there (h′ .place) o) f′))
 
-  arrived-fits : (heads : Heads) (q : NewPlace) (x : Option Spot) → OnSome (Fits b) x → OnSome (Fits b) (arrived heads q x)
+  rescued-fits : (h : Spot) → Fits b h → OnSome (Fits b) (rescued X h)
+  unfolding rescued followed atBoth
+  rescued-fits h f = picked _ (isSecond X) _ none (λ t. go (follow X 64 (alone (h .place .0)) h) (follow-fits 64 (alone (h .place .0)) h f)) (λ t. tt)
+    where
+      go : (x : Option Spot) → OnSome (Fits b) x → OnSome (Fits b) (atBoth X x)
+      go none f = tt
+      go (some h′) f = when-so _ (atAlarm X (h′ .place)) h′ (λ t. f)
+
+  arrived-fits : (q : NewPlace) (x : Option Spot) → OnSome (Fits b) x → OnSome (Fits b) (arrived X q x)
   unfolding arrived
-  arrived-fits heads q none f = tt
-  arrived-fits heads q (some h) f = when-so _ (bool (fair heads (h .place) q)) h (λ t. f)
+  arrived-fits q none f = tt
+  arrived-fits q (some h) f = picked _ (bool (fair (headsOf X) (h .place) q)) (some h) (rescued X h) (λ t. f) (λ t. rescued-fits h f)
 
   pub step-fits : (h : Spot) (o : Operation) (q : NewPlace) → o .a < 64 → Fits b h → OnSome (Fits b) (step X h o q)
   unfolding step
-  step-fits h o q l f = arrived-fits (headsOf X) q (moved X h o) (moved-fits h o l f)
+  step-fits h o q l f = arrived-fits q (moved X h o) (moved-fits h o l f)

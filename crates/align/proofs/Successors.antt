@@ -1,19 +1,23 @@
--- The successor that lines 5 to 18 find does not depend on the set: only whether the step fails does, so that a pair
--- and an edge of the new chart have one successor. Assumes nothing.
-use mathlib.Core.Path.{_≡_, refl, sym, _∙_}
+-- Where a step that does not fail leads does not depend on the set: only whether it fails does, so that a pair and an
+-- edge of the new chart have one successor, in either edition. Assumes nothing.
+use mathlib.Core.Path.{_≡_, refl, sym, ap, _∙_}
 use mathlib.Core.Bool.{Bool, true, false, _||_, not}
 use mathlib.Core.Option.{Option, none, some}
 use Prim.Native.Nat.{ℕ, zero, suc}
-use Rattle.base.proofs.OnSome.{OnSome, on-at, when-so}
+use borrow.Author.Tests.{eqb-true}
+use Rattle.base.specs.Says.{bool}
+use Rattle.base.proofs.OnSome.{OnSome, on-at, when-so, picked, on-map}
+use Rattle.base.proofs.Tests.{is-true}
 use Rattle.operations.specs.declared.Operation.{Operation}
 use Rattle.operations.specs.Operations.{isAssignment, same}
 use Rattle.chart.specs.declared.places.OldPlace.{OldPlace}
+use Rattle.chart.specs.declared.places.NewPlace.{NewPlace}
 use Rattle.chart.specs.Charts.{operation}
-use Rattle.chart.specs.Compared.{Compared}
+use Rattle.chart.specs.Compared.{Compared, isSecond, headsOf}
 use Rattle.align.specs.declared.spots.Spot.{Spot}
 use Rattle.sets.specs.Sets.{alone, with, meets}
 use Rattle.align.specs.Reads.{readSet}
-use Rattle.align.specs.Steps.{find, oldTo, along, matched, rowsAt, atAlarm, assigned, onward, follow, followed, counterpart, assumed, moved}
+use Rattle.align.specs.Steps.{find, oldTo, along, matched, rowsAt, atAlarm, writer, unequal, assigned, onward, follow, followed, counterpart, assumed, moved, fair, atBoth, rescued, arrived, step}
 
 abbrev at : OldPlace → ℕ → Spot
 at p s = record { place = p; set = s }
@@ -63,29 +67,69 @@ module _ (X : Compared) where
   past p o none = p
   past p o (some h) = beyond (h .place) (counterpart X (h .place) o)
 
-  pub successor : OldPlace → Operation → OldPlace
-  successor p o = elim (isAssignment o) [ true ↦ beyond p (find (rowsAt X p) (λ o′. same o′ o)) | false ↦ past p o (followed X (at p 0)) ]
+  -- where lines 5 to 10 lead, with the equal row if there is one
+  written : OldPlace → ℕ → Option ℕ → OldPlace
+  written p a none = beyond p (writer X p a)
+  written p a (some k) = oldTo (rowsAt X p) k
 
-  pub one-successor : (p : OldPlace) (s : ℕ) (o : Operation) → OnSome (λ (h : Spot). h .place ≡ successor p o) (moved X (at p s) o)
-  unfolding moved followed successor past assigned beyond
-  one-successor p s o = go (isAssignment o)
+  -- lines 5 to 18
+  reached : OldPlace → Operation → OldPlace
+  reached p o = elim (isAssignment o) [ true ↦ written p (o .a) (find (rowsAt X p) (λ o′. same o′ o)) | false ↦ past p o (followed X (at p 0)) ]
+
+  one-reached : (p : OldPlace) (s : ℕ) (o : Operation) → OnSome (λ (h : Spot). h .place ≡ reached p o) (moved X (at p s) o)
+  unfolding moved followed reached past assigned unequal beyond written
+  one-reached p s o = go (isAssignment o)
     where
-      set-free : (k : Option ℕ) → assigned X (at p s) o k .place ≡ beyond p k
-      set-free none = refl
-      set-free (some k) = refl
+      unequal-place : (k : Option ℕ) → unequal X (at p s) (o .a) k .place ≡ beyond p k
+      unequal-place none = refl
+      unequal-place (some k) = refl
+
+      assigned-place : (k : Option ℕ) → assigned X (at p s) o k .place ≡ written p (o .a) k
+      assigned-place none = unequal-place (writer X p (o .a))
+      assigned-place (some k) = refl
 
       on : {x y : Option Spot} → Like x y → OnSome (λ (h : Spot). h .place ≡ past p o y) (elim x [ none ↦ none | some h′ ↦ assumed X h′ o (counterpart X (h′ .place) o) ])
       on neither = tt
       on (both q u v) = assumed-place q u o (counterpart X q o)
 
-      go : (b : Bool) → OnSome (λ (h : Spot). h .place ≡ (elim b [ true ↦ beyond p (find (rowsAt X p) (λ o′. same o′ o)) | false ↦ past p o (followed X (at p 0)) ]))
+      go : (b : Bool) → OnSome (λ (h : Spot). h .place ≡ (elim b [ true ↦ written p (o .a) (find (rowsAt X p) (λ o′. same o′ o)) | false ↦ past p o (followed X (at p 0)) ]))
           (elim b [
             | true ↦ some (assigned X (at p s) o (find (rowsAt X p) (λ o′. same o′ o)))
             | false ↦ elim (followed X (at p s)) [ none ↦ none | some h′ ↦ assumed X h′ o (counterpart X (h′ .place) o) ]
           ])
-      go true = set-free (find (rowsAt X p) (λ o′. same o′ o))
+      go true = assigned-place (find (rowsAt X p) (λ o′. same o′ o))
       go false = on (follow-like 64 (alone (p .0)) p s 0)
 
+  -- ---- line 27: a step that does not fail for the new alarm is at the old one too
+  landed : OldPlace → NewPlace → OldPlace
+  landed p q = elim (bool (fair (headsOf X) p q)) [ true ↦ p | false ↦ record { 0 = X .old .head .alarm } ]
+
+  rescued-place : (h : Spot) → OnSome (λ (h′ : Spot). h′ .place ≡ record { 0 = X .old .head .alarm }) (rescued X h)
+  unfolding rescued atBoth
+  rescued-place h = picked _ (isSecond X) _ none (λ t. go (followed X h)) (λ t. tt)
+    where
+      go : (x : Option Spot) → OnSome (λ (h′ : Spot). h′ .place ≡ record { 0 = X .old .head .alarm }) (atBoth X x)
+      go none = tt
+      go (some h′) = when-so _ (atAlarm X (h′ .place)) h′ (λ t. ap (λ (p : ℕ). record { 0 = p }) (eqb-true (h′ .place .0) (X .old .head .alarm) (is-true _ t)))
+
+  pub successor : OldPlace → Operation → NewPlace → OldPlace
+  successor p o q = landed (reached p o) q
+
+  pub one-successor : (p : OldPlace) (s : ℕ) (o : Operation) (q : NewPlace) → OnSome (λ (h : Spot). h .place ≡ successor p o q) (step X (at p s) o q)
+  unfolding step arrived successor landed
+  one-successor p s o q = go (moved X (at p s) o) (one-reached p s o)
+    where
+      by : (h : Spot) → OnSome (λ (h′ : Spot). h′ .place ≡ landed (h .place) q) (arrived X q (some h))
+      by h = pick (bool (fair (headsOf X) (h .place) q))
+        where
+          pick : (b : Bool) → OnSome (λ (h′ : Spot). h′ .place ≡ (elim b [ true ↦ h .place | false ↦ record { 0 = X .old .head .alarm } ])) (elim b [ true ↦ some h | false ↦ rescued X h ])
+          pick true = refl
+          pick false = rescued-place h
+
+      go : (x : Option Spot) → OnSome (λ (h : Spot). h .place ≡ reached p o) x → OnSome (λ (h : Spot). h .place ≡ landed (reached p o) q) (arrived X q x)
+      go none e = tt
+      go (some h) e = on-map _ _ (arrived X q (some h)) (λ h′ z. z ∙ ap (λ (p : OldPlace). landed p q) e) (by h)
+
   -- two sets
-  pub set-free : (p : OldPlace) (s t : ℕ) (o : Operation) (h h′ : Spot) → moved X (at p s) o ≡ some h → moved X (at p t) o ≡ some h′ → h .place ≡ h′ .place
-  set-free p s t o h h′ d e = on-at _ (one-successor p s o) d ∙ sym (on-at _ (one-successor p t o) e)
+  pub set-free : (p : OldPlace) (s t : ℕ) (o : Operation) (q : NewPlace) (h h′ : Spot) → step X (at p s) o q ≡ some h → step X (at p t) o q ≡ some h′ → h .place ≡ h′ .place
+  set-free p s t o q h h′ d e = on-at _ (one-successor p s o q) d ∙ sym (on-at _ (one-successor p t o q) e)

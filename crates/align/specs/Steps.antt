@@ -1,5 +1,6 @@
 -- One aligned step ("One aligned step"): lines 5 to 18 and 27 of the source's Algorithm 2, for a pair, a set V and a
--- new row.
+-- new row; and what "footnotes 6 and 8 of source document 002" make of lines 10 and 27 in edition 2 (document 02,
+-- #104).
 use mathlib.Core.Bool.{Bool, true, false, _&&_, _||_, not}
 use mathlib.Core.List.{List}
 use mathlib.Core.Option.{Option, none, some}
@@ -15,7 +16,7 @@ use Rattle.operations.specs.Trials.{implication}
 use Rattle.chart.specs.declared.places.OldPlace.{OldPlace}
 use Rattle.chart.specs.declared.places.NewPlace.{NewPlace}
 use Rattle.chart.specs.declared.charts.Heads.{Heads}
-use Rattle.chart.specs.Compared.{Compared, headsOf}
+use Rattle.chart.specs.Compared.{Compared, isSecond, headsOf}
 use Rattle.chart.specs.Charts.{size, to, operation, leaving}
 use Rattle.align.specs.declared.spots.Spot.{Spot}
 use Rattle.sets.specs.Sets.{alone, with, without, meets}
@@ -62,11 +63,6 @@ rewritten s o = elim (meets s (readSet o)) [ true ↦ with s (o .a) | false ↦ 
 abbrev pub fair : Heads → OldPlace → NewPlace → Test
 fair heads p q = ne (q .0) (heads .new .alarm .0) or eq (p .0) (heads .old .alarm .0)
 
--- "A step to the new alarm with an old place that isn't the old alarm fails." (line 27)
-unfoldable pub arrived : Heads → NewPlace → Option Spot → Option Spot
-arrived heads q none = none
-arrived heads q (some h) = when (bool (fair heads (h .place) q)) h
-
 module _ (X : Compared) where
   -- "the rows that leave a place": the old ones, as a table of their own
   abbrev pub rowsAt : OldPlace → List ℕ
@@ -76,10 +72,26 @@ module _ (X : Compared) where
   abbrev pub atAlarm : OldPlace → Bool
   atAlarm p = eqb (p .0) (X .old .head .alarm)
 
+  -- ---- line 10, an assignment to variable a without an equal row in the old chart
+  -- "where an old row at the pair writes the same variable", in edition 2 (document 02, #104; footnote 6)
+  unfoldable pub writer : OldPlace → ℕ → Option ℕ
+  writer p a =
+      elim (isSecond X) [
+        | true ↦ find (rowsAt p) (λ o. isAssignment o && eqb (o .a) a)
+        | false ↦ none
+      ]
+
+  -- with that old row if there is one
+  unfoldable pub unequal : Spot → ℕ → Option ℕ → Spot
+  -- "Assignment, no such row: go to (p, q2) with V plus the written variable." (line 10)
+  unequal h a none = record { place = h .place; set = with (h .set) a }
+  -- "moves both charts and adds that variable" (document 02, #104; footnote 6)
+  unequal h a (some k) = record { place = oldTo (rowsAt (h .place)) k; set = with (h .set) a }
+
   -- ---- lines 6 to 10, an assignment, with its equal row in the old chart if there is one
   unfoldable pub assigned : Spot → Operation → Option ℕ → Spot
-  -- "Assignment, no such row: go to (p, q2) with V plus the written variable." (line 10)
-  assigned h o none = record { place = h .place; set = with (h .set) (o .a) }
+  -- "Assignment, no such row" (line 10), "a new assignment without an equal old row" (document 02, #104)
+  assigned h o none = unequal h (o .a) (writer (h .place) (o .a))
   -- "Assignment, equal row p→p2 in the old chart: go to (p2, q2)." (lines 6 and 9)
   assigned h o (some k) = record { place = oldTo (rowsAt (h .place)) k; set = rewritten (h .set) o }
 
@@ -118,6 +130,23 @@ module _ (X : Compared) where
   assumed h o none = some h
   assumed h o (some k) = matched (h .set) (rowsAt (h .place)) k o
 
+  -- ---- line 27, a step that comes to the new alarm without the old one
+  -- "If they meet the old alarm" (document 02, #104; footnote 8): where the old assignments that were followed end
+  unfoldable pub atBoth : Option Spot → Option Spot
+  atBoth none = none
+  atBoth (some h) = when (atAlarm (h .place)) h
+
+  -- in edition 2, "before a step fails only for meeting the new alarm without the old one, old assignments are followed
+  -- from the old place it came to. If they meet the old alarm, the step goes to both alarms and the set gains what was
+  -- written; a place met twice ends the search." (document 02, #104; footnote 8)
+  unfoldable pub rescued : Spot → Option Spot
+  rescued h = elim (isSecond X) [ true ↦ atBoth (followed h) | false ↦ none ]
+
+  -- "A step to the new alarm with an old place that isn't the old alarm fails." (line 27)
+  unfoldable pub arrived : NewPlace → Option Spot → Option Spot
+  arrived q none = none
+  arrived q (some h) = elim (bool (fair (headsOf X) (h .place) q)) [ true ↦ some h | false ↦ rescued h ]
+
   -- ---- the step, up to the rule of the new alarm: by an assignment (line 5) or an assumption (line 11)
   unfoldable pub moved : Spot → Operation → Option Spot
   moved h o =
@@ -129,4 +158,4 @@ module _ (X : Compared) where
   -- "Given a pair, a set V and a new row q→q2": the aligned step from an old place and its set by a new row with
   -- operation o that leads to q: none where it fails, else the old place it comes to and the set there
   unfoldable pub step : Spot → Operation → NewPlace → Option Spot
-  step h o q = arrived (headsOf X) q (moved h o)
+  step h o q = arrived q (moved h o)

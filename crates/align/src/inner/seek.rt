@@ -2,12 +2,14 @@
 ghost use mathlib.Core.Path.{_≡_};
 ghost use mathlib.Core.Bool.{false, _&&_};
 ghost use Prim.Native.Nat.{ℕ, _<_};
+ghost use lib.Dec.{eqb};
 ghost use Rattle.operations.specs.Operations.{same, isAssignment, isAssumption};
 ghost use Rattle.operations.specs.Trials.{never, implication};
 ghost use Rattle.chart.specs.Charts.{size, operation};
 ghost use Rattle.align.specs.Steps.{find, isImplied, matching};
 ghost use Rattle.base.specs.inner.Found.{toldFound};
 use base::Found;
+use chart::inner::rows::a_at;
 use chart::inner::rows::is_assignment_at;
 use chart::inner::rows::operation_at;
 use chart::inner::rows::same_operation;
@@ -39,6 +41,20 @@ pub fn assignment(rows: &[u32]) -> Found
         return Found::Nothing;
     }
     if is_assignment_at(rows, 0) {
+        return Found::At(0);
+    }
+    Found::Nothing
+}
+
+// The assignment of a place, if it writes variable a.
+pub fn writing(rows: &[u32], a: u32) -> Found
+    requires { ⌜ ((k : ℕ) → 0 < k → k < size (now rows) → isAssignment (operation (now rows) k) ≡ false) ⌝ }
+    ensures { λ r. ⌜ toldFound r ≡ find (now (rows .entry)) (λ o. isAssignment o && eqb (o .a) a) ⌝ }
+{
+    if rows.len() < 6 {
+        return Found::Nothing;
+    }
+    if is_assignment_at(rows, 0) & (a_at(rows, 0) == a) {
         return Found::At(0);
     }
     Found::Nothing

@@ -1,13 +1,15 @@
 // One aligned step by a new row. `part` is the part of the new table that leaves a place, and j the row's number in it.
 ghost use mathlib.Core.Path.{_≡_};
 ghost use mathlib.Core.Bool.{true};
+ghost use mathlib.Core.Option.{some};
 ghost use Prim.Native.Nat.{_<_};
 ghost use Rattle.base.specs.Says.{bool};
 ghost use Rattle.operations.specs.Operations.{isKnown, isAssignment, isAssumption, same, operandsFit};
 ghost use Rattle.chart.specs.Charts.{size, to, operation};
 ghost use Rattle.chart.specs.Compared.{compared};
 ghost use Rattle.chart.specs.inner.Prepared.{Prepared};
-ghost use Rattle.align.specs.Steps.{find, rewritten, assigned, matched, counterpart, assumed, moved, fair, arrived, rowsAt, step};
+ghost use Rattle.align.specs.Steps.{find, rewritten, writer, unequal, assigned, matched, counterpart, assumed, moved, fair, rescued, arrived, rowsAt, step};
+ghost use Rattle.align.specs.declared.spots.Spot.{Spot};
 ghost use Rattle.align.specs.inner.Told.{told};
 use crate::inner::follow::follow;
 use crate::inner::reads;
@@ -42,6 +44,37 @@ fn rewritten(set: u64, o: Operation) -> u64
     bits::without(set, o.a)
 }
 
+// By a new assignment to variable a that no old row of the place equals. In edition 2 the old chart moves too, where
+// the place has an assignment to a.
+fn unequal<'a>(
+    heads: Heads,
+    old_rows: &'a [u32],
+    new_rows: &'a [u32],
+    index: &[u8; 130],
+    h: Spot,
+    a: u32,
+) -> Spot
+    requires { ⌜ Prepared (compared heads (now «old_rows») (now «new_rows»)) (now index) ⌝ }
+    requires { ⌜ h .place .0 < 64 ⌝ }
+    requires { ⌜ a < 64 ⌝ }
+    ensures { λ r. ⌜ r ≡ unequal (compared heads (now («old_rows» .entry)) (now («new_rows» .entry))) h a
+        (writer (compared heads (now («old_rows» .entry)) (now («new_rows» .entry))) (h .place) a) ⌝ }
+{
+    let p = h.place;
+    let set = bits::with(h.set, a);
+    if heads.edition != 2 {
+        return Spot { place: p, set };
+    }
+    let rows = rows_of(old_rows, new_rows, index, Place::Old(p));
+    match seek::writing(rows, a) {
+        Found::At(k) => Spot {
+            place: old_to(rows, k),
+            set,
+        },
+        Found::Nothing => Spot { place: p, set },
+    }
+}
+
 // By a new assignment: together with the equal old row, if there is one.
 fn assigned<'a>(
     heads: Heads,
@@ -68,10 +101,7 @@ fn assigned<'a>(
             place: old_to(rows, k),
             set: rewritten(h.set, operation_at(part, j)),
         },
-        Found::Nothing => Spot {
-            place: p,
-            set: bits::with(h.set, a_at(part, j)),
-        },
+        Found::Nothing => unequal(heads, old_rows, new_rows, index, h, a_at(part, j)),
     }
 }
 
@@ -160,24 +190,64 @@ pub fn fair(heads: Heads, p: OldPlace, q: NewPlace) -> bool
     p.is(heads.old.alarm)
 }
 
-fn arrived(heads: Heads, q: NewPlace, came: Aligned) -> Aligned
-    ensures { λ r. ⌜ told r ≡ arrived heads q (told came) ⌝ }
+// A step that comes to the new alarm without the old one. In edition 2 old assignments are followed first: where they
+// meet the old alarm, it goes to both.
+fn rescued<'a>(
+    heads: Heads,
+    old_rows: &'a [u32],
+    new_rows: &'a [u32],
+    index: &[u8; 130],
+    h: Spot,
+) -> Aligned
+    requires { ⌜ Prepared (compared heads (now «old_rows») (now «new_rows»)) (now index) ⌝ }
+    requires { ⌜ h .place .0 < 64 ⌝ }
+    ensures { λ r. ⌜ told r ≡ rescued (compared heads (now («old_rows» .entry)) (now («new_rows» .entry))) h ⌝ }
+{
+    if heads.edition != 2 {
+        return Aligned::Failed;
+    }
+    match follow(heads, old_rows, new_rows, index, h) {
+        Followed::At(next) => {
+            let p = next.place;
+            if p.is(heads.old.alarm) {
+                return Aligned::To(next);
+            }
+            Aligned::Failed
+        }
+        Followed::Twice => Aligned::Failed,
+    }
+}
+
+// The rule of the new alarm, of what the step has come to.
+fn arrived<'a>(
+    heads: Heads,
+    old_rows: &'a [u32],
+    new_rows: &'a [u32],
+    index: &[u8; 130],
+    q: NewPlace,
+    came: Aligned,
+) -> Aligned
+    requires { ⌜ Prepared (compared heads (now «old_rows») (now «new_rows»)) (now index) ⌝ }
+    requires { ⌜ ((h : Spot) → told came ≡ some h → h .place .0 < 64) ⌝ }
+    ensures { λ r. ⌜ told r
+        ≡ arrived (compared heads (now («old_rows» .entry)) (now («new_rows» .entry))) q (told came) ⌝ }
 {
     match came {
         Aligned::To(h) => {
             if fair(heads, h.place, q) {
                 return Aligned::To(h);
             }
-            Aligned::Failed
+            rescued(heads, old_rows, new_rows, index, h)
         }
         Aligned::Failed => Aligned::Failed,
     }
 }
 
-// The aligned step from an old place and its set by row j of the part. Both heads, the place and the set come apart,
-// each in a register: heads together would be written to memory for each step, and place and set as a spot would be
-// written narrow and read back wide, which stalls.
+// The aligned step from an old place and its set by row j of the part. Edition, both heads, the place and the set come
+// apart, each in a register: heads together would be written to memory for each step, and place and set as a spot would
+// be written narrow and read back wide, which stalls.
 pub fn step<'a>(
+    edition: u32,
     old: OldHead,
     new: NewHead,
     old_rows: &'a [u32],
@@ -188,19 +258,24 @@ pub fn step<'a>(
     part: &'a [u32],
     j: usize,
 ) -> Aligned
-    requires { ⌜ Prepared (compared (record { old = old; new = new }) (now «old_rows») (now «new_rows»)) (now index) ⌝ }
+    requires { ⌜ Prepared (compared (record { edition = edition; old = old; new = new }) (now «old_rows»)
+        (now «new_rows»)) (now index) ⌝ }
     requires { ⌜ p .0 < 64 ⌝ }
     requires { ⌜ (j < size (now part)) × (isKnown (operation (now part) j) ≡ true)
         × (operandsFit (operation (now part) j) ≡ true) ⌝ }
     ensures { λ r. ⌜ told r
-        ≡ step (compared (record { old = old; new = new }) (now («old_rows» .entry)) (now («new_rows» .entry)))
+        ≡ step (compared (record { edition = edition; old = old; new = new }) (now («old_rows» .entry))
+        (now («new_rows» .entry)))
         (record { place = p; set = set }) (operation (now (part .entry)) j)
         (record { 0 = to (now (part .entry)) j }) ⌝ }
 {
-    let heads = Heads { old, new };
+    let heads = Heads { edition, old, new };
     let h = Spot { place: p, set };
     arrived(
         heads,
+        old_rows,
+        new_rows,
+        index,
         new_to(part, j),
         moved(heads, old_rows, new_rows, index, h, part, j),
     )

@@ -1,6 +1,6 @@
--- `align::inner::step::assigned` meets its contract: with the equal row, or alone. Assumes nothing.
+-- `align::inner::step::assigned` meets its contract: with the equal row, or without one. Assumes nothing.
 use mathlib.Core.Path.{_≡_, sym, ap, subst, _∙_}
-use Rattle.align.proofs.Moves.{assigned-equal, assigned-alone}
+use Rattle.align.proofs.Moves.{assigned-equal, assigned-unequal}
 use Rattle.base.specs.inner.Found.{toldFound}
 use Rattle.align.proofs.Seek.{found-inside}
 use Rattle.operations.specs.declared.Operation.{Operation}
@@ -39,14 +39,14 @@ enum-told c = search needs
 a-at-requires : tie.Need-a-at-requires
 a-at-requires c κs = search needs
 
-with-requires : tie.Need-with-requires
-with-requires c κs = subst (λ (a : ℕ). a < 64) (sym (c .a-at .ensures)) (fit-a _ (c .before .before .before .before .before .before .before .before .before .pre .1 .1 .2))
+unequal-requires : tie.Need-unequal-requires
+unequal-requires c κs = let p = c .before .before .before .before .before .before .before .before .before .pre in (p .0, (p .1 .0, subst (λ (a : ℕ). a < 64) (sym (c .a-at .ensures)) (fit-a _ (p .1 .1 .2))))
 
 returns : tie.Need-returns
 returns c = assigned-equal _ _ _ (c .before .before .before .before .before .before .before .rows-of .ensures) (c .before .before .before .before .before .before .same .ensures) (ap toldFound (c .before .before .before .before .k .given .1)) (c .before .before .old-to .ensures) (c .before .operation-at .ensures) (c .rewritten .ensures)
 
 returns-2 : tie.Need-returns-2
-returns-2 c = assigned-alone _ _ _ (c .before .before .before .before .before .rows-of .ensures) (c .before .before .before .before .same .ensures) (ap toldFound (c .before .before .enum-told .given .1)) (c .before .a-at .ensures) (c .with .ensures)
+returns-2 c = assigned-unequal _ _ _ (c .before .before .before .before .before .rows-of .ensures) (c .before .before .before .before .same .ensures) (ap toldFound (c .before .before .enum-told .given .1)) (c .before .a-at .ensures) (c .unequal .ensures)
 
 pub assigned-spec : {M : Type 1} → statement M
 assigned-spec =
@@ -60,6 +60,6 @@ assigned-spec =
     rewritten-requires
     enum-told
     a-at-requires
-    with-requires
+    unequal-requires
     returns
     returns-2)
