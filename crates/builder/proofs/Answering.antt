@@ -1,6 +1,6 @@
 -- What a build answers, in the form in which the code meets it. Assumes nothing.
 use mathlib.Core.Path.{_≡_, sym, ap, subst, _∙_}
-use mathlib.Core.Bool.{Bool}
+use mathlib.Core.Bool.{Bool, true}
 use mathlib.Core.List.{List}
 use mathlib.Core.Option.{Option, none, some}
 use Prim.Native.Nat.{ℕ}
@@ -12,7 +12,7 @@ use Rattle.base.proofs.Answers.{different}
 use Rattle.base.proofs.Says.{says}
 use Rattle.base.proofs.Tests.{T-true}
 use Rattle.chart.proofs.Words.{Words}
-use Rattle.chart.specs.Compared.{Compared, headsOf}
+use Rattle.chart.specs.Compared.{Compared, editionNamed, headsOf}
 use Rattle.chart.specs.Faults.{judged}
 use Rattle.chart.specs.Faultless.{FaultlessChart}
 use Rattle.chart.proofs.Faultless.{both-faultless}
@@ -42,6 +42,7 @@ pub record Accepted (X : Compared) (g : Buffers) : Type 0 where
   pub sized : Sized g
   pub old-faultless : FaultlessChart (X .old)
   pub new-faultless : FaultlessChart (X .new)
+  pub named : editionNamed (X .edition) ≡ true
   pub none-due : refusal X g ≡ none
 
 module _ (X : Compared) (g : Buffers) where
@@ -54,6 +55,7 @@ module _ (X : Compared) (g : Buffers) where
         sized = record { marks = z .1 .0; targets = z .1 .1 .0; sets = z .1 .1 .1; waiting = z .0 };
         old-faultless = a .1;
         new-faultless = a .2;
+        named = a .3;
         none-due = e;
       }
 
@@ -100,7 +102,7 @@ module _ (X : Compared) (g : Buffers) (A : Accepted X g) {m₁ t₁ s₁ w₁ : 
         λ i. recordOf (y i) (b i .marks) (b i .targets) (b i .sets)
 
     pub done-passes : checkRefusal X (recordOf (x .start) m₁ t₁ s₁) ≡ none
-    done-passes = ap (checkRefusal X) record-is ∙ record-passes X (A .old-faultless) (A .new-faultless)
+    done-passes = ap (checkRefusal X) record-is ∙ record-passes X (A .old-faultless) (A .new-faultless) (A .named)
 
     pub done-returned : Words (X .old .table) → Words (X .new .table) → Returned X (recordOf (x .start) m₁ t₁ s₁)
     done-returned wo wn = subst (Returned X) (sym record-is) (demand-2 X (A .old-faultless) (A .new-faultless) wo wn)

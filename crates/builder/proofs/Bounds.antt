@@ -52,7 +52,7 @@ module _ (X : Compared) (g : Buffers) where
   unfolding answered
   build-fits =
       unless-fits Small (refusal X g) (summary (recorded X .start) (recorded X .graph .marks)) refusal-fits
-      (λ e. let A = accepted X g e in summary-small X (recorded X) (record-passes X (A .old-faultless) (A .new-faultless)))
+      (λ e. let A = accepted X g e in summary-small X (recorded X) (record-passes X (A .old-faultless) (A .new-faultless) (A .named)))
 
   -- the case of it that the code comes upon
   module _ {b : Built} (is : told b ≡ answered X g) where

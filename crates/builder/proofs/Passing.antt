@@ -15,7 +15,7 @@ use Rattle.base.proofs.Says.{said}
 use Rattle.base.proofs.Tests.{T-true}
 use Rattle.base.proofs.Walks.{same-at}
 use Rattle.chart.specs.Charts.{operation, canBeTaken}
-use Rattle.chart.specs.Compared.{Compared, headsOf}
+use Rattle.chart.specs.Compared.{Compared, editionNamed, headsOf}
 use Rattle.chart.specs.Faultless.{FaultlessChart}
 use Rattle.chart.specs.Places.{keptNumber, oldOf, newOf}
 use Rattle.align.specs.declared.spots.Spot.{Spot}
@@ -116,11 +116,11 @@ module _ (X : Compared) (F : FaultlessChart (X .old)) (H : FaultlessChart (X .ne
           (λ l. inl (dite (ℕ-discrete (getD (explored X .marks) (keptNumber (newOf t)) 0) 0) (λ z. omega (arith, not-kept (explored X .marks) t l z)) (λ z. omega (arith, to-kept (explored X .marks) t l (omega arith)))))
           (λ l. rw (far (explored X .marks) t (omega arith)) d)
 
-  joint-passes : refusal X (recordOf (firstPair X) marks (finalTargets (explored X)) (explored X .sets)) ≡ none
+  joint-passes : editionNamed (X .edition) ≡ true → refusal X (recordOf (firstPair X) marks (finalTargets (explored X)) (explored X .sets)) ≡ none
   unfolding shaped marksFit targetsFit startFits
-  joint-passes =
+  joint-passes n =
       passes X (recordOf (firstPair X) marks (finalTargets (explored X)) (explored X .sets))
-      (final .ranks .long, (targets-length X F H joint, explored-inv X F H .shaped .sized .sets)) F H
+      (final .ranks .long, (targets-length X F H joint, explored-inv X F H .shaped .sized .sets)) F H n
       (inl refl, (mark-said, target-said)) (inl (refl, (final .start, starts X F H joint .1))) rules
 
 -- ---- a build that leaves the lone kept start
@@ -139,19 +139,19 @@ module _ (X : Compared) (F : FaultlessChart (X .old)) (H : FaultlessChart (X .ne
   single-length : length (single .marks) ≡ 4160
   single-length = let zeros : List ℕ = replicate 4160 0 in length-set zeros (firstKept X) 2 ∙ length-replicate {A = ℕ} 4160 0
 
-  single-passes : refusal X (recordOf (firstKept X) (set (replicate 4160 0) (firstKept X) 2) (replicate 8192 65535) (replicate 4096 0)) ≡ none
+  single-passes : editionNamed (X .edition) ≡ true → refusal X (recordOf (firstKept X) (set (replicate 4160 0) (firstKept X) 2) (replicate 8192 65535) (replicate 4096 0)) ≡ none
   unfolding shaped marksFit targetsFit startFits
-  single-passes =
+  single-passes n =
       passes X (recordOf (firstKept X) (set (replicate 4160 0) (firstKept X) 2) (replicate 8192 65535) (replicate 4096 0))
-      (single-length, (length-replicate {A = ℕ} 8192 65535, length-replicate {A = ℕ} 4096 0)) F H
+      (single-length, (length-replicate {A = ℕ} 8192 65535, length-replicate {A = ℕ} 4096 0)) F H n
       (inr refl, (single-mark, λ j b. inr (same-at 8192 65535 j b)))
       (inr (refl, one-there 4160 (firstKept X) 2 (omega arith)))
       (λ m k b p c a. absurd (let z = only-kept m p in omega arith))
 
 -- for any two faultless charts no refusal of the check is due for what a build leaves
-pub record-passes : (X : Compared) → FaultlessChart (X .old) → FaultlessChart (X .new) → refusal X (recorded X) ≡ none
-record-passes X F H = go (alone (headsOf X) (explored X .marks)) refl
+pub record-passes : (X : Compared) → FaultlessChart (X .old) → FaultlessChart (X .new) → editionNamed (X .edition) ≡ true → refusal X (recorded X) ≡ none
+record-passes X F H n = go (alone (headsOf X) (explored X .marks)) refl
   where
     go : (b : Bool) → alone (headsOf X) (explored X .marks) ≡ b → refusal X (recorded X) ≡ none
-    go true e = rw (recorded-lone X e) (single-passes X F H)
-    go false e = rw (recorded-joint X e) (joint-passes X F H e)
+    go true e = rw (recorded-lone X e) (single-passes X F H n)
+    go false e = rw (recorded-joint X e) (joint-passes X F H e n)

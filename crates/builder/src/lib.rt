@@ -71,7 +71,8 @@ fn complete<'a>(
 }
 
 // A build, or the refusal that is due, which writes nothing. What a build leaves, with the start it answers, the check
-// passes, and it is what the source's Algorithms 2 and 1 return, given the new chart without the rows that never hold.
+// of the same edition passes, and it is what the source's Algorithms 2 and 1 return, in edition 2 with its footnotes 6
+// and 8, given the new chart without the rows that never hold.
 pub fn build<'a>(
     heads: Heads,
     old_rows: &'a [u32],

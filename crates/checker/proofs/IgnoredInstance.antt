@@ -26,7 +26,7 @@ use Rattle.chart.specs.Faults as faults
 use Rattle.chart.proofs.Faultless.{faultless}
 use Rattle.chart.proofs.Takable.{takable, by-test}
 use Rattle.chart.specs.Places.{newOf}
-use Rattle.chart.specs.Compared.{Compared}
+use Rattle.chart.specs.Compared.{Compared, both}
 use Rattle.sets.specs.Sets as sets
 use Rattle.align.specs.Reads as reads
 use Rattle.align.specs.Steps as steps
@@ -46,7 +46,7 @@ abbrev pub C : Chart
 C = record { head = record { places = 2; alarm = 1 }; table = 0 ∷ 1 ∷ 18 ∷ 0 ∷ 0 ∷ 0 ∷ 0 ∷ 1 ∷ 21 ∷ 0 ∷ 0 ∷ 0 ∷ [] }
 
 abbrev pub X : Compared
-X = record { old = C; new = C }
+X = both 1 C C
 
 -- from the start by row 1 to the covered pair, and by row 0 nowhere; or to that pair too
 pub targets : List ℕ
@@ -110,7 +110,7 @@ rules-so m k l h two can =
 pub first-passes : refusal X R ≡ none
 unfolding shaped marksFit targetsFit startFits marks
 first-passes =
-    passes X R sized-so sound sound (inl refl, (marks-so, targets-so)) (inl (refl, (refl, inl (λ e. omega arith))))
+    passes X R sized-so sound sound refl (inl refl, (marks-so, targets-so)) (inl (refl, (refl, inl (λ e. omega arith))))
     rules-so
 
 -- ---- so does the second

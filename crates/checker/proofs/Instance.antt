@@ -28,7 +28,7 @@ use Rattle.chart.specs.Faults as faults
 use Rattle.chart.proofs.Faultless.{faultless}
 use Rattle.chart.proofs.Takable.{takable}
 use Rattle.chart.specs.Places.{newOf}
-use Rattle.chart.specs.Compared.{Compared, headsOf}
+use Rattle.chart.specs.Compared.{Compared, both, headsOf}
 use Rattle.chart.specs.Runs.{begin, run, reaches}
 use Rattle.chart.specs.Runs as runs
 use Rattle.sets.specs.Sets as sets
@@ -49,7 +49,7 @@ abbrev pub C : Chart
 C = record { head = record { places = 2; alarm = 1 }; table = 0 ∷ 1 ∷ 16 ∷ 0 ∷ 0 ∷ 0 ∷ 0 ∷ 1 ∷ 17 ∷ 0 ∷ 0 ∷ 0 ∷ [] }
 
 abbrev pub X : Compared
-X = record { old = C; new = C }
+X = both 1 C C
 
 -- the start open, the pair of both alarms covered, the new alarm kept
 unfoldable pub marks : List ℕ
@@ -133,7 +133,7 @@ rules-so m k l h two there =
 pub instance-passes : refusal X R ≡ none
 unfolding shaped marksFit targetsFit startFits marks
 instance-passes =
-    passes X R sized-so sound sound (inl refl, (marks-so, targets-so)) (inl (refl, (refl, inl (λ e. omega arith))))
+    passes X R sized-so sound sound refl (inl refl, (marks-so, targets-so)) (inl (refl, (refl, inl (λ e. omega arith))))
     rules-so
 
 -- ---- what it promises

@@ -15,7 +15,7 @@ use Rattle.base.proofs.Options.{both-missing, not-due, none-of}
 use Rattle.base.proofs.Says.{says}
 use Rattle.base.proofs.Tests.{T-true, not-both}
 use Rattle.chart.specs.Charts.{canBeTaken, leaving}
-use Rattle.chart.specs.Compared.{Compared, headsOf}
+use Rattle.chart.specs.Compared.{Compared, editionNamed, headsOf}
 use Rattle.chart.specs.Faults.{judged}
 use Rattle.chart.specs.Faultless.{FaultlessChart}
 use Rattle.chart.specs.Places.{newOf}
@@ -52,7 +52,7 @@ module _ (X : Compared) (R : Record) (e : refusal X R ≡ none) where
   unfolding refusal
   judged-parts = both-missing (judged (bool (sized (R .graph))) X) (recordFault X R) e
 
-  charts : (bool (sized (R .graph)) ≡ true) × FaultlessChart (X .old) × FaultlessChart (X .new)
+  charts : (bool (sized (R .graph)) ≡ true) × FaultlessChart (X .old) × FaultlessChart (X .new) × (editionNamed (X .edition) ≡ true)
   charts = both-faultless (bool (sized (R .graph))) X (judged-parts .0)
 
   pub lengths : Says (sized (R .graph))

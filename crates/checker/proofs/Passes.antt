@@ -13,7 +13,7 @@ use Rattle.base.proofs.Options.{none-everywhere}
 use Rattle.base.proofs.Says.{said}
 use Rattle.base.proofs.Tests.{is-true}
 use Rattle.chart.specs.Charts.{canBeTaken, leaving}
-use Rattle.chart.specs.Compared.{Compared, headsOf}
+use Rattle.chart.specs.Compared.{Compared, editionNamed, headsOf}
 use Rattle.chart.specs.Faultless.{FaultlessChart}
 use Rattle.chart.specs.Places.{newOf}
 use Rattle.chart.proofs.Faultless.{none-judged}
@@ -50,15 +50,15 @@ module _ (X : Compared) (G : Graph) (rules : Rules X G) where
       (λ e. rw (ne-eqb (mark G m) 0 e, pairFault) (rw (row-off m 0 b e (omega arith), row-off m 1 b e (omega arith))))
 
 module _ (X : Compared) (R : Record) where
-  pub passes : Says (sized (R .graph)) → FaultlessChart (X .old) → FaultlessChart (X .new)
+  pub passes : Says (sized (R .graph)) → FaultlessChart (X .old) → FaultlessChart (X .new) → editionNamed (X .edition) ≡ true
       → Says (shaped (headsOf X) (R .start) (R .graph .marks) (R .graph .targets))
       → Says (startFits (headsOf X) (R .start) (R .graph .marks))
       → Rules X (R .graph)
       → refusal X R ≡ none
   unfolding refusal recordFault ruleFault broken
-  passes z F H sh st rules =
+  passes z F H n sh st rules =
       rw (
-        none-judged (bool (sized (R .graph))) X (met (sized (R .graph)) z, F, H),
+        none-judged (bool (sized (R .graph))) X (met (sized (R .graph)) z, F, H, n),
         met (shaped (headsOf X) (R .start) (R .graph .marks) (R .graph .targets)) sh,
         met (startFits (headsOf X) (R .start) (R .graph .marks)) st,
         none-everywhere (pairFault X (R .graph)) 4096 (λ m b. pair-off X (R .graph) rules m b),

@@ -117,6 +117,7 @@ fn joins_step<'a>(
         (operation (now (rows .entry)) k) (record { 0 = to (now (rows .entry)) k })) ⌝ }
 {
     match step(
+        heads.edition,
         heads.old,
         heads.new,
         old_rows,

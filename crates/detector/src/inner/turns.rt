@@ -231,6 +231,7 @@ fn row<'a>(
     let part = rows_of(old_rows, new_rows, index, Place::New(new_of(n)));
     if (r < part.len() / 6) & !skip {
         let came = step(
+            heads.edition,
             heads.old,
             heads.new,
             old_rows,
