@@ -23,7 +23,7 @@ use Rattle.graph.specs.inner.Sized.{Sized}
 use Rattle.detector.specs.Turns.{leadsTo}
 use Rattle.graph.proofs.Graphs.{markAt, keep-target-other, by-aim}
 use Rattle.paper.specs.Nodes.{SetOf, _isIn_, _isNotIn_, _plus_, Pair, Node, aligned, indicator, Edge, edge, onlyPlace, onlyEdge, pairOf}
-use Rattle.paper.specs.Algorithm2.{edges}
+use Rattle.paper.specs.Algorithm2.{edges, ℓ₂′}
 use Rattle.paper.specs.Returned.{seat}
 use Rattle.align.proofs.Successors.{successor}
 use Rattle.paper.proofs.Members.{in-either, in-first, in-neither, only-edge, the-edge, other-edge, other-pair}
@@ -34,7 +34,7 @@ module _ (X : Compared) where
 
   -- an edge leads where its row does: to a place of Δ, or to the one successor that the pair has by it
   abbrev pub Onto : SetOf NewPlace → Pair → ℕ → Node → Type 0
-  Onto Δ n r (aligned m) = (m .new .0 ≡ to (edges Y (n .new)) r) × (m .old ≡ successor Y (n .old) (operation (edges Y (n .new)) r))
+  Onto Δ n r (aligned m) = (m .new .0 ≡ to (edges Y (n .new)) r) × (m .old ≡ successor Y (n .old) (operation (edges Y (n .new)) r) (ℓ₂′ Y (n .new) r))
   Onto Δ n r (indicator q) = (q .0 ≡ to (edges Y (n .new)) r) × (q isIn Δ)
 
   pub record Sound (Δ : SetOf NewPlace) (e : Edge) : Type 0 where

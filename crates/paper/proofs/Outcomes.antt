@@ -19,14 +19,14 @@ use Rattle.chart.specs.Faultless.{FaultlessChart}
 use Rattle.align.specs.declared.spots.Spot.{Spot}
 use Rattle.sets.specs.Sets.{alone, with, without, meets}
 use Rattle.align.specs.Reads.{readSet}
-use Rattle.align.specs.Steps.{find, oldTo, matching, matched, rewritten, rowsAt, atAlarm, assigned, onward, follow, followed, counterpart, assumed, moved}
+use Rattle.align.specs.Steps.{find, oldTo, matching, matched, rewritten, rowsAt, atAlarm, writer, unequal, assigned, onward, follow, followed, counterpart, assumed, moved}
 use Rattle.sets.proofs.Sets.{In, alone-here, alone-only, with-here, with-old, with-only, meet-some, meet-none, alone-small, with-small}
 use Rattle.align.proofs.Onto.{same→eq}
 use Rattle.align.proofs.Moves.{follow-ends, follow-twice, follow-on, moved-assigned, moved-twice, moved-assumed}
 use Rattle.paper.specs.Nodes.{SetOf, _isIn_, _isNotIn_, _plus_}
-use Rattle.paper.specs.Lines5to18.{IsWith, onlyOld, InG, Line13, Loop, line12, line14, Lines5and6, Lines11to14, Line15, Line16, Lines5to18, line7, line8, line10, line16, line17, line18, line13-cut}
+use Rattle.paper.specs.Lines5to18.{IsWith, onlyOld, InG, Line13, Loop, line12, line14, Lines5and6, Lines11to14, Line15, Line16, Lines5to18, NoEqual, Footnote6, line7, line8, line10, footnote6, line16, line17, line18, line13-cut}
 use Rattle.paper.proofs.Members.{in-either, in-first, in-second, not-in, in-or-not}
-use Rattle.paper.proofs.Stepping.{same-self, onlyOld-is, unmet, unmet-less, unmet-few, row-edge, no-edge, an-edge, edge-operands, no-match, a-match}
+use Rattle.paper.proofs.Stepping.{same-self, onlyOld-is, unmet, unmet-less, unmet-few, row-edge, no-edge, an-edge, writing-edge, no-writing, edge-operands, no-match, a-match}
 use Rattle.paper.proofs.Single.{at, with-is, without-is, does-meet, does-not, one-assignment, one-match, onward-is, onward-none}
 
 module _ (X : Compared) (F : FaultlessChart (X .old)) (words : Words (X .old .table)) where
@@ -55,7 +55,7 @@ module _ (X : Compared) (F : FaultlessChart (X .old)) (words : Words (X .old .ta
       had : (q : OldPlace) → q isIn (been plus onlyOld ℓₚ) → In (q .0) met
       enough : unmet met < left
 
-    record Looped (been : SetOf OldPlace) (ℓₚ : OldPlace) (Vdiff : ℕ) : Type 0 where
+    pub record Looped (been : SetOf OldPlace) (ℓₚ : OldPlace) (Vdiff : ℕ) : Type 0 where
       below : ℓₚ .0 < 64
       small : Vdiff < 2 ^ 64
       on : (q : OldPlace) → q isIn been → GoesOn been ℓₚ q
@@ -159,12 +159,12 @@ module _ (X : Compared) (F : FaultlessChart (X .old)) (words : Words (X .old .ta
             walked = ⊎-elim (λ e. inl (record { again = e; fails = stops e })) (λ e. inr (walks e)) (in-or-not (more ℓₛ));
           }
 
-    looped : {been : SetOf OldPlace} {ℓₚ : OldPlace} {Vdiff : ℕ} → Loop X ℓ₁ Vδ been ℓₚ Vdiff → Looped been ℓₚ Vdiff
+    pub looped : {been : SetOf OldPlace} {ℓₚ : OldPlace} {Vdiff : ℕ} → Loop X ℓ₁ Vδ been ℓₚ Vdiff → Looped been ℓₚ Vdiff
     looped line12 = begins
     looped (line14 {been} {ℓₚ} {ℓₛ} {Vdiff} {Vdiff′} {opₐ} L M W) = turn been ℓₚ ℓₛ Vdiff Vdiff′ opₐ (looped L) M W
 
     -- the loop has ended
-    ended : {been : SetOf OldPlace} {ℓₚ : OldPlace} {Vdiff : ℕ} → Looped been ℓₚ Vdiff → ((op : Operation) (q : OldPlace) → Line13 X ℓₚ op q → ⊥)
+    pub ended : {been : SetOf OldPlace} {ℓₚ : OldPlace} {Vdiff : ℕ} → Looped been ℓₚ Vdiff → ((op : Operation) (q : OldPlace) → Line13 X ℓₚ op q → ⊥)
         → followed X (at ℓ₁ Vδ) ≡ some (at ℓₚ Vdiff)
     ended {been} {ℓₚ} {Vdiff} A n = ⊎-elim (λ T. absurd (let G = A .on ℓₚ (T .again) in n (G .op) (G .succ) (G .line))) (λ O. once O) (A .walked)
       where
@@ -193,18 +193,30 @@ module _ (X : Compared) (F : FaultlessChart (X .old)) (words : Words (X .old .ta
               let r = an-edge X ℓ₁ (λ o′. same o′ o) k f in
               ap₂ at (one-assignment X F words (L .edge) (row-edge X ℓ₁ k (r .0)) (L .assignment) .1) e
 
-      -- line 10: none
-      by-none : (W : ℕ) → isAssignment o ≡ true → ((q : OldPlace) → Lines5and6 X ℓ₁ Vδ o q → ⊥) → W ≡ with Vδ (o .a) → some (at ℓ₁ W) ≡ moved X (at ℓ₁ Vδ) o
+      -- line 10 and footnote 6: none
+      by-none : (h : Spot) → NoEqual X ℓ₁ Vδ o → ((x : Option ℕ) → writer X ℓ₁ (o .a) ≡ x → h ≡ unequal X (at ℓ₁ Vδ) (o .a) x) → some h ≡ moved X (at ℓ₁ Vδ) o
       unfolding assigned
-      by-none W t n e = moved-assigned X (at ℓ₁ Vδ) o t (go (find (rowsAt X ℓ₁) (λ o′. same o′ o)) refl)
+      by-none h n e = moved-assigned X (at ℓ₁ Vδ) o (n .assignment) (go (find (rowsAt X ℓ₁) (λ o′. same o′ o)) refl)
         where
-          go : (x : Option ℕ) → find (rowsAt X ℓ₁) (λ o′. same o′ o) ≡ x → at ℓ₁ W ≡ assigned X (at ℓ₁ Vδ) o x
-          go none f = ap (at ℓ₁) e
+          go : (x : Option ℕ) → find (rowsAt X ℓ₁) (λ o′. same o′ o) ≡ x → h ≡ assigned X (at ℓ₁ Vδ) o x
+          go none f = e (writer X ℓ₁ (o .a)) refl
           go (some k) f =
               let r = an-edge X ℓ₁ (λ o′. same o′ o) k f in
               absurd
-              (n (oldTo (rowsAt X ℓ₁) k)
-              (record { assignment = t; edge = subst (λ (o′ : Operation). InG X ℓ₁ o′ (oldTo (rowsAt X ℓ₁) k)) (same→eq (operation (rowsAt X ℓ₁) k) o (r .1)) (row-edge X ℓ₁ k (r .0)) }))
+              (n .none (oldTo (rowsAt X ℓ₁) k)
+              (record { assignment = n .assignment; edge = subst (λ (o′ : Operation). InG X ℓ₁ o′ (oldTo (rowsAt X ℓ₁) k)) (same→eq (operation (rowsAt X ℓ₁) k) o (r .1)) (row-edge X ℓ₁ k (r .0)) }))
+
+      -- line 10: and none that writes the same
+      by-unwritten : (W : ℕ) → W ≡ with Vδ (o .a) → ((op : Operation) (q : OldPlace) → Footnote6 X ℓ₁ Vδ o op q → ⊥) → (x : Option ℕ) → writer X ℓ₁ (o .a) ≡ x → at ℓ₁ W ≡ unequal X (at ℓ₁ Vδ) (o .a) x
+      unfolding unequal
+      by-unwritten W w n none e = ap (at ℓ₁) w
+      by-unwritten W w n (some k) e = absurd (n (operation (rowsAt X ℓ₁) k) (oldTo (rowsAt X ℓ₁) k) (writing-edge X ℓ₁ Vδ o k e))
+
+      -- footnote 6: one that does
+      by-written : (q : OldPlace) (W : ℕ) → W ≡ with Vδ (o .a) → (op : Operation) → Footnote6 X ℓ₁ Vδ o op q → (x : Option ℕ) → writer X ℓ₁ (o .a) ≡ x → at q W ≡ unequal X (at ℓ₁ Vδ) (o .a) x
+      unfolding unequal
+      by-written q W w op N none e = absurd (no-writing X ℓ₁ Vδ o e op q N)
+      by-written q W w op N (some k) e = ap₂ at (one-assignment X F words (N .edge) (writing-edge X ℓ₁ Vδ o k e .edge) (N .assignment) .1) w
 
       -- lines 15 to 18, where the loop has ended at ℓ_p with V_diff
       module _ (ℓₚ : OldPlace) (Vdiff : ℕ) (E : Lines11to14 X ℓ₁ Vδ o ℓₚ Vdiff) where
@@ -282,7 +294,8 @@ module _ (X : Compared) (F : FaultlessChart (X .old)) (words : Words (X .old .ta
       pub one-outcome : {x : Option Spot} → Lines5to18 X ℓ₁ Vδ o x → x ≡ moved X (at ℓ₁ Vδ) o
       one-outcome (line7 {ℓ₂} {Vdiff} L m w) = by-equal ℓ₂ Vdiff L (with-is Vδ (o .a) Vdiff w ∙ sym (rewrites true (does-meet Vδ (readSet o) m)))
       one-outcome (line8 {ℓ₂} {Vdiff} L n w) = by-equal ℓ₂ Vdiff L (without-is Vδ (o .a) Vdiff b (fits .a) w ∙ sym (rewrites false (does-not Vδ (readSet o) b n)))
-      one-outcome (line10 {Vdiff} t n w) = by-none Vdiff t n (with-is Vδ (o .a) Vdiff w)
+      one-outcome (line10 {Vdiff} n u w) = by-none (at ℓ₁ Vdiff) n (by-unwritten Vdiff (with-is Vδ (o .a) Vdiff w) u)
+      one-outcome (footnote6 {ℓ₂} {Vdiff} {op} n N w) = by-none (at ℓ₂ Vdiff) n (by-written ℓ₂ Vdiff (with-is Vδ (o .a) Vdiff w) op N)
       one-outcome (line16 {ℓₚ} {ℓ₂} {Vdiff} {op} E M m) = by-meeting ℓₚ Vdiff E op ℓ₂ M m
       one-outcome (line17 {ℓₚ} {ℓ₂} {Vdiff} {op} E M n) = by-match ℓₚ Vdiff E op ℓ₂ M n
       one-outcome (line18 {ℓₚ} {Vdiff} E n) = by-no-match ℓₚ Vdiff E n

@@ -27,19 +27,20 @@ use Rattle.align.specs.declared.spots.Spot.{Spot}
 use Rattle.chart.proofs.Parts.{two-at-most}
 use Rattle.records.specs.Records.{index}
 use Rattle.graph.specs.Buffers.{Buffers, marked, unwait}
-use Rattle.detector.specs.Turns.{rowsOf, next, lowest, setNow, begun, rowDone, secondDone, taken, explored}
+use Rattle.detector.specs.Turns.{rowsOf, next, lowest, setNow, begun, stepOf, rowDone, secondDone, taken, explored}
 use Rattle.graph.proofs.Graphs.{markAt, setAt, Shaped, marked-yes, marked-no, is-marked, unwait-shaped}
 use Rattle.detector.proofs.Turns.{Waiter, no-row, set-now, set-had, set-now-small, next-waits, none-waits}
 use Rattle.detector.proofs.Measure.{weight, turns, begun-shaped, begun-weight, row-lighter}
 use Rattle.detector.proofs.Invariant.{Inv, Every, turn-inv, begun-inv}
 use Rattle.paper.specs.Nodes.{_isIn_, _isNotIn_, Pair, onlyPair, pairOf, number, Numbered}
 use Rattle.paper.specs.Lines5to18.{Lines5to18}
-use Rattle.paper.specs.Algorithm2.{State, edges, called, popped, ForEach, none-yet, one-more, Lowest, Run, line1, lines3to18, Ended}
+use Rattle.paper.specs.Algorithm2.{State, edges, Called, popped, ForEach, none-yet, one-more, Lowest, Run, line1, lines3to18, Ended}
 use Rattle.paper.specs.Algorithm2 as algorithm2
 use Rattle.paper.proofs.Members.{not-in, only-pair, numbered, same-pair, other-pair, pair-is, number-below}
 use Rattle.paper.proofs.Reading.{pop-sets}
 use Rattle.paper.proofs.Seats.{rows-left, at-seen, whole-rows}
-use Rattle.paper.proofs.Rows.{Reads, InHand, unwait-hand, Row, stepped, any-read, cameTo}
+use Rattle.paper.proofs.Process.{stepped-to}
+use Rattle.paper.proofs.Rows.{Reads, InHand, unwait-hand, Row, stepped, processed-to, any-read, cameTo}
 
 module _ (X : Compared) (F : FaultlessChart (X .old)) (G : FaultlessChart (X .new)) where
   abbrev Y : Compared
@@ -51,7 +52,7 @@ module _ (X : Compared) (F : FaultlessChart (X .old)) (G : FaultlessChart (X .ne
     spot : Option Spot
     loop : ForEach Y (Lines5to18 Y) s n k before
     lines : Lines5to18 Y (n .old) (before .Vδ n) (operation (edges Y (n .new)) k) spot
-    is : t ≡ called Y before n k spot
+    process : Called Y before n k spot t
 
   abbrev ByLast : State → Pair → ℕ → State → Type 0
   ByLast s n zero t = t ≡ s
@@ -59,7 +60,7 @@ module _ (X : Compared) (F : FaultlessChart (X .old)) (G : FaultlessChart (X .ne
 
   by-last : {s : State} {n : Pair} {k : ℕ} {t : State} → ForEach Y (Lines5to18 Y) s n k t → ByLast s n k t
   by-last none-yet = refl
-  by-last (one-more {k} {t} o f L) = record { before = t; spot = o; loop = f; lines = L; is = refl }
+  by-last (one-more {k} {t} o f L P) = record { before = t; spot = o; loop = f; lines = L; process = P }
 
   -- ---- a round
   module _ (wo : Words (X .old .table)) (wn : Words (X .new .table)) (s : State) (g : Buffers) (n : ℕ) (l : n < 4096) (S : Shaped g) (R : Reads X s g) (H : InHand (unwait g n) n) (free : newOf n isNotIn s .Δ) where
@@ -124,8 +125,7 @@ module _ (X : Compared) (F : FaultlessChart (X .old)) (G : FaultlessChart (X .ne
       edge-read e t f =
           let K = by-last f in
           let Z = B .read (K .before) (K .loop) in
-          subst (λ (x : State). Row X n u x (rowDone X h n u k)) (sym (K .is))
-          (any-read X F G (K .before) h n u (seen rows k) k l (B .small) (B .second) (at-seen X n k e) (B .shaped) (Z .reads) (Z .hand) (B .own (K .before) Z) wo wn (K .spot) (K .lines))
+          any-read X F G (K .before) h n u (seen rows k) k l (B .small) (B .second) (at-seen X n k e) (B .shaped) (Z .reads) (Z .hand) (B .own (K .before) Z) wo wn (K .spot) (K .lines) t (K .process)
 
       -- what is read after it
       row-read : (t : State) → ForEach Y (Lines5to18 Y) s₀ (pairOf n) (seen rows (suc k)) t → Row X n u t (rowDone X h n u k)
@@ -145,11 +145,11 @@ module _ (X : Compared) (F : FaultlessChart (X .old)) (G : FaultlessChart (X .ne
         where
           go : (b : Bool) → canBeTaken rows k ≡ b → (t : State) × ForEach Y (Lines5to18 Y) s₀ (pairOf n) (seen rows (suc k)) t
           go true e =
-              let Z = B .read t f in (
-                called Y t (pairOf n) (seen rows k) (cameTo Y n u (seen rows k)),
-                subst (λ (m : ℕ). ForEach Y (Lines5to18 Y) s₀ (pairOf n) m (called Y t (pairOf n) (seen rows k) (cameTo Y n u (seen rows k)))) (sym (seen-more rows k e))
-                    (one-more (cameTo Y n u (seen rows k)) f
-                    (stepped X F G t h n u (seen rows k) k l (B .small) (B .second) (at-seen X n k e) (B .shaped) (Z .reads) (Z .hand) (B .own t Z) wo wn)),
+              let Z = B .read t f in
+              let came = stepped X F G t h n u (seen rows k) k l (B .small) (B .second) (at-seen X n k e) (B .shaped) (Z .reads) (Z .hand) (B .own t Z) wo wn in
+              let done = processed-to X F G t h n u (seen rows k) k l (B .small) (B .second) (at-seen X n k e) (B .shaped) (Z .reads) (Z .hand) (B .own t Z) wo wn in (
+                stepped-to Y t (pairOf n) (seen rows k) (stepOf Y n u (seen rows k)),
+                subst (λ (m : ℕ). ForEach Y (Lines5to18 Y) s₀ (pairOf n) m (stepped-to Y t (pairOf n) (seen rows k) (stepOf Y n u (seen rows k)))) (sym (seen-more rows k e)) (one-more (cameTo Y n u (seen rows k)) f came done),
               )
           go false e = (t, subst (λ (m : ℕ). ForEach Y (Lines5to18 Y) s₀ (pairOf n) m t) (sym (seen-same rows (whole-rows X (newOf n)) k e)) f)
 

@@ -10,7 +10,7 @@ use native.Mathlib.Decide.{ℕ-discrete}
 use lib.Dec.{eqb}
 use lib.ListN.{set}
 use Rattle.base.specs.Options.{when}
-use Rattle.base.proofs.OnSome.{on-at}
+use Rattle.base.proofs.OnSome.{OnSome, on-at}
 use Rattle.operations.specs.Assumptions.{Operands}
 use Rattle.chart.specs.declared.places.NewPlace.{NewPlace}
 use Rattle.chart.specs.Places.{pairNumber, keptNumber, oldOf, newOf}
@@ -20,24 +20,25 @@ use Rattle.chart.proofs.Words.{Words}
 use Rattle.chart.specs.Faultless.{FaultlessChart}
 use Rattle.chart.specs.Possible.{stripped}
 use Rattle.align.specs.declared.spots.Spot.{Spot}
-use Rattle.align.specs.Steps.{moved, arrived, step}
+use Rattle.align.specs.Steps.{moved, step}
 use Rattle.chart.proofs.Conflicts.{operands}
 use Rattle.chart.proofs.Parts.{row-of, row-same}
 use Rattle.chart.proofs.Takable.{takable}
 use Rattle.graph.specs.Buffers.{Buffers, marked, keep, aim, join, unwait}
 use Rattle.detector.specs.Turns.{rowsOf, leadsTo, stepOf, processed, rowDone}
 use Rattle.detector.specs.Turns as turns
-use Rattle.align.proofs.Steps.{Fits}
+use Rattle.align.proofs.Steps.{Fits, moved-fits}
 use Rattle.graph.proofs.Graphs.{markAt, Shaped, not-marked, keep-node, keep-nodes, keep-mark, keep-mark-other, keep-shaped, by-aim, join-mark, join-mark-other, join-target, join-shaped}
 use Rattle.detector.proofs.Turns.{a-row, leads-below, step-of-fits}
 use Rattle.paper.specs.Nodes.{_isIn_, _isNotIn_, _plus_, Pair, pair, aligned, indicator, edge, onlyPlace, pairOf}
 use Rattle.paper.specs.Lines5to18.{Lines5to18}
-use Rattle.paper.specs.Algorithm2.{State, toPlace, line27, toPair, process, called}
+use Rattle.paper.specs.Algorithm2.{State, toPlace, toPair, Called}
 use Rattle.align.proofs.Successors.{successor, one-successor}
 use Rattle.align.proofs.NewTable.{step-same}
 use Rattle.paper.proofs.Members.{the-place, pair-is, other-pair}
 use Rattle.paper.proofs.Stepping.{step-lines}
 use Rattle.paper.proofs.Outcomes.{one-outcome}
+use Rattle.paper.proofs.Process.{stepped-to, process-can, process-only}
 use Rattle.paper.proofs.Reading.{Sets, keep-sets, kept-sets, join-sets}
 use Rattle.paper.proofs.Edges.{Sound, Edges, At, keep-edges, aim-edges, added}
 use Rattle.paper.proofs.Seats.{Seated, seated}
@@ -53,38 +54,6 @@ module _ (g : Buffers) (n r t : ℕ) where
 -- lines 5 to 18, for pair n, the set v and row r
 abbrev pub cameTo : Compared → ℕ → ℕ → ℕ → Option Spot
 cameTo X n v r = moved X (record { place = oldOf n; set = v }) (operation (rowsOf (X .new) n) r)
-
--- ---- lines 5 to 18 and 27 are the aligned step
-module _ (X : Compared) (s : State) (n r : ℕ) where
-  abbrev q₂ : NewPlace
-  q₂ = leadsTo (X .new) n r
-
-  fails : (o : Option Spot) → arrived (headsOf X) q₂ o ≡ none → called X s (pairOf n) r o ≡ toPlace s (pairOf n) r q₂
-  unfolding arrived called process line27
-  fails none e = refl
-  fails (some h) e = go (eqb (q₂ .0) (X .new .head .alarm)) (eqb (h .place .0) (X .old .head .alarm)) e
-    where
-      go : (a b : Bool) → when (not a || b) h ≡ none
-          → (elim (not b && a) as (λ _. State) [ true ↦ toPlace s (pairOf n) r q₂ | false ↦ toPair X s (pairOf n) r (pair (h .place) q₂) (h .set) ]) ≡ toPlace s (pairOf n) r q₂
-      go true true e = absurd (Option·none-ne-some h (sym e))
-      go true false e = refl
-      go false b e = absurd (Option·none-ne-some h (sym e))
-
-  arrives : (o : Option Spot) (h : Spot) → arrived (headsOf X) q₂ o ≡ some h
-      → (o ≡ some h) × (called X s (pairOf n) r o ≡ toPair X s (pairOf n) r (pair (h .place) q₂) (h .set))
-  unfolding arrived called process line27
-  arrives none h e = absurd (Option·none-ne-some h e)
-  arrives (some h′) h e = go (eqb (q₂ .0) (X .new .head .alarm)) (eqb (h′ .place .0) (X .old .head .alarm)) e
-    where
-      same : h′ ≡ h → toPair X s (pairOf n) r (pair (h′ .place) q₂) (h′ .set) ≡ toPair X s (pairOf n) r (pair (h .place) q₂) (h .set)
-      same z = ap (λ (k : Spot). toPair X s (pairOf n) r (pair (k .place) q₂) (k .set)) z
-
-      go : (a b : Bool) → when (not a || b) h′ ≡ some h
-          → (some h′ ≡ some h) × ((elim (not b && a) as (λ _. State) [ true ↦ toPlace s (pairOf n) r q₂ | false ↦ toPair X s (pairOf n) r (pair (h′ .place) q₂) (h′ .set) ]) ≡ toPair X s (pairOf n) r (pair (h .place) q₂) (h .set))
-      go true true e = (e, same (Option·some-injective h′ h e))
-      go true false e = absurd (Option·none-ne-some h e)
-      go false true e = (e, same (Option·some-injective h′ h e))
-      go false false e = (e, same (Option·some-injective h′ h e))
 
 -- ---- one edge
 module _ (X : Compared) where
@@ -170,9 +139,10 @@ module _ (X : Compared) (F : FaultlessChart (X .old)) (G : FaultlessChart (X .ne
           held = λ z. own;
         }
 
-    module _ (h : Spot) (came : cameTo Y n v r ≡ some h) where
-      place : h .place ≡ successor Y (oldOf n) (operation (rowsOf (Y .new) n) r)
-      place = on-at _ (one-successor Y (oldOf n) v (operation (rowsOf (Y .new) n) r)) came
+    module _ (h : Spot) (came : stepOf Y n v r ≡ some h) where
+      place : h .place ≡ successor Y (oldOf n) (operation (rowsOf (Y .new) n) r) (leadsTo (Y .new) n r)
+      unfolding stepOf
+      place = on-at _ (one-successor Y (oldOf n) v (operation (rowsOf (Y .new) n) r) (leadsTo (Y .new) n r)) came
 
       kept-row : leadsTo (Y .new) n r isIn s .Δ → Row X n v (toPair Y s (pairOf n) r (pair (h .place) (leadsTo (Y .new) n r)) (h .set)) (aim g n k (keptNumber (leadsTo (Y .new) n r)))
       unfolding toPair
@@ -249,7 +219,7 @@ module _ (X : Compared) (F : FaultlessChart (X .old)) (G : FaultlessChart (X .ne
             join-mark-same : n ≡ t → markAt j n ≡ 1
             join-mark-same e = rw e (join-mark (X .old .head .alarm) g t (h .set) (S .sized) below)
 
-    some-row : (h : Spot) → cameTo Y n v r ≡ some h → Fits 64 h → (b : Bool) → marked (g .marks) (keptNumber (leadsTo (Y .new) n r)) ≡ b
+    some-row : (h : Spot) → stepOf Y n v r ≡ some h → Fits 64 h → (b : Bool) → marked (g .marks) (keptNumber (leadsTo (Y .new) n r)) ≡ b
         → Row X n v (toPair Y s (pairOf n) r (pair (h .place) (leadsTo (Y .new) n r)) (h .set))
         (elim b as (λ _. Buffers) [
           | true ↦ aim g n k (keptNumber (leadsTo (Y .new) n r))
@@ -266,7 +236,7 @@ module _ (X : Compared) (F : FaultlessChart (X .old)) (G : FaultlessChart (X .ne
     step-is : stepOf X n v k ≡ stepOf Y n v r
     unfolding stepOf
     step-is =
-        step-same (X .old) (X .new .head) (X .new .table) (Y .new .table) _ (operation (rowsOf (X .new) n) k) (leadsTo (X .new) n k)
+        step-same (X .edition) (X .old) (X .new .head) (X .new .table) (Y .new .table) _ (operation (rowsOf (X .new) n) k) (leadsTo (X .new) n k)
         ∙ ap₂ (step Y (record { place = oldOf n; set = v })) (sym (Z .same .operation-same)) leads-same
 
     row-done : rowDone X g n v k ≡ processed (X .old .head .alarm) g n k (leadsTo (Y .new) n r) (stepOf Y n v r)
@@ -274,18 +244,14 @@ module _ (X : Compared) (F : FaultlessChart (X .old)) (G : FaultlessChart (X .ne
         a-row X g n v k (Z .can) step-is
         ∙ ap (λ (q : NewPlace). processed (X .old .head .alarm) g n k q (stepOf Y n v r)) leads-same
 
-    edge-done : (o : Option Spot) → stepOf Y n v r ≡ o → Row X n v (called Y s (pairOf n) r (cameTo Y n v r)) (processed (X .old .head .alarm) g n k (leadsTo (Y .new) n r) o)
-    unfolding stepOf step processed turns.arrived
-    edge-done none e =
-        subst (λ (f : State). Row X n v f (aim (keep g (leadsTo (Y .new) n r)) n k (keptNumber (leadsTo (Y .new) n r)))) (sym (fails Y s n r (cameTo Y n v r) e)) fails-row
+    edge-done : (o : Option Spot) → stepOf Y n v r ≡ o → Row X n v (stepped-to Y s (pairOf n) r o) (processed (X .old .head .alarm) g n k (leadsTo (Y .new) n r) o)
+    unfolding processed turns.arrived stepped-to
+    edge-done none e = fails-row
     edge-done (some h) e =
-        let z = arrives Y s n r (cameTo Y n v r) h e in
-        let T = step-of-fits X F G n v k (Z .can) 64 (F .few-places) (omega arith) w h (step-is ∙ e) in
-        subst (λ (f : State). Row X n v f (turns.arrived (X .old .head .alarm) g n k (leadsTo (Y .new) n r) h)) (sym (z .1))
-        (some-row h (z .0) T (marked (g .marks) (keptNumber (leadsTo (Y .new) n r))) refl)
+        some-row h e (step-of-fits X F G n v k (Z .can) 64 (F .few-places) (omega arith) w h (step-is ∙ e)) (marked (g .marks) (keptNumber (leadsTo (Y .new) n r))) refl
 
-    row-read : Row X n v (called Y s (pairOf n) r (cameTo Y n v r)) (rowDone X g n v k)
-    row-read = subst (λ (f : Buffers). Row X n v (called Y s (pairOf n) r (cameTo Y n v r)) f) (sym row-done) (edge-done (stepOf Y n v r) refl)
+    row-read : Row X n v (stepped-to Y s (pairOf n) r (stepOf Y n v r)) (rowDone X g n v k)
+    row-read = subst (λ (f : Buffers). Row X n v (stepped-to Y s (pairOf n) r (stepOf Y n v r)) f) (sym row-done) (edge-done (stepOf Y n v r) refl)
 
     module _ (wo : Words (X .old .table)) (wn : Words (X .new .table)) where
       fits : Operands (operation (rowsOf (Y .new) n) r)
@@ -293,17 +259,26 @@ module _ (X : Compared) (F : FaultlessChart (X .old)) (G : FaultlessChart (X .ne
           let (i, b) = row-of (X .new .table) (n % 64) k (takable (rowsOf (X .new) n) k (Z .can) .0) in
           subst Operands (sym (Z .same .operation-same ∙ row-same (X .new .table) (n % 64) b .operation-same)) (operands (X .new) G (wn .small) i (b .inside))
 
+      came-fits : OnSome (Fits 64) (cameTo Y n v r)
+      came-fits = moved-fits Y F 64 (F .few-places) _ (operation (rowsOf (Y .new) n) r) (fits .a) (record { place = omega arith; set = w })
+
       -- lines 5 to 18 can come to what the step comes to
       pub stepped : Lines5to18 Y (oldOf n) (s .Vδ (pairOf n)) (operation (rowsOf (Y .new) n) r) (cameTo Y n v r)
       stepped =
           subst (λ (u : ℕ). Lines5to18 Y (oldOf n) u (operation (rowsOf (Y .new) n) r) (cameTo Y n v r)) (sym own)
           (step-lines Y F wo (oldOf n) v (operation (rowsOf (Y .new) n) r) (omega arith) w fits)
 
+      -- and PROCESS to its state
+      pub processed-to : Called Y s (pairOf n) r (cameTo Y n v r) (stepped-to Y s (pairOf n) r (stepOf Y n v r))
+      unfolding stepOf step
+      processed-to = process-can Y F wo s (pairOf n) r (cameTo Y n v r) came-fits
+
       -- and to nothing else: whatever they come to, the row is read
       pub any-read : (o : Option Spot) → Lines5to18 Y (oldOf n) (s .Vδ (pairOf n)) (operation (rowsOf (Y .new) n) r) o
-          → Row X n v (called Y s (pairOf n) r o) (rowDone X g n v k)
-      any-read o L =
-          subst (λ (x : Option Spot). Row X n v (called Y s (pairOf n) r x) (rowDone X g n v k))
-          (sym
-          (one-outcome Y F wo (oldOf n) v (omega arith) w (operation (rowsOf (Y .new) n) r) fits
-          (subst (λ (u : ℕ). Lines5to18 Y (oldOf n) u (operation (rowsOf (Y .new) n) r) o) own L))) row-read
+          → (t : State) → Called Y s (pairOf n) r o t → Row X n v t (rowDone X g n v k)
+      unfolding stepOf step
+      any-read o L t P =
+          let e = one-outcome Y F wo (oldOf n) v (omega arith) w (operation (rowsOf (Y .new) n) r) fits
+          (subst (λ (u : ℕ). Lines5to18 Y (oldOf n) u (operation (rowsOf (Y .new) n) r) o) own L) in
+          let P′ = subst (λ (x : Option Spot). Called Y s (pairOf n) r x t) e P in
+          subst (λ (f : State). Row X n v f (rowDone X g n v k)) (sym (process-only Y F wo s (pairOf n) r (cameTo Y n v r) came-fits P′)) row-read

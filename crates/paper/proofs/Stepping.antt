@@ -1,4 +1,5 @@
--- The aligned step is lines 5 to 18 of Algorithm 2, with document 01's cut of line 13. Assumes nothing.
+-- The aligned step is lines 5 to 18 of Algorithm 2, with document 01's cut of line 13, and in edition 2 with footnote 6.
+-- Assumes nothing.
 use mathlib.Core.Path.{_≡_, refl, sym, ap, subst, _∙_}
 use mathlib.Core.Bool.{Bool, true, false, _&&_, _||_, not}
 use mathlib.Core.Logic.{inl, inr, ⊎-elim, dite, _≢_}
@@ -9,11 +10,13 @@ use native.Mathlib.Omega.{arith}
 use native.Mathlib.Decide.{ℕ-discrete, decLt}
 use native.Mathlib.Nat.{lt-of-lt-of-le, div-eq-of-lt}
 use borrow.Author.Tests.{eq-eqb, eqb-true, eqb-false}
+use lib.Dec.{eqb}
 use lib.Bits.{or-zero-l}
 use lib.Pow.{pow-mono}
 use Rattle.base.specs.Options.{when, orElse}
 use Rattle.base.proofs.OnSome.{on-at}
 use Rattle.base.proofs.Options.{none-of, not-due, both-missing}
+use Rattle.base.proofs.Picks.{pick-true}
 use Rattle.base.proofs.Sums.{sum, sum-lt, sum-most}
 use Rattle.base.proofs.Tests.{T-true, and-true}
 use Rattle.operations.specs.declared.Operation.{Operation}
@@ -27,20 +30,20 @@ use Rattle.operations.specs.Trials.{implication}
 use Rattle.operations.proofs.Exact.{implication-means}
 use Rattle.chart.specs.declared.places.OldPlace.{OldPlace}
 use Rattle.chart.specs.Charts.{size, from, to, operation}
-use Rattle.chart.specs.Compared.{Compared}
+use Rattle.chart.specs.Compared.{Compared, isSecond}
 use Rattle.chart.proofs.Words.{Words}
 use Rattle.chart.specs.Faultless.{FaultlessChart}
 use Rattle.align.specs.declared.spots.Spot.{Spot}
 use Rattle.sets.specs.Sets.{bit, alone, joined, with, without, meets}
 use Rattle.align.specs.Reads.{readSet}
-use Rattle.align.specs.Steps.{find, oldTo, isImplied, along, matching, matched, rewritten, rowsAt, atAlarm, assigned, onward, follow, followed, counterpart, assumed, moved}
+use Rattle.align.specs.Steps.{find, oldTo, isImplied, along, matching, matched, rewritten, rowsAt, atAlarm, writer, unequal, assigned, onward, follow, followed, counterpart, assumed, moved}
 use Rattle.sets.proofs.Sets.{In, bit-none, alone-here, alone-only, with-here, with-old, with-only, without-in, without-kept, meet-some, meet-none, alone-small, with-small, without-small}
 use Rattle.align.proofs.Onto.{same→eq, found}
 use Rattle.align.proofs.Moves.{onward-below}
 use Rattle.chart.proofs.Conflicts.{operands}
 use Rattle.chart.proofs.Parts.{before, stands, same-row, row-of, row-same, row-a}
 use Rattle.paper.specs.Nodes.{SetOf, _isIn_, emptySet, _plus_}
-use Rattle.paper.specs.Lines5to18.{Meet, IsWith, IsWithout, onlyOld, InG, Line13, Loop, line12, line14, Lines11to14, Line15, Lines5to18, line7, line8, line10, line16, line17, line18, line13-cut}
+use Rattle.paper.specs.Lines5to18.{Meet, IsWith, IsWithout, onlyOld, InG, Line13, Loop, line12, line14, Lines11to14, Line15, Lines5to18, NoEqual, Footnote6, line7, line8, line10, footnote6, line16, line17, line18, line13-cut}
 use Rattle.paper.proofs.Members.{in-first, in-second}
 
 -- ---- sets
@@ -119,11 +122,48 @@ module _ (X : Compared) where
   pub an-edge : (p : OldPlace) (f : Operation → Bool) (k : ℕ) → find (rowsAt X p) f ≡ some k → (k < size (rowsAt X p)) × (f (operation (rowsAt X p) k) ≡ true)
   an-edge p f k e = let r = on-at _ (found (rowsAt X p) f {P = λ o. f o ≡ true} (λ o h. h)) e in (r .inside, r .fits)
 
+  -- ---- footnote 6: the row that is found, in edition 2
+  abbrev pub writes : ℕ → Operation → Bool
+  writes a o = isAssignment o && eqb (o .a) a
+
+  pub writer-some : (p : OldPlace) (a k : ℕ) → writer X p a ≡ some k → (X .edition ≡ 2) × (find (rowsAt X p) (writes a) ≡ some k)
+  unfolding writer
+  writer-some p a k e = go (isSecond X) refl e
+    where
+      go : (b : Bool) → isSecond X ≡ b → _≡_ {A = Option ℕ} (elim b as (λ _. Option ℕ) [ true ↦ find (rowsAt X p) (writes a) | false ↦ none ]) (some k)
+          → (X .edition ≡ 2) × (find (rowsAt X p) (writes a) ≡ some k)
+      go true t e = (eqb-true (X .edition) 2 t, e)
+      go false t e = absurd (Option·none-ne-some k e)
+
+  pub writer-none : (p : OldPlace) (a : ℕ) → writer X p a ≡ none → X .edition ≡ 2 → find (rowsAt X p) (writes a) ≡ none
+  unfolding writer
+  writer-none p a e t = sym (pick-true (isSecond X) (find (rowsAt X p) (writes a)) none (eq-eqb (X .edition) 2 t)) ∙ e
+
+  -- the row is an edge that footnote 6 takes
+  pub writing-edge : (p : OldPlace) (s : ℕ) (o : Operation) (k : ℕ) → writer X p (o .a) ≡ some k → Footnote6 X p s o (operation (rowsAt X p) k) (oldTo (rowsAt X p) k)
+  writing-edge p s o k e =
+      let w = writer-some p (o .a) k e in
+      let r = an-edge p (writes (o .a)) k (w .1) in
+      let z = and-true (isAssignment (operation (rowsAt X p) k)) _ (r .1) in
+      record { edition = w .0; edge = row-edge p k (r .0); assignment = z .0; same = eqb-true (operation (rowsAt X p) k .a) (o .a) (z .1) }
+
+  -- where none was found it takes none
+  pub no-writing : (p : OldPlace) (s : ℕ) (o : Operation) → writer X p (o .a) ≡ none → (op : Operation) (q : OldPlace) → Footnote6 X p s o op q → ⊥
+  no-writing p s o e op q W =
+      T-true (sym (no-edge p (writes (o .a)) (writer-none p (o .a) e (W .edition)) op q (W .edge)) ∙ rw (W .assignment, W .same, eq-eqb (o .a) (o .a) refl))
+
   -- ---- lines 5 to 10
   module _ (p : OldPlace) (s : ℕ) (o : Operation) (b : s < 2 ^ 64) (a : o .a < 64) (t : isAssignment o ≡ true) where
+    lines10 : NoEqual X p s o → (x : Option ℕ) → writer X p (o .a) ≡ x → Lines5to18 X p s o (some (unequal X (record { place = p; set = s }) (o .a) x))
+    unfolding unequal
+    lines10 n none e = line10 n (no-writing p s o e) (is-with s (o .a))
+    lines10 n (some k) e = footnote6 n (writing-edge p s o k e) (is-with s (o .a))
+
     lines5to10 : (x : Option ℕ) → find (rowsAt X p) (λ o′. same o′ o) ≡ x → Lines5to18 X p s o (some (assigned X (record { place = p; set = s }) o x))
     unfolding assigned rewritten
-    lines5to10 none e = line10 t (λ q E. T-true (sym (no-edge p (λ o′. same o′ o) e o q (E .edge)) ∙ same-self o)) (is-with s (o .a))
+    lines5to10 none e =
+        lines10 (record { assignment = t; none = λ q E. T-true (sym (no-edge p (λ o′. same o′ o) e o q (E .edge)) ∙ same-self o) })
+        (writer X p (o .a)) refl
     lines5to10 (some k) e = go (meets s (readSet o)) refl
       where
         edge : InG X p o (oldTo (rowsAt X p) k)
@@ -181,7 +221,7 @@ module _ (X : Compared) (F : FaultlessChart (X .old)) where
 
   module _ (ℓ₁ : OldPlace) (start : ℕ) where
     -- the loop has ended, or has come to a place twice
-    data Walked : Option Spot → Type 0 where
+    pub data Walked : Option Spot → Type 0 where
       came : {h : Spot} {been : SetOf OldPlace} → Loop X ℓ₁ start been (h .place) (h .set) → onward X h ≡ none → h .set < 2 ^ 64 → Walked (some h)
       twice : {been : SetOf OldPlace} {p : OldPlace} {s : ℕ} → Loop X ℓ₁ start been p s → p isIn been → Walked none
 
@@ -216,6 +256,12 @@ module _ (X : Compared) (F : FaultlessChart (X .old)) where
               where
                 below : h′ .place .0 < 64
                 below = on-at _ (onward-below X F h) e
+
+  -- what the step follows is a walk of the loop
+  pub walked : (p : OldPlace) (s : ℕ) → p .0 < 64 → s < 2 ^ 64 → Walked p s (followed X (record { place = p; set = s }))
+  unfolding followed
+  walked p s l b =
+      walk p s 64 (alone (p .0)) (record { place = p; set = s }) emptySet line12 b (alone-small (p .0) l) (λ i k. onlyOld-is p i (alone-only i (p .0) k)) (unmet-few (p .0) l)
 
   -- ---- lines 15 to 18
   pub edge-operands : Words (X .old .table) → (p : OldPlace) (op : Operation) (q : OldPlace) → InG X p op q → Operands op
@@ -294,7 +340,7 @@ module _ (X : Compared) (F : FaultlessChart (X .old)) where
 
   -- ---- all of them
   pub step-lines : Words (X .old .table) → (p : OldPlace) (s : ℕ) (o : Operation) → p .0 < 64 → s < 2 ^ 64 → Operands o → Lines5to18 X p s o (moved X (record { place = p; set = s }) o)
-  unfolding moved followed
+  unfolding moved
   step-lines words p s o l b fits = go (isAssignment o) refl
     where
       h : Spot
@@ -310,5 +356,4 @@ module _ (X : Compared) (F : FaultlessChart (X .old)) where
             | false ↦ elim (followed X h) as (λ _. Option Spot) [ none ↦ none | some h′ ↦ assumed X h′ o (counterpart X (h′ .place) o) ]
           ])
       go true t = lines5to10 X p s o b (fits .a) t (find (rowsAt X p) (λ o′. same o′ o)) refl
-      go false t =
-          on t (walk p s 64 (alone (p .0)) h emptySet line12 b (alone-small (p .0) l) (λ i k. onlyOld-is p i (alone-only i (p .0) k)) (unmet-few (p .0) l))
+      go false t = on t (walked p s l b)

@@ -1,8 +1,10 @@
 -- The source's Algorithm 2, the difference detector, line by line. P is the old chart, P' the new one; ℓ_err and ℓ'_err
 -- are their alarms. It has two parameters: the waiting pairs that line 3 may pop, which the source leaves open
 -- (document 01's choice is `Lowest`), and lines 5 to 18, which are transcribed by themselves in Lines5to18.antt. Lines
--- are counted as the listing counts them; the source's prose counts those of PROCESS one lower.
+-- are counted as the listing counts them; the source's prose counts those of PROCESS one lower. "Edition 2 is compared
+-- with Algorithm 2 plus these footnotes" (document 02, #104): footnote 8 stands beside line 27.
 use mathlib.Core.Bool.{Bool, true, false, _&&_, _||_, not}
+use mathlib.Core.Path.{_≡_}
 use mathlib.Core.Logic.{_⊎_}
 use mathlib.Core.List.{List}
 use mathlib.Core.Option.{Option, none, some}
@@ -15,6 +17,7 @@ use Rattle.chart.specs.Compared.{Compared}
 use Rattle.chart.specs.Charts.{start, size, to, operation, leaving}
 use Rattle.align.specs.declared.spots.Spot.{Spot}
 use Rattle.sets.specs.Sets.{joined, holdsAll}
+use Rattle.paper.specs.Lines5to18.{Loop}
 use Rattle.paper.specs.Nodes.{SetOf, _isIn_, _isNotIn_, emptySet, _plus_, _minus_, Pair, pair, Node, aligned, indicator, Edge, edge, onlyPlace, onlyPair, onlyEdge, onlyNode, withPlace, number}
 
 -- the variables of line 1. V_δ gives each pair a set of variables, as a number whose bit i tells of vi
@@ -66,6 +69,10 @@ module _ (X : Compared) where
   abbrev pub ℓ₀′ : NewPlace
   ℓ₀′ = record { 0 = start (X .new .head) }
 
+  -- ℓ_err, as in footnote 8
+  abbrev pub ℓ-err : OldPlace
+  ℓ-err = record { 0 = X .old .head .alarm }
+
   -- ℓ_err by its test, as in lines 19, 27 and 29
   abbrev pub isErr : OldPlace → Bool
   isErr p = eqb (p .0) (X .old .head .alarm)
@@ -108,11 +115,27 @@ module _ (X : Compared) where
   unfoldable pub line27 : Pair → Bool
   line27 succ = not (isErr (succ .old)) && isErr′ (succ .new)
 
-  -- PROCESS, lines 22 to 33, by the tests of lines 23 and 27
-  unfoldable pub process : State → Pair → ℕ → Node → ℕ → State
-  process s pred g (indicator succ) v = toPlace s pred g succ
-  process s pred g (aligned succ) v =
-      elim (line27 succ) [ true ↦ toPlace s pred g (succ .new) | false ↦ toPair s pred g succ v ]
+  -- footnote 8, in edition 2: the implementation "first searches for an error location of the original program in its
+  -- follow-up sequence of assignments": the loop of lines 12 to 14 comes from ℓ to ℓ_err, and V_diff gains what is
+  -- written. "a place met twice ends the search" (document 02, #104): from there the loop does not come to ℓ_err
+  pub record Footnote8 (ℓ : OldPlace) (Vdiff Vdiff′ : ℕ) : Type 0 where
+    pub edition : X .edition ≡ 2
+    pub been : SetOf OldPlace
+    pub search : Loop X ℓ Vdiff been ℓ-err Vdiff′
+
+  -- PROCESS, lines 22 to 33, from a state to the one that it leaves: by the tests of lines 23 and 27
+  pub data Process (s : State) (pred : Pair) (g : ℕ) : Node → ℕ → State → Type 0 where
+    lines23to25 : {succ : NewPlace} {v : ℕ} → Process s pred g (indicator succ) v (toPlace s pred g succ)
+    -- PROCESS((pred, g', ℓ'_err), ∅)
+    line27-so : {succ : Pair} {v : ℕ}
+        → line27 succ ≡ true → ((v′ : ℕ) → Footnote8 (succ .old) v v′ → ⊥)
+        → Process s pred g (aligned succ) v (toPlace s pred g (succ .new))
+    -- in the place of line 27: "the step goes to both alarms and the set gains what was written" (document 02, #104)
+    footnote8 : {succ : Pair} {v v′ : ℕ}
+        → line27 succ ≡ true → Footnote8 (succ .old) v v′
+        → Process s pred g (aligned succ) v (toPair s pred g (pair ℓ-err (succ .new)) v′)
+    lines29to33 : {succ : Pair} {v : ℕ}
+        → line27 succ ≡ false → Process s pred g (aligned succ) v (toPair s pred g succ v)
 
   -- ---- lines 1 to 18
   -- line 4: the edges g' = (ℓ'_1, op', ℓ'_2) that leave ℓ'_1
@@ -123,10 +146,10 @@ module _ (X : Compared) where
   abbrev pub ℓ₂′ : NewPlace → ℕ → NewPlace
   ℓ₂′ q r = record { 0 = to (edges q) r }
 
-  -- the calls of PROCESS in line 16; and in lines 9, 10, 17 and 18
-  unfoldable pub called : State → Pair → ℕ → Option Spot → State
-  called s n r none = process s n r (indicator (ℓ₂′ (n .new) r)) 0
-  called s n r (some h) = process s n r (aligned (pair (h .place) (ℓ₂′ (n .new) r))) (h .set)
+  -- the calls of PROCESS in line 16; and in lines 9, 10, 17 and 18: from a state to the one that the call leaves
+  abbrev pub Called : State → Pair → ℕ → Option Spot → State → Type 0
+  Called s n r none t = Process s n r (indicator (ℓ₂′ (n .new) r)) 0 t
+  Called s n r (some h) t = Process s n r (aligned (pair (h .place) (ℓ₂′ (n .new) r))) (h .set) t
 
   module _ (lines5to18 : Step) where
     -- line 4: the first k edges of the pair n one after another, "its rows in table order, reading its set afresh for
@@ -134,9 +157,9 @@ module _ (X : Compared) where
     -- even if it left the graph."
     pub data ForEach (s : State) (n : Pair) : ℕ → State → Type 0 where
       none-yet : ForEach s n 0 s
-      one-more : {k : ℕ} {t : State} (o : Option Spot) → ForEach s n k t
+      one-more : {k : ℕ} {t u : State} (o : Option Spot) → ForEach s n k t
           → lines5to18 (n .old) (t .Vδ n) (operation (edges (n .new)) k) o
-          → ForEach s n (suc k) (called t n k o)
+          → Called t n k o u → ForEach s n (suc k) u
 
     -- the states that the loop of line 2 can come to, where line 3 pops waiting pairs of this choice
     pub data Run (line3 : Choice) : State → Type 0 where

@@ -3,7 +3,8 @@
 -- values that meet an assumption. Where several old edges match in line 15 the source takes any; document 01 seeks "the
 -- old row at p whose operation is equal; failing that, [..] the old assumption at p that it implies". In a faultless
 -- chart no two edges of a place match: the aligned step is an outcome of these lines (proofs/Stepping.antt), and the
--- only one (proofs/Outcomes.antt).
+-- only one (proofs/Outcomes.antt). "Edition 2 is compared with Algorithm 2 plus these footnotes" (document 02, #104):
+-- footnote 6 stands beside line 10.
 use mathlib.Core.Path.{_≡_}
 use mathlib.Core.Bool.{true, false}
 use mathlib.Core.Logic.{_⊎_, _≢_, _↔_}
@@ -73,6 +74,19 @@ module _ (X : Compared) where
       pub assignment : isAssignment op′ ≡ true
       pub edge : InG ℓ₁ op′ ℓ₂
 
+    -- the else of line 10: op' is assignment, and no (ℓ_1, op', ℓ_2) ∈ G
+    pub record NoEqual : Type 0 where
+      pub assignment : isAssignment op′ ≡ true
+      pub none : (ℓ₂ : OldPlace) → Lines5and6 ℓ₂ → ⊥
+
+    -- footnote 6, in edition 2: the implementation "also keeps the alignment if an assignment exists that changes the
+    -- same variables": some (ℓ_1, op, ℓ_2) ∈ G with wrt(op) = wrt(op')
+    pub record Footnote6 (op : Operation) (ℓ₂ : OldPlace) : Type 0 where
+      pub edition : X .edition ≡ 2
+      pub edge : InG ℓ₁ op ℓ₂
+      pub assignment : isAssignment op ≡ true
+      pub same : op .a ≡ op′ .a
+
     -- lines 11 to 14: op' is an assumption, and the loop has ended
     pub record Lines11to14 (ℓₚ : OldPlace) (Vdiff : ℕ) : Type 0 where
       pub assumption : isAssignment op′ ≡ false
@@ -94,7 +108,8 @@ module _ (X : Compared) where
     abbrev pub to : OldPlace → ℕ → Option Spot
     to ℓ Vdiff = some (record { place = ℓ; set = Vdiff })
 
-    -- lines 5 to 18: the calls of PROCESS in lines 9, 10, 16, 17 and 18, each by the lines that lead to it
+    -- lines 5 to 18: the calls of PROCESS in lines 9, 10 (and its footnote 6), 16, 17 and 18, each by the lines that
+    -- lead to it
     pub data Lines5to18 : Option Spot → Type 0 where
       -- and line 9
       line7 : {ℓ₂ : OldPlace} {Vdiff : ℕ}
@@ -102,8 +117,11 @@ module _ (X : Compared) where
       line8 : {ℓ₂ : OldPlace} {Vdiff : ℕ}
           → Lines5and6 ℓ₂ → (Meet Vδ (readSet op′) → ⊥) → IsWithout Vδ (op′ .a) Vdiff → Lines5to18 (to ℓ₂ Vdiff)
       line10 : {Vdiff : ℕ}
-          → isAssignment op′ ≡ true → ((ℓ₂ : OldPlace) → Lines5and6 ℓ₂ → ⊥) → IsWith Vδ (op′ .a) Vdiff
+          → NoEqual → ((op : Operation) (ℓ₂ : OldPlace) → Footnote6 op ℓ₂ → ⊥) → IsWith Vδ (op′ .a) Vdiff
           → Lines5to18 (to ℓ₁ Vdiff)
+      -- in the place of line 10: "moves both charts and adds that variable" (document 02, #104)
+      footnote6 : {ℓ₂ : OldPlace} {Vdiff : ℕ} {op : Operation}
+          → NoEqual → Footnote6 op ℓ₂ → IsWith Vδ (op′ .a) Vdiff → Lines5to18 (to ℓ₂ Vdiff)
       line16 : {ℓₚ ℓ₂ : OldPlace} {Vdiff : ℕ} {op : Operation}
           → Lines11to14 ℓₚ Vdiff → Line15 ℓₚ op ℓ₂ → Line16 Vdiff op → Lines5to18 none
       line17 : {ℓₚ ℓ₂ : OldPlace} {Vdiff : ℕ} {op : Operation}
