@@ -19,7 +19,7 @@ use Rattle.text.proofs.Bounds.{read-fits}
 use Rattle.text.proofs.Headings.{headOr, rowsTold}
 use Rattle.pick.specs.declared.Both.{Both}
 use Rattle.pick.specs.declared.Both.the-variants as both
-use Rattle.report.specs.Printed.{inNew, bothOf}
+use Rattle.report.specs.Printed.{inNew, bothOf, programEdition}
 use Rattle.pick.specs.Both.{toldBoth, BothAs}
 use Rattle.pick.specs.inner.Small.{Few}
 use Rattle.chart.specs.declared.charts.Heads.{Heads}
@@ -51,7 +51,7 @@ module _ (old old′ new : List ℕ) where
         (record { told = ap (λ (x : Refusal). refused (inNew x)) i; old-table = f; new-table = f′ }, rw i (s .position))
 
     -- both are charts
-    two-charts : (a b : Answer Chart) (h : Head) (m : ℕ) (g : Head) (n : ℕ) {x : Heads} → x ≡ bothHeads h g → FitsOr FaultlessChart a → FitsOr FaultlessChart b → toldRead (read.Chart h m) ≡ mapped heading a → old′ ≡ filled a old
+    two-charts : (a b : Answer Chart) (h : Head) (m : ℕ) (g : Head) (n : ℕ) {x : Heads} → x ≡ bothHeads programEdition h g → FitsOr FaultlessChart a → FitsOr FaultlessChart b → toldRead (read.Chart h m) ≡ mapped heading a → old′ ≡ filled a old
         → toldRead (read.Chart g n) ≡ mapped heading b → new′ ≡ filled b new → Told a b (both.Charts x m n) old old′ new new′
     unfolding toldRead bothOf toldBoth
     two-charts (refused q) b h m g n z s s′ e f e′ f′ = absurd (different e)
@@ -75,7 +75,7 @@ module _ (old-text new-text old old′ new : List ℕ) (r : Read)
         two-refused old old′ new new′ (readInto old-text old) (readInto new-text new) h k q (read-fits new-text new) (rw e at is .0) (is .1)
         (rw e′ at is′ .0) (is′ .1)
 
-    pub both-charts : (g : Head) (n : ℕ) {x : Heads} → r′ ≡ read.Chart g n → x ≡ bothHeads h g → Told (readInto old-text old) (readInto new-text new) (both.Charts x k n) old old′ new new′
+    pub both-charts : (g : Head) (n : ℕ) {x : Heads} → r′ ≡ read.Chart g n → x ≡ bothHeads programEdition h g → Told (readInto old-text old) (readInto new-text new) (both.Charts x k n) old old′ new new′
     both-charts g n e′ z =
         two-charts old old′ new new′ (readInto old-text old) (readInto new-text new) h k g n z (read-fits old-text old) (read-fits new-text new)
         (rw e at is .0) (is .1) (rw e′ at is′ .0) (is′ .1)

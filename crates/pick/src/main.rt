@@ -56,7 +56,7 @@ fn load(path: &[u8], text: &mut [u8]) -> usize
 }
 
 // The charts of two texts, the old one first: their rows go to the front of the tables, which have 768 entries each. A
-// refusal leaves the table of the chart that is refused as it was, and ends the program.
+// refusal leaves the table of the chart that is refused as it was, and ends the program. The program names edition 1.
 fn read_both(old_text: &[u8], new_text: &[u8], old: &mut [u32], new: &mut [u32]) -> Both
     ensures is { λ r. ⌜ BothAs (readInto (now («old_text» .entry)) (now (old .entry)))
         (readInto (now («new_text» .entry)) (now (new .entry))) r
@@ -71,7 +71,7 @@ fn read_both(old_text: &[u8], new_text: &[u8], old: &mut [u32], new: &mut [u32])
                 chart: 1,
                 position: r.position,
             }),
-            Read::Chart(other, more) => Both::Charts(both_heads(head, other), rows, more),
+            Read::Chart(other, more) => Both::Charts(both_heads(1, head, other), rows, more),
         },
     }
 }

@@ -19,17 +19,17 @@ newIn : Compared → Answer Compared → Chart
 newIn X (given Q) = Q .new
 newIn X (refused r) = X .new
 
-new-given : (a b : Answer Chart) (X : Compared) → bothOf a b ≡ given X → b ≡ given (X .new)
+new-given : (edition : ℕ) (a b : Answer Chart) (X : Compared) → bothOf edition a b ≡ given X → b ≡ given (X .new)
 unfolding bothOf newIn
-new-given (given O) (given N) X e = ap (λ (C : Chart). given C) (ap (newIn X) e)
-new-given (given O) (refused r) X e = absurd (different (sym e))
-new-given (refused r) b X e = absurd (different (sym e))
+new-given edition (given O) (given N) X e = ap (λ (C : Chart). given C) (ap (newIn X) e)
+new-given edition (given O) (refused r) X e = absurd (different (sym e))
+new-given edition (refused r) b X e = absurd (different (sym e))
 
 -- the portions are those of the whole table
-pub whole-table : (old new : List ℕ) (X : Compared) → bothRead old new ≡ given X → take 768 (X .new .table) ≡ X .new .table
+pub whole-table : (edition : ℕ) (old new : List ℕ) (X : Compared) → bothRead edition old new ≡ given X → take 768 (X .new .table) ≡ X .new .table
 unfolding bothRead
-whole-table old new X e =
-    let q = new-given (readText old) (readText new) X e in
+whole-table edition old new X e =
+    let q = new-given edition (readText old) (readText new) X e in
     let C = X .new in
     let f = faultless C (read-exactly C new .0 q .faultless) in
     take-all 768 (C .table) (omega (arith, f .whole, f .few-rows))

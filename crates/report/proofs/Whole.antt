@@ -17,7 +17,7 @@ use Rattle.condition.specs.Builds.{recorded, summary}
 use Rattle.records.specs.Records.{Graph, graphOf, readTarget}
 use Rattle.report.specs.Lines.{refusalLine}
 use Rattle.report.specs.Transitions.{ofPair, ofPairs, remaining}
-use Rattle.report.specs.Printed.{bothRead, summaryLine, transitions, condition, conditionOf, printed}
+use Rattle.report.specs.Printed.{bothRead, programEdition, summaryLine, transitions, condition, conditionOf, printedIn, printed}
 use Rattle.report.proofs.Lengths.{whole-table}
 use Rattle.report.specs.Portions.{Front, Portions, last, more}
 use Rattle.chart.specs.Compared.{Compared}
@@ -41,21 +41,21 @@ without-sets t G n (m ∷ ms) = ap (λ (l : List ℕ). ofPair t G n m ++ l) (wit
 
 module _ (old new : List ℕ) where
   -- a refusal is printed by its record alone
-  pub refusal-printed : (r : Refusal) → bothRead old new ≡ refused r → refusalLine r ≡ printed old new
-  unfolding printed
+  pub refusal-printed : (r : Refusal) → bothRead programEdition old new ≡ refused r → refusalLine r ≡ printed old new
+  unfolding printed printedIn
   refusal-printed r e = rw e
 
   -- a condition is printed by its first record and then the portions from pair 0 on
-  pub condition-printed : (X : Compared) → bothRead old new ≡ given X
+  pub condition-printed : (X : Compared) → bothRead programEdition old new ≡ given X
       → (before after : List ℕ) (r : ℕ) → Front before (summaryLine (summary (recorded X .start) (recorded X .graph .marks))) after r
       → {out : List ℕ} → Portions (take 768 (X .new .table)) (graphOf (recorded X .graph .marks) (recorded X .graph .targets) []) 0 out
       → take r after ++ out ≡ printed old new
-  unfolding printed conditionOf condition transitions remaining
+  unfolding printed printedIn conditionOf condition transitions remaining
   condition-printed X e before after r f ps =
       let R = recorded X in
       let all = portions-are (take 768 (X .new .table)) (graphOf (R .graph .marks) (R .graph .targets) []) ps in
       let same = all ∙ without-sets (take 768 (X .new .table)) (R .graph) 0 (slice 0 4096 (R .graph .marks)) in
-      rw e (ap₂ (λ (x y : List ℕ). x ++ y) (f .is) (same ∙ ap (λ (t : List ℕ). remaining t (R .graph) 0) (whole-table old new X e)))
+      rw e (ap₂ (λ (x y : List ℕ). x ++ y) (f .is) (same ∙ ap (λ (t : List ℕ). remaining t (R .graph) 0) (whole-table programEdition old new X e)))
 
 -- "at most 16,384 bytes" of a file say as much as all of it
 cut-read : (text : List ℕ) → readText (take 16384 text) ≡ readText text
@@ -63,5 +63,5 @@ cut-read text =
     dite (decLt 16384 (length text)) (λ h. sym (cut-text text h)) (λ h. ap readText (take-all 16384 text (omega arith)))
 
 pub printed-cut : (old new : List ℕ) → printed (take 16384 old) (take 16384 new) ≡ printed old new
-unfolding printed bothRead
+unfolding printed printedIn bothRead
 printed-cut old new = rw (cut-read old, cut-read new)

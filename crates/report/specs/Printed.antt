@@ -23,13 +23,17 @@ abbrev pub ofNew : {A : Type 0} → Answer A → Answer A
 ofNew (given x) = given x
 ofNew (refused r) = refused (inNew r)
 
--- "the program finishes old.csv before new.csv": what is read of the two texts
-unfoldable pub bothOf : Answer Chart → Answer Chart → Answer Compared
-bothOf old new = andThen old (λ (O : Chart). andThen (ofNew new) (λ (N : Chart). given (both O N)))
+-- "the program finishes old.csv before new.csv": what is read of the two texts, by the edition that is named
+unfoldable pub bothOf : ℕ → Answer Chart → Answer Chart → Answer Compared
+bothOf edition old new = andThen old (λ (O : Chart). andThen (ofNew new) (λ (N : Chart). given (both edition O N)))
 
 -- the charts of both files, by their bytes: "A file that can't be read counts as one without bytes."
-unfoldable pub bothRead : List ℕ → List ℕ → Answer Compared
-bothRead old new = bothOf (readText old) (readText new)
+unfoldable pub bothRead : ℕ → List ℕ → List ℕ → Answer Compared
+bothRead edition old new = bothOf edition (readText old) (readText new)
+
+-- "the program names 1" (document 02, #104)
+abbrev pub programEdition : ℕ
+programEdition = 1
 
 -- ---- a condition
 -- "start, open, kept, covered"
@@ -54,6 +58,10 @@ abbrev pub orRefusal : Answer (List ℕ) → List ℕ
 orRefusal (given bytes) = bytes
 orRefusal (refused r) = refusalLine r
 
+-- what is printed of the condition that an edition builds, by the bytes of both files
+unfoldable pub printedIn : ℕ → List ℕ → List ℕ → List ℕ
+printedIn edition old new = orRefusal (mapped conditionOf (bothRead edition old new))
+
 -- "The program reads old.csv and new.csv and prints CSV of four fields": the bytes printed, by those of both files
 unfoldable pub printed : List ℕ → List ℕ → List ℕ
-printed old new = orRefusal (mapped conditionOf (bothRead old new))
+printed old new = printedIn programEdition old new
