@@ -10,8 +10,13 @@ use Rattle.operations.specs.Operations.{value, plus}
 use Rattle.operations.specs.Assumptions.{Operands}
 use Rattle.operations.specs.Trials.{never, implies}
 use Rattle.operations.proofs.Exact.{implies-exact, never-exact}
-use Rattle.report.specs.Printed.{printed}
-use Rattle.sessions.specs.Cases.{Case, prints, implied, notImplied, anything, sum, Says, adds, bytes, Every, none, one}
+use Rattle.base.specs.Answers.{Answer, given, refused}
+use Rattle.base.specs.Chains.{mapped}
+use Rattle.chart.specs.Compared.{Compared}
+use Rattle.records.specs.Records.{setAt}
+use Rattle.condition.specs.Builds.{recorded}
+use Rattle.report.specs.Printed.{bothRead, printedIn, printed}
+use Rattle.sessions.specs.Cases.{Case, prints, printsIn, tracks, implied, notImplied, anything, sum, Says, adds, bytes, Every, none, one}
 use Rattle.sessions.specs.Worked.{worked}
 use Rattle.base.specs.Options as base-options
 use Rattle.base.specs.Repeat as base-repeat
@@ -49,8 +54,15 @@ same (x ∷ l) (y ∷ m) = eqb x y && same l m
 unfoldable fit : Operation → Bool
 fit f = ltb (f .a) 64 && (ltb (f .b) 64 && ltb (f .c) (2 ^ 32))
 
+-- a number is answered, and it is this one
+unfoldable is : ℕ → Answer ℕ → Bool
+is n (given x) = eqb x n
+is n (refused r) = false
+
 unfoldable test : Case → Bool
 test (prints old new out) = same (printed (bytes old) (bytes new)) (bytes out)
+test (printsIn edition old new out) = same (printedIn edition (bytes old) (bytes new)) (bytes out)
+test (tracks edition old new pair set) = is set (mapped (λ (X : Compared). setAt (recorded X .graph) pair) (bothRead edition (bytes old) (bytes new)))
 test (implied f g) = fit f && (fit g && implies f g)
 test (notImplied f g) = fit f && (fit g && not (implies f g))
 test (anything f) = fit f && never f
@@ -69,6 +81,11 @@ same-is [] (y ∷ m) t = absurd t
 same-is (x ∷ l) [] t = absurd t
 same-is (x ∷ l) (y ∷ m) t = let (h, r) = T-and (eqb x y) (same l m) t in ap₂ (λ (n : ℕ) (s : List ℕ). n ∷ s) (eqb→eq x y h) (same-is l m r)
 
+is-given : (n : ℕ) (a : Answer ℕ) → T (is n a) → a ≡ given n
+unfolding is
+is-given n (given x) t = ap (λ (y : ℕ). given y) (eqb→eq x n t)
+is-given n (refused r) t = absurd t
+
 fit-is : (f : Operation) → T (fit f) → Operands f
 unfolding fit
 fit-is f t =
@@ -86,6 +103,8 @@ both-fit f g b t =
 shows : (c : Case) → T (test c) → Says c
 unfolding test value
 shows (prints old new out) t = same-is (printed (bytes old) (bytes new)) (bytes out) t
+shows (printsIn edition old new out) t = same-is (printedIn edition (bytes old) (bytes new)) (bytes out) t
+shows (tracks edition old new pair set) t = is-given set (mapped (λ (X : Compared). setAt (recorded X .graph) pair) (bothRead edition (bytes old) (bytes new))) t
 shows (implied f g) t = let (F, G, h) = both-fit f g (implies f g) t in implies-exact f g F G .0 h
 shows (notImplied f g) t =
     let (F, G, h) = both-fit f g (not (implies f g)) t in
@@ -102,7 +121,7 @@ all-show (c ∷ l) t = let (h, r) = T-and (test c) (tests l) t in one (shows c h
 
 -- every test passes, by computing with the definitions
 computed : tests worked ≡ true
-unfolding worked tests test same fit bytes base-options.firstOf base-repeat.repeated base-walks.pass base-walks.firstFrom base-walks.count base-tests.someBelow chart-charts.canBeTaken chart-charts.rowsWhere chart-charts.leaving chart-faults.countFault chart-faults.alarmFault chart-faults.rowFault chart-faults.clash chart-faults.conflictFault chart-faults.rowsFault chart-faults.fault operations-operations.kind operations-operations.operandB operations-operations.assignedC operations-operations.operandC operations-operations.operandsFit operations-operations.reads operations-operations.same operations-operations.value operations-operations.related operations-operations.holds operations-trials.seats operations-trials.trial operations-trials.shown operations-trials.together operations-trials.neverHolds text-fields.digitOf text-fields.digits text-fields.value text-fields.kind text-fields.judged text-fields.bounded text-fields.ended text-fields.numberOf text-fields.numberAt text-fields.followed text-fields.fieldAt text-fields.lineEnd text-fields.closed text-fields.missing text-fields.itemAt text-spans.fieldsAt text-texts.whole text-texts.rowsAt text-texts.parsed text-texts.readText text-written.digitsIn text-written.digitsOf text-written.decimal text-written.closing text-written.fieldsText sets-sets.alone sets-sets.joined sets-sets.with sets-sets.without sets-sets.meets sets-sets.holdsAll sets-sets.setOf align-reads.readSet align-steps.find align-steps.along align-steps.matching align-steps.matched align-steps.rewritten align-steps.assigned align-steps.onward align-steps.follow align-steps.followed align-steps.counterpart align-steps.assumed align-steps.moved align-steps.arrived align-steps.step graph-buffers.marked graph-buffers.gone graph-buffers.cleared graph-buffers.untargeted graph-buffers.keep graph-buffers.aim graph-buffers.due graph-buffers.waits graph-buffers.join graph-buffers.unwait detector-turns.lowest detector-turns.next detector-turns.setNow detector-turns.begun detector-turns.stepOf detector-turns.arrived detector-turns.processed detector-turns.rowDone detector-turns.secondDone detector-turns.taken detector-turns.explored marker-marks.plainMark marker-marks.plainMarks marker-marks.inQ marker-marks.opening marker-marks.nextOpening marker-marks.allOpened marker-marks.transitions marker-marks.cover marker-marks.covered marker-marks.allCovered marker-marks.finalMarks condition-builds.redirected condition-builds.finalTargets condition-builds.alone condition-builds.lone condition-builds.finished condition-builds.built condition-builds.startOf condition-builds.recorded condition-builds.summary records-records.readTarget report-lines.line report-lines.refusalLine report-transitions.rowsBelow report-transitions.firstRow report-transitions.transition report-transitions.ofPair report-transitions.ofPairs report-transitions.remaining report-printed.bothOf report-printed.bothRead report-printed.summaryLine report-printed.transitions report-printed.condition report-printed.conditionOf report-printed.printed
+unfolding worked tests test same is fit bytes base-options.firstOf base-repeat.repeated base-walks.pass base-walks.firstFrom base-walks.count base-tests.someBelow chart-charts.canBeTaken chart-charts.rowsWhere chart-charts.leaving chart-faults.countFault chart-faults.alarmFault chart-faults.rowFault chart-faults.clash chart-faults.conflictFault chart-faults.rowsFault chart-faults.fault operations-operations.kind operations-operations.operandB operations-operations.assignedC operations-operations.operandC operations-operations.operandsFit operations-operations.reads operations-operations.same operations-operations.value operations-operations.related operations-operations.holds operations-trials.seats operations-trials.trial operations-trials.shown operations-trials.together operations-trials.neverHolds text-fields.digitOf text-fields.digits text-fields.value text-fields.kind text-fields.judged text-fields.bounded text-fields.ended text-fields.numberOf text-fields.numberAt text-fields.followed text-fields.fieldAt text-fields.lineEnd text-fields.closed text-fields.missing text-fields.itemAt text-spans.fieldsAt text-texts.whole text-texts.rowsAt text-texts.parsed text-texts.readText text-written.digitsIn text-written.digitsOf text-written.decimal text-written.closing text-written.fieldsText sets-sets.alone sets-sets.joined sets-sets.with sets-sets.without sets-sets.meets sets-sets.holdsAll sets-sets.setOf align-reads.readSet align-steps.find align-steps.along align-steps.matching align-steps.matched align-steps.rewritten align-steps.writer align-steps.unequal align-steps.assigned align-steps.onward align-steps.follow align-steps.followed align-steps.counterpart align-steps.assumed align-steps.moved align-steps.atBoth align-steps.rescued align-steps.arrived align-steps.step graph-buffers.marked graph-buffers.gone graph-buffers.cleared graph-buffers.untargeted graph-buffers.keep graph-buffers.aim graph-buffers.due graph-buffers.waits graph-buffers.join graph-buffers.unwait detector-turns.lowest detector-turns.next detector-turns.setNow detector-turns.begun detector-turns.stepOf detector-turns.arrived detector-turns.processed detector-turns.rowDone detector-turns.secondDone detector-turns.taken detector-turns.explored marker-marks.plainMark marker-marks.plainMarks marker-marks.inQ marker-marks.opening marker-marks.nextOpening marker-marks.allOpened marker-marks.transitions marker-marks.cover marker-marks.covered marker-marks.allCovered marker-marks.finalMarks condition-builds.redirected condition-builds.finalTargets condition-builds.alone condition-builds.lone condition-builds.finished condition-builds.built condition-builds.startOf condition-builds.recorded condition-builds.summary records-records.readTarget report-lines.line report-lines.refusalLine report-transitions.rowsBelow report-transitions.firstRow report-transitions.transition report-transitions.ofPair report-transitions.ofPairs report-transitions.remaining report-printed.bothOf report-printed.bothRead report-printed.summaryLine report-printed.transitions report-printed.condition report-printed.conditionOf report-printed.printedIn report-printed.printed
 computed = refl
 
 pub worked-cases : Every worked

@@ -7,7 +7,12 @@ use Prim.Native.String.{String, [] as []ˢ, _∷_ as _∷ˢ_}
 use Rattle.operations.specs.declared.Operation.{Operation}
 use Rattle.operations.specs.Operations.{value}
 use Rattle.operations.specs.Assumptions.{Implies}
-use Rattle.report.specs.Printed.{printed}
+use Rattle.base.specs.Answers.{given}
+use Rattle.base.specs.Chains.{mapped}
+use Rattle.chart.specs.Compared.{Compared}
+use Rattle.records.specs.Records.{setAt}
+use Rattle.condition.specs.Builds.{recorded}
+use Rattle.report.specs.Printed.{bothRead, printedIn, printed}
 
 -- ---- texts and operations as document 01 writes them
 -- the bytes of a text: "old.csv, records split by spaces here"
@@ -36,6 +41,10 @@ variables r a b = record { code = 32 + r; a = a; b = b; c = 0 }
 pub data Case : Type 0 where
   -- old.csv, new.csv and what is printed
   prints : String → String → String → Case
+  -- an edition (document 02, #104), old.csv, new.csv and what would be printed of the condition that it builds
+  printsIn : ℕ → String → String → String → Case
+  -- an edition, old.csv, new.csv, a pair and its set in the condition that is built
+  tracks : ℕ → String → String → ℕ → ℕ → Case
   -- the first assumption implies the second, or not
   implied notImplied : Operation → Operation → Case
   -- the assumption implies anything
@@ -47,6 +56,9 @@ pub data Case : Type 0 where
 -- whatever its operands; a sum is what code 2 writes, whatever the values, where v0 is its first number.
 abbrev pub Says : Case → Type 0
 Says (prints old new out) = printed (bytes old) (bytes new) ≡ bytes out
+Says (printsIn edition old new out) = printedIn edition (bytes old) (bytes new) ≡ bytes out
+Says (tracks edition old new pair set) =
+    mapped (λ (X : Compared). setAt (recorded X .graph) pair) (bothRead edition (bytes old) (bytes new)) ≡ given set
 Says (implied f g) = Implies f g
 Says (notImplied f g) = Implies f g → ⊥
 Says (anything f) = (g : Operation) → Implies f g
