@@ -104,11 +104,11 @@ none-due none h e = refl
 none-due (some r) h e = absurd (omega (arith, refused-high r h))
 
 -- ---- two charts, whose heads are made of the numbers lent
-pub lent-is : (o n : Head) (t u : List ℕ) {h : Heads} → h ≡ bothHeads o n → compared h t u ≡ both (charted o t) (charted n u)
-lent-is o n t u e = ap (λ (h : Heads). compared h t u) e
+pub lent-is : (edition : ℕ) (o n : Head) (t u : List ℕ) {h : Heads} → h ≡ bothHeads edition o n → compared h t u ≡ both edition (charted o t) (charted n u)
+lent-is edition o n t u e = ap (λ (h : Heads). compared h t u) e
 
-pub lent-promise : (o n : Head) (t u : List ℕ) (R : Record) {h : Heads} → h ≡ bothHeads o n → Promise (compared h t u) R → Promise (both (charted o t) (charted n u)) R
-lent-promise o n t u R e p = subst (λ (X : Compared). Promise X R) (lent-is o n t u e) p
+pub lent-promise : (edition : ℕ) (o n : Head) (t u : List ℕ) (R : Record) {h : Heads} → h ≡ bothHeads edition o n → Promise (compared h t u) R → Promise (both edition (charted o t) (charted n u)) R
+lent-promise edition o n t u R e p = subst (λ (X : Compared). Promise X R) (lent-is edition o n t u e) p
 
 -- ---- a build
 module _ (X : Compared) (g : Buffers) where

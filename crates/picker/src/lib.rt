@@ -134,8 +134,14 @@ fn of_built(answer: Built) -> Answer
 }
 
 // Both heads, of the numbers that are lent beside the two tables.
-fn lent_heads(old_places: u32, old_alarm: u32, new_places: u32, new_alarm: u32) -> Heads
-    ensures { λ r. ⌜ r ≡ bothHeads (record { places = «old_places»; alarm = «old_alarm» })
+fn lent_heads(
+    edition: u32,
+    old_places: u32,
+    old_alarm: u32,
+    new_places: u32,
+    new_alarm: u32,
+) -> Heads
+    ensures { λ r. ⌜ r ≡ bothHeads edition (record { places = «old_places»; alarm = «old_alarm» })
         (record { places = «new_places»; alarm = «new_alarm» }) ⌝ }
 {
     let old = Head {
@@ -146,7 +152,7 @@ fn lent_heads(old_places: u32, old_alarm: u32, new_places: u32, new_alarm: u32) 
         places: new_places,
         alarm: new_alarm,
     };
-    both_heads(old, new)
+    both_heads(edition, old, new)
 }
 
 // The chart of a text, its rows at the front of the table: places, alarm, rows, 0.
@@ -177,7 +183,8 @@ pub extern "C" fn picker_judge(places: u32, alarm: u32, rows: &[u32]) -> u64
     packed(of_judged(chart::judge(Head { places, alarm }, rows)))
 }
 
-// The rows that leave a place of the chart named (0 old, 1 new), at the front of 12 entries: how many rows, 0, 0, 0.
+// The rows that leave a place of the chart named (0 old, 1 new), at the front of 12 entries: how many rows, 0, 0, 0. No
+// lookup depends on an edition, so that none is asked for.
 #[no_mangle]
 pub extern "C" fn picker_lookup<'a>(
     old_places: u32,
@@ -191,27 +198,29 @@ pub extern "C" fn picker_lookup<'a>(
     rows: &mut [u32],
 ) -> u64
     ensures { λ r. ⌜ (r ≡ number (mapped ofRows (lookedUp
-        (both (chartOf «old_places» «old_alarm» (now («old_rows» .entry)))
+        (both 1 (chartOf «old_places» «old_alarm» (now («old_rows» .entry)))
         (chartOf «new_places» «new_alarm» (now («new_rows» .entry))))
         chart place (now (rows .entry)))))
         × (now (rows .exit) ≡ handed (lookedUp
-        (both (chartOf «old_places» «old_alarm» (now («old_rows» .entry)))
+        (both 1 (chartOf «old_places» «old_alarm» (now («old_rows» .entry)))
         (chartOf «new_places» «new_alarm» (now («new_rows» .entry))))
         chart place (now (rows .entry))) (now (rows .entry))) ⌝ }
 {
     if rows.len() != 12 {
         return packed(Answer::Refused(sole(21, 0)));
     }
-    let heads = lent_heads(old_places, old_alarm, new_places, new_alarm);
+    let heads = lent_heads(1, old_places, old_alarm, new_places, new_alarm);
     let part = chart::lookup(heads, old_rows, new_rows, chart, place);
     copy(part, rows);
     packed(Answer::Given(one(part.len() / 6)))
 }
 
-// The check of a record: 0, 0, 0, 0 where it passes. What passes keeps the promise: a run of the new chart that reaches
-// its alarm and that the record covers has a run of the old chart, from the same values, that reaches the old alarm.
+// The check of a record by an edition: 0, 0, 0, 0 where it passes. What passes keeps the promise: a run of the new
+// chart that reaches its alarm and that the record covers has a run of the old chart, from the same values, that
+// reaches the old alarm.
 #[no_mangle]
 pub extern "C" fn picker_check<'a>(
+    edition: u32,
     old_places: u32,
     old_alarm: u32,
     old_rows: &'a [u32],
@@ -224,22 +233,24 @@ pub extern "C" fn picker_check<'a>(
     sets: &[u64],
 ) -> u64
     ensures is { λ r. ⌜ r ≡ number (unless (refusal
-        (both (chartOf «old_places» «old_alarm» (now («old_rows» .entry)))
+        (both edition (chartOf «old_places» «old_alarm» (now («old_rows» .entry)))
         (chartOf «new_places» «new_alarm» (now («new_rows» .entry))))
         (recordOf start (now (marks .entry)) (now (targets .entry)) (now (sets .entry)))) zeros) ⌝ }
     ensures promise { λ r. ⌜ (r ≡ 0 → Promise
-        (both (chartOf «old_places» «old_alarm» (now («old_rows» .entry)))
+        (both edition (chartOf «old_places» «old_alarm» (now («old_rows» .entry)))
         (chartOf «new_places» «new_alarm» (now («new_rows» .entry))))
         (recordOf start (now (marks .entry)) (now (targets .entry)) (now (sets .entry)))) ⌝ }
 {
-    let heads = lent_heads(old_places, old_alarm, new_places, new_alarm);
+    let heads = lent_heads(edition, old_places, old_alarm, new_places, new_alarm);
     packed(of_checked(checker::check(heads, old_rows, new_rows, start, marks, targets, sets)))
 }
 
-// A build: start, open, kept, covered. What an answer below 2^56 leaves in marks, targets and sets, with the start that
-// it tells, the check passes, and it is what the source's Algorithms 2 and 1 return.
+// A build by an edition: start, open, kept, covered. What an answer below 2^56 leaves in marks, targets and sets, with
+// the start that it tells, the check of that edition passes, and it is what the source's Algorithms 2 and 1 return, in
+// edition 2 with its footnotes 6 and 8.
 #[no_mangle]
 pub extern "C" fn picker_build<'a>(
+    edition: u32,
     old_places: u32,
     old_alarm: u32,
     old_rows: &'a [u32],
@@ -252,24 +263,24 @@ pub extern "C" fn picker_build<'a>(
     waiting: &mut [u8],
 ) -> u64
     ensures answer { λ r. ⌜ r ≡ number (mapped ofBuild (answered
-        (both (chartOf «old_places» «old_alarm» (now («old_rows» .entry)))
+        (both edition (chartOf «old_places» «old_alarm» (now («old_rows» .entry)))
         (chartOf «new_places» «new_alarm» (now («new_rows» .entry))))
         (buffers (now (marks .entry)) (now (targets .entry)) (now (sets .entry)) (now (waiting .entry))))) ⌝ }
     ensures leaves { λ _. ⌜ buffers
         (now (marks .exit)) (now (targets .exit)) (now (sets .exit)) (now (waiting .exit))
         ≡ left
-        (both (chartOf «old_places» «old_alarm» (now («old_rows» .entry)))
+        (both edition (chartOf «old_places» «old_alarm» (now («old_rows» .entry)))
         (chartOf «new_places» «new_alarm» (now («new_rows» .entry))))
         (buffers (now (marks .entry)) (now (targets .entry)) (now (sets .entry)) (now (waiting .entry))) ⌝ }
     ensures passes { λ r. ⌜ (r < 2 ^ 56 → refusal
-        (both (chartOf «old_places» «old_alarm» (now («old_rows» .entry)))
+        (both edition (chartOf «old_places» «old_alarm» (now («old_rows» .entry)))
         (chartOf «new_places» «new_alarm» (now («new_rows» .entry))))
         (recordOf (r % 2 ^ 14) (now (marks .exit)) (now (targets .exit)) (now (sets .exit))) ≡ none) ⌝ }
     ensures algorithms { λ r. ⌜ (r < 2 ^ 56 → Returned
-        (both (chartOf «old_places» «old_alarm» (now («old_rows» .entry)))
+        (both edition (chartOf «old_places» «old_alarm» (now («old_rows» .entry)))
         (chartOf «new_places» «new_alarm» (now («new_rows» .entry))))
         (recordOf (r % 2 ^ 14) (now (marks .exit)) (now (targets .exit)) (now (sets .exit)))) ⌝ }
 {
-    let heads = lent_heads(old_places, old_alarm, new_places, new_alarm);
+    let heads = lent_heads(edition, old_places, old_alarm, new_places, new_alarm);
     packed(of_built(builder::build(heads, old_rows, new_rows, marks, targets, sets, waiting)))
 }

@@ -30,7 +30,7 @@ same-length-4 c = search needs
 
 returns : tie.Need-returns
 returns c =
-    rw (← lent-is _ _ _ _ (c .before .before .before .before .before .before .before .before .before .before .before .before .before .before .before .lent-heads .ensures))
+    rw (← lent-is _ _ _ _ _ (c .before .before .before .before .before .before .before .before .before .before .before .before .before .before .before .lent-heads .ensures))
     (let b = c .before .before .before .before .before .before .before .before .before .before .build .ensures in
     let i = c .before .of-built .ensures in
     let A = build-answers _ _ (b .0) i in

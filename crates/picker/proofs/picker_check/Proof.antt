@@ -25,8 +25,8 @@ returns c =
     let k = c .before .before .before .lent-heads .ensures in
     let d = c .before .before .check .ensures in
     let e = makes (due-answers (refusal-fits _ _) (d .0) (c .before .of-checked .ensures)) (c .packed .ensures) in (
-      rw (← lent-is _ _ _ _ k) e,
-      λ z. lent-promise _ _ (A .old-rows .now) (A .new-rows .now) (recordOf (A .start) (A .marks .now) (A .targets .now) (A .sets .now)) k (d .1 (d .0 ∙ none-due _ (refusal-fits _ _) (sym e ∙ z))),
+      rw (← lent-is _ _ _ _ _ k) e,
+      λ z. lent-promise _ _ _ (A .old-rows .now) (A .new-rows .now) (recordOf (A .start) (A .marks .now) (A .targets .now) (A .sets .now)) k (d .1 (d .0 ∙ none-due _ (refusal-fits _ _) (sym e ∙ z))),
     )
 
 pub picker-check-spec : {M : Type 1} → statement M

@@ -41,7 +41,7 @@ same-length c = search needs
 
 returns-2 : tie.Need-returns-2
 returns-2 c =
-    rw (← lent-is _ _ _ _ (c .before .before .before .before .before .before .before .lent-heads .ensures))
+    rw (← lent-is _ _ _ _ _ (c .before .before .before .before .before .before .before .lent-heads .ensures))
     (part-handed _ _ _ _ (c .before .before .before .before .before .before .before .before .if1 .left) (c .before .before .before .before .before .before .lookup .ensures .1) (c .before .before .before .before .copy .ensures) (c .before .one .ensures) (c .packed2 .ensures))
 
 pub picker-lookup-spec : {M : Type 1} → statement M
