@@ -20,9 +20,21 @@ pub enum Sort {
     Dense,
     /// 64 places whose pairs are nearly all visited, with few or many sets.
     Wide,
+    /// A small graph and the same with assignments that write the same otherwise, and often an alarm that is met
+    /// sooner: what the editions differ about.
+    Rewritten,
 }
 
-pub const SORTS: [Sort; 7] = [Sort::Graphs, Sort::AmendedGraphs, Sort::Procedures, Sort::Renumbered, Sort::Sparse, Sort::Dense, Sort::Wide];
+pub const SORTS: [Sort; 8] = [
+    Sort::Graphs,
+    Sort::AmendedGraphs,
+    Sort::Procedures,
+    Sort::Renumbered,
+    Sort::Sparse,
+    Sort::Dense,
+    Sort::Wide,
+    Sort::Rewritten,
+];
 
 pub fn pair(random: &mut Random, sort: Sort) -> (Chart, Chart) {
     let (old, new) = match sort {
@@ -78,6 +90,14 @@ pub fn pair(random: &mut Random, sort: Sort) -> (Chart, Chart) {
             }
             let [old, new] = both;
             (old, new)
+        }
+        Sort::Rewritten => {
+            let taste = Taste::both(random.one_of(&[1, 2, 3]), random.one_of(&[1, 3]));
+            let places = random.one_of(&[3, 4, 6, 10]);
+            let choices = random.one_of(&[3, 10]);
+            let old = graph(random, taste, places, choices);
+            let new = if random.below(2) == 0 { old.clone() } else { amended_graph(random, taste, &old) };
+            (old, rewritten(random, taste, &new))
         }
     };
     for chart in [&old, &new] {
@@ -307,6 +327,28 @@ fn amended_graph(random: &mut Random, taste: Taste, old: &Chart) -> Chart {
             }
             4 if !both && taste.orders == Orders::Both => new.rows[6 * i + 2] = in_the_other_order(o).code,
             _ => {}
+        }
+    }
+    new
+}
+
+/// A third of the assignments write their variable otherwise, and up to twice the alarm moves to before an assignment
+/// that leads to it.
+fn rewritten(random: &mut Random, taste: Taste, chart: &Chart) -> Chart {
+    let mut new = chart.clone();
+    for row in 0..new.rows.len() / 6 {
+        let o = model::row(&new.rows, row).2;
+        if model::is_assignment(o) && random.below(3) == 0 {
+            let other = assignment(random, taste);
+            set_operation(&mut new, row, Operation { a: o.a, ..other });
+        }
+    }
+    for _ in 0..random.one_of(&[0, 1, 1, 2]) {
+        let rows = (0..new.rows.len() / 6).map(|i| model::row(&new.rows, i));
+        let before = rows.filter(|(_, to, o)| *to == new.alarm && model::is_assignment(*o)).map(|(from, ..)| from);
+        let before: Vec<u32> = before.collect();
+        if !before.is_empty() {
+            new.alarm = random.one_of(&before);
         }
     }
     new
