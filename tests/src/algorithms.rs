@@ -1,8 +1,9 @@
 //! Algorithms 1 and 2 of the source, written line by line from it over sets and lists of their own, and made total by document 01's order
 //! (the lowest waiting pair first) and cut (a place come to twice). They are given the new chart without its rows that
-//! never hold (document 02, #101). They share nothing with the proved code.
+//! never hold (document 02, #101), and edition 2 follows footnotes 6 and 8 in place of lines 10 and 27 where these
+//! apply (#104). They share nothing with the proved code.
 
-use crate::{model, Chart, Operation};
+use crate::{model, Chart, Operation, EDITIONS};
 use std::collections::{BTreeMap, BTreeSet, HashMap, HashSet};
 
 /// A location of L, the old chart's.
@@ -86,6 +87,21 @@ impl<L: Copy + Ord> Automaton<L> {
     }
 }
 
+/// Which of two footnotes of Algorithm 2 are followed: in edition 1 neither, in edition 2 both. To follow one alone is
+/// to be wrong, so as to see what each of them does.
+#[derive(Clone, Copy, Debug, PartialEq, Eq)]
+pub struct Footnotes {
+    pub sixth: bool,
+    pub eighth: bool,
+}
+
+impl Footnotes {
+    pub fn of(edition: u32) -> Footnotes {
+        assert!(EDITIONS.contains(&edition), "there is no edition {edition}");
+        Footnotes { sixth: edition == 2, eighth: edition == 2 }
+    }
+}
+
 /// DG(P, P') = (N, E, n0, Δ), with V_δ. An edge stands as the pair that it leaves, its row and the node that it comes to.
 pub struct DifferenceGraph {
     pub pairs: BTreeSet<Pair>,
@@ -97,6 +113,7 @@ pub struct DifferenceGraph {
 
 /// Algorithm 2 with what it keeps while it runs.
 struct Detector<'a> {
+    footnotes: Footnotes,
     old: &'a Automaton<Old>,
     new: &'a Automaton<New>,
     waitlist: BTreeSet<Pair>,
@@ -163,27 +180,21 @@ impl Detector<'_> {
                     // 9
                     self.process(at, g, Node::Aligned((e.to, g.to)), diff);
                 }
-                // 10
+                // 10, or footnote 6: "also keeps the alignment if an assignment exists that changes the same variables"
                 None => {
+                    let changes_the_same = |e: &&Edge<Old>| self.footnotes.sixth && wrt(e.op) == wrt(g.op);
+                    let l2 = self.old.leaving(l1).iter().find(changes_the_same).map_or(l1, |e| e.to);
                     diff.extend(wrt(g.op));
-                    self.process(at, g, Node::Aligned((l1, g.to)), diff);
+                    self.process(at, g, Node::Aligned((l2, g.to)), diff);
                 }
             }
             return;
         }
-        // 12
-        let mut lp = l1;
-        let mut come_to = HashSet::from([lp]);
-        // 13, 14
-        while lp != self.old.err {
-            let Some(e) = self.old.leaving(lp).iter().find(|e| model::is_assignment(e.op)) else { break };
-            diff.extend(wrt(e.op));
-            lp = e.to;
-            if !come_to.insert(lp) {
-                // Document 01's cut: "Coming to a place twice here is a failed step."
-                return self.process(at, g, Node::Kept(g.to), Variables::new());
-            }
-        }
+        // 12 to 14
+        let Some((lp, diff)) = self.assignments_from(l1, diff) else {
+            // Document 01's cut: "Coming to a place twice here is a failed step."
+            return self.process(at, g, Node::Kept(g.to), Variables::new());
+        };
         // 15
         let matching = if lp == self.old.err {
             None
@@ -201,6 +212,21 @@ impl Detector<'_> {
         }
     }
 
+    /// Lines 12 to 14: where the old assignments from a location end, and the variables with those that they write;
+    /// none where they come to a location twice.
+    fn assignments_from(&self, mut lp: Old, mut diff: Variables) -> Option<(Old, Variables)> {
+        let mut come_to = HashSet::from([lp]);
+        while lp != self.old.err {
+            let Some(e) = self.old.leaving(lp).iter().find(|e| model::is_assignment(e.op)) else { break };
+            diff.extend(wrt(e.op));
+            lp = e.to;
+            if !come_to.insert(lp) {
+                return None;
+            }
+        }
+        Some((lp, diff))
+    }
+
     /// Lines 22 to 33.
     fn process(&mut self, pred: Pair, g: Edge<New>, succ: Node, diff: Variables) {
         match succ {
@@ -211,8 +237,15 @@ impl Detector<'_> {
                 self.nodes.retain(|n| n.1 != q);
                 self.waitlist.retain(|n| n.1 != q);
             }
-            // 27
-            Node::Aligned((p, q)) if p != self.old.err && q == self.new.err => self.process(pred, g, Node::Kept(q), Variables::new()),
+            // 27, or footnote 8: "first searches for an error location of the original program in its follow-up
+            // sequence of assignments"
+            Node::Aligned((p, q)) if p != self.old.err && q == self.new.err => {
+                let found = if self.footnotes.eighth { self.assignments_from(p, diff) } else { None };
+                match found.filter(|(lp, _)| *lp == self.old.err) {
+                    Some((lp, diff)) => self.process(pred, g, Node::Aligned((lp, q)), diff),
+                    None => self.process(pred, g, Node::Kept(q), Variables::new()),
+                }
+            }
             Node::Aligned(pair) => {
                 if !self.delta.contains(&pair.1) {
                     // 29, 30
@@ -232,9 +265,15 @@ impl Detector<'_> {
 }
 
 /// Algorithm 2, given the old chart whole and the new one without the rows that are not asked for.
-fn difference_graph(old: &Chart, new: &Chart, asked_for: impl Fn(Operation) -> bool) -> DifferenceGraph {
+fn difference_graph(
+    footnotes: Footnotes,
+    old: &Chart,
+    new: &Chart,
+    asked_for: impl Fn(Operation) -> bool,
+) -> DifferenceGraph {
     let (old, new) = (Automaton::new(old, Old, |_| true), Automaton::new(new, New, asked_for));
     Detector {
+        footnotes,
         old: &old,
         new: &new,
         waitlist: BTreeSet::new(),
@@ -289,16 +328,16 @@ pub struct Built {
     pub waiting: Vec<u8>,
 }
 
-/// Both algorithms for two faultless charts, given the new one without its rows that never hold.
-pub fn build(old: &Chart, new: &Chart) -> Built {
-    build_by(old, new, |o| !never_holds(o))
+/// Both algorithms in an edition, for two faultless charts, given the new one without its rows that never hold.
+pub fn build(edition: u32, old: &Chart, new: &Chart) -> Built {
+    build_by(Footnotes::of(edition), old, new, |o| !never_holds(o))
 }
 
 /// Both algorithms for two faultless charts, given the new one without the rows that are not asked for, laid out as
 /// document 01 says: a target stands where the whole table has its row, as the place's first or second one. To ask for
 /// other rows than `build` does is to be wrong, so as to see that charts tell it from what is right.
-pub fn build_by(old: &Chart, new: &Chart, asked_for: impl Fn(Operation) -> bool) -> Built {
-    let graph = difference_graph(old, new, asked_for);
+pub fn build_by(footnotes: Footnotes, old: &Chart, new: &Chart, asked_for: impl Fn(Operation) -> bool) -> Built {
+    let graph = difference_graph(footnotes, old, new, asked_for);
     let states = condition(&graph);
     let mut built = Built {
         start: graph.start.number() as u32,

@@ -1,9 +1,10 @@
-//! The checker once more, in plain Rust, written from "One aligned step", "The checker" and "Who can cause a refusal" of document 01, and
-//! following a run. It shares nothing with the proved code, its step nothing with the detector of `algorithms`, and
-//! what it does not look at (document 02, #101) is found by the trial of values.
+//! The checker once more, in plain Rust, written from "One aligned step", "The checker" and "Who can cause a refusal"
+//! of document 01, with the editions of document 02 (#104), and following a run. It shares nothing with the proved
+//! code, its step nothing with the detector of `algorithms`, and what it does not look at (#101) is found by the trial
+//! of values.
 
 use crate::texts::{self, Refusal};
-use crate::{algorithms, model, Chart, Operation};
+use crate::{algorithms, model, Chart, Operation, EDITIONS};
 
 /// A record, whoever made it: any start and any lengths.
 #[derive(Clone, Debug, PartialEq, Eq)]
@@ -47,19 +48,59 @@ fn read_by(o: Operation) -> u64 {
     }
 }
 
-/// "One aligned step": the old place it comes to and its set, none where it fails.
-fn step(old: &[Vec<Row>], old_alarm: u32, new_alarm: u32, p: u32, set: u64, (_, q2, o): Row) -> Option<(u32, u64)> {
-    let (to, set) = if model::is_assignment(o) {
-        match old[p as usize].iter().find(|r| r.2 == o) {
-            Some(&(_, p2, _)) if set & read_by(o) != 0 => (p2, set | bit(o.a)),
-            Some(&(_, p2, _)) => (p2, set & !bit(o.a)),
-            None => (p, set | bit(o.a)),
+/// What a step is made by: the edition, the old rows by place, and both alarms.
+struct Steps {
+    edition: u32,
+    old: Vec<Vec<Row>>,
+    old_alarm: u32,
+    new_alarm: u32,
+}
+
+impl Steps {
+    /// "One aligned step": the old place it comes to and its set, none where it fails.
+    fn step(&self, p: u32, set: u64, row: Row) -> Option<(u32, u64)> {
+        let (_, q2, o) = row;
+        let (to, set) = if model::is_assignment(o) { self.assigned(p, set, o) } else { self.assumed(p, set, o)? };
+        if q2 != self.new_alarm || to == self.old_alarm {
+            return Some((to, set));
         }
-    } else {
-        let (mut p, mut set) = (p, set);
+        // "before a step fails only for meeting the new alarm without the old one, old assignments are followed from
+        // the old place it came to"
+        let saved = if self.edition == 2 { self.followed(to, set) } else { None };
+        saved.filter(|(to, _)| *to == self.old_alarm)
+    }
+
+    /// A new assignment: an equal old row, in edition 2 else one that writes the same variable, else none.
+    fn assigned(&self, p: u32, set: u64, o: Operation) -> (u32, u64) {
+        let here = &self.old[p as usize];
+        if let Some(&(_, p2, _)) = here.iter().find(|r| r.2 == o) {
+            return (p2, if set & read_by(o) != 0 { set | bit(o.a) } else { set & !bit(o.a) });
+        }
+        let writes_it = |r: &&Row| self.edition == 2 && model::is_assignment(r.2) && r.2.a == o.a;
+        (here.iter().find(writes_it).map_or(p, |r| r.1), set | bit(o.a))
+    }
+
+    /// A new assumption, after the old assignments.
+    fn assumed(&self, p: u32, set: u64, o: Operation) -> Option<(u32, u64)> {
+        let (p, set) = self.followed(p, set)?;
+        let here = if p == self.old_alarm { &[] } else { &self.old[p as usize][..] };
+        let equal = here.iter().find(|r| r.2 == o);
+        match equal.or_else(|| here.iter().find(|r| algorithms::implies(o, r.2) == 1)) {
+            Some(&(_, _, e)) if set & (read_by(o) | read_by(e)) != 0 => None,
+            Some(&(_, p2, _)) => Some((p2, set)),
+            None => Some((p, set)),
+        }
+    }
+
+    /// Where the old assignments from a place end, and the set with what they write; none where they come to a place
+    /// twice.
+    fn followed(&self, mut p: u32, mut set: u64) -> Option<(u32, u64)> {
         let mut come_to = vec![p];
-        while p != old_alarm && old[p as usize].len() == 1 && model::is_assignment(old[p as usize][0].2) {
-            let (_, p2, e) = old[p as usize][0];
+        while p != self.old_alarm {
+            let [(_, p2, e)] = self.old[p as usize][..] else { break };
+            if !model::is_assignment(e) {
+                break;
+            }
             set |= bit(e.a);
             p = p2;
             if come_to.contains(&p) {
@@ -67,22 +108,15 @@ fn step(old: &[Vec<Row>], old_alarm: u32, new_alarm: u32, p: u32, set: u64, (_, 
             }
             come_to.push(p);
         }
-        let here = if p == old_alarm { &[] } else { &old[p as usize][..] };
-        let equal = here.iter().find(|r| r.2 == o);
-        match equal.or_else(|| here.iter().find(|r| algorithms::implies(o, r.2) == 1)) {
-            Some(&(_, _, e)) if set & (read_by(o) | read_by(e)) != 0 => return None,
-            Some(&(_, p2, _)) => (p2, set),
-            None => (p, set),
-        }
-    };
-    (q2 != new_alarm || to == old_alarm).then_some((to, set))
+        Some((p, set))
+    }
 }
 
-/// Whether the checker passes a record, else its refusal.
-pub fn check(old: &Chart, new: &Chart, record: &Record) -> Result<(), Refusal> {
+/// Whether the checker of an edition passes a record, else its refusal.
+pub fn check(edition: u32, old: &Chart, new: &Chart, record: &Record) -> Result<(), Refusal> {
     let lengths =
         [record.marks.len() == 4160, record.targets.len() == 8192, record.sets.len() == 4096, old.rows.len() % 6 == 0, new.rows.len() % 6 == 0];
-    if lengths.contains(&false) {
+    if lengths.contains(&false) || !EDITIONS.contains(&edition) {
         return Err((21, 0, 0));
     }
     for (which, chart) in [old, new].into_iter().enumerate() {
@@ -94,7 +128,7 @@ pub fn check(old: &Chart, new: &Chart, record: &Record) -> Result<(), Refusal> {
     if !in_form(old, new, record) {
         return Err((31, 0, 0));
     }
-    match broken_rule(old, new, record) {
+    match broken_rule(edition, old, new, record) {
         Some(position) => Err((32, 0, position)),
         None => Ok(()),
     }
@@ -116,13 +150,14 @@ fn in_form(old: &Chart, new: &Chart, record: &Record) -> bool {
 }
 
 /// The position of refusal 32.
-fn broken_rule(old: &Chart, new: &Chart, record: &Record) -> Option<usize> {
+fn broken_rule(edition: u32, old: &Chart, new: &Chart, record: &Record) -> Option<usize> {
     let marks = &record.marks;
     let started = if record.start == 0 { marks[0] == 1 && (new.alarm != 0 || old.alarm == 0) } else { marks[4096] == 2 };
     if !started {
         return Some(8192);
     }
-    let (old_rows, new_rows) = (rows_by_place(old), rows_by_place(new));
+    let steps = Steps { edition, old: rows_by_place(old), old_alarm: old.alarm, new_alarm: new.alarm };
+    let new_rows = rows_by_place(new);
     let never = never_held(new);
     for pair in (0..4096).filter(|&n| marks[n] != 0) {
         let (p, q) = (pair as u32 / 64, pair % 64);
@@ -139,7 +174,8 @@ fn broken_rule(old: &Chart, new: &Chart, record: &Record) -> Option<usize> {
                 target == 65535 || is_kept || (target < 4096 && target % 64 == q2 && marks[target] != 0)
             } else {
                 is_kept
-                    || step(&old_rows, old.alarm, new.alarm, p, record.sets[pair], row)
+                    || steps
+                        .step(p, record.sets[pair], row)
                         .is_some_and(|(p2, set)| target == 64 * p2 as usize + q2 && marks[target] != 0 && set & !record.sets[target] == 0)
             };
             let allowed: &[u8] = if marks[pair] == 1 { &[1, 2, 3] } else { &[3, 4] };

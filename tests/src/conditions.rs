@@ -22,6 +22,7 @@ pub mod linked {
             rows_len: usize,
         ) -> u64;
         pub fn picker_build(
+            edition: u32,
             old_places: u32,
             old_alarm: u32,
             old_rows: *const u32,
@@ -40,6 +41,7 @@ pub mod linked {
             waiting_len: usize,
         ) -> u64;
         pub fn picker_check(
+            edition: u32,
             old_places: u32,
             old_alarm: u32,
             old_rows: *const u32,
@@ -74,9 +76,10 @@ pub fn judge(chart: &Chart) -> Result<[u64; 4], Refusal> {
 }
 
 /// Start and counts of marks 1, 2 and 3.
-pub fn build(old: &Chart, new: &Chart, buffers: &mut Buffers) -> Result<[u64; 4], Refusal> {
+pub fn build(edition: u32, old: &Chart, new: &Chart, buffers: &mut Buffers) -> Result<[u64; 4], Refusal> {
     taken_apart(unsafe {
         linked::picker_build(
+            edition,
             old.places,
             old.alarm,
             old.rows.as_ptr(),
@@ -98,14 +101,10 @@ pub fn build(old: &Chart, new: &Chart, buffers: &mut Buffers) -> Result<[u64; 4]
 }
 
 /// Four times 0 where the record is passed.
-pub fn check(old: &Chart, new: &Chart, record: &Record) -> Result<[u64; 4], Refusal> {
-    check_parts(old, new, record.start, &record.marks, &record.targets, &record.sets)
-}
-
-/// As `check`, of a record that stands in parts.
-pub fn check_parts(old: &Chart, new: &Chart, start: u32, marks: &[u8], targets: &[u16], sets: &[u64]) -> Result<[u64; 4], Refusal> {
+pub fn check(edition: u32, old: &Chart, new: &Chart, record: &Record) -> Result<[u64; 4], Refusal> {
     taken_apart(unsafe {
         linked::picker_check(
+            edition,
             old.places,
             old.alarm,
             old.rows.as_ptr(),
@@ -114,13 +113,13 @@ pub fn check_parts(old: &Chart, new: &Chart, start: u32, marks: &[u8], targets: 
             new.alarm,
             new.rows.as_ptr(),
             new.rows.len(),
-            start,
-            marks.as_ptr(),
-            marks.len(),
-            targets.as_ptr(),
-            targets.len(),
-            sets.as_ptr(),
-            sets.len(),
+            record.start,
+            record.marks.as_ptr(),
+            record.marks.len(),
+            record.targets.as_ptr(),
+            record.targets.len(),
+            record.sets.as_ptr(),
+            record.sets.len(),
         )
     })
 }

@@ -9,6 +9,9 @@ pub mod stack;
 pub mod texts;
 pub mod vectors;
 
+/// The editions that builder and checker know. Any other number is refused.
+pub const EDITIONS: [u32; 2] = [1, 2];
+
 /// The operation of a row.
 #[derive(Clone, Copy, Debug, PartialEq, Eq)]
 pub struct Operation {

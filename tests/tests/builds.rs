@@ -1,12 +1,12 @@
 //! Algorithms 1 and 2 and the checker in plain Rust against the vectors; and the proved builder and checker, through the C interface,
 //! against both.
 
-use picker_tests::algorithms::{self, printed};
+use picker_tests::algorithms::{self, printed, Footnotes};
 use picker_tests::checker::{self, Record};
 use picker_tests::drawn::{self, Sort, SORTS};
 use picker_tests::model::HALF;
 use picker_tests::texts::{self, plain_read, Refusal, Wrong};
-use picker_tests::{cases, model, vectors, Chart, Operation, Random};
+use picker_tests::{cases, model, vectors, Chart, Operation, Random, EDITIONS};
 
 /// A chart's text as the vectors give it.
 fn text_of(line: &str) -> Vec<u8> {
@@ -37,34 +37,70 @@ fn blocks_of(files: &[(&'static str, usize)], words: &'static [&str]) -> Vec<Vec
     all
 }
 
-/// The text of the old chart, that of the new one and what the program prints: of document 01 (as #101 amends it), of
-/// rows that never hold, and of signed comparisons.
-fn pairs() -> Vec<Vec<&'static str>> {
-    let files = [
+/// A vector of a build: the edition, the texts of both charts, what is or would be printed, and, where its file says
+/// them, the sets that are not 0.
+struct PairVector {
+    edition: u32,
+    old: &'static str,
+    new: &'static str,
+    out: &'static str,
+    sets: Option<&'static str>,
+}
+
+/// Those of document 01 (as #101 amends it), of rows that never hold, of signed comparisons, and of edition 2.
+fn pairs() -> Vec<PairVector> {
+    let first = [
         (include_str!("../vectors/pairs.txt"), 300),
         (include_str!("../vectors/101/pairs.txt"), 150),
         (include_str!("../vectors/102/pairs.txt"), 150),
     ];
-    blocks_of(&files, &["old", "new", "out"])
+    let second = [(include_str!("../vectors/104/pairs.txt"), 150)];
+    let edge = [(include_str!("../vectors/104/edge-pairs.txt"), 78)];
+    let of = |edition, blocks: Vec<Vec<&'static str>>| {
+        let vector = move |lines: Vec<&'static str>| {
+            PairVector { edition, old: lines[0], new: lines[1], out: lines[2], sets: lines.get(3).copied() }
+        };
+        blocks.into_iter().map(vector)
+    };
+    of(1, blocks_of(&first, &["old", "new", "out"]))
+        .chain(of(2, blocks_of(&second, &["old", "new", "out"])))
+        .chain(of(2, blocks_of(&edge, &["old", "new", "out", "sets"])))
+        .collect()
 }
 
-/// Old chart, new chart, the edits of the built record and the checker's answer: of document 01 (as #101 amends it),
-/// and of rows that never hold.
-fn records() -> Vec<(Chart, Chart, &'static str, Result<(), Refusal>)> {
-    let files = [
+impl PairVector {
+    /// A record for it has these sets.
+    fn has_sets(&self, sets: &[u64]) {
+        if let Some(expected) = self.sets {
+            let there = (0..).zip(sets).filter(|(_, set)| **set != 0).map(|(pair, set)| format!("{pair} {set}"));
+            assert_eq!(there.collect::<Vec<_>>().join("; "), expected, "{} {}", self.old, self.new);
+        }
+    }
+}
+
+/// Edition, old chart, new chart, the edits of the built record and the checker's answer: of document 01 (as #101
+/// amends it), of rows that never hold, and of edition 2.
+fn records() -> Vec<(u32, Chart, Chart, &'static str, Result<(), Refusal>)> {
+    let first = [
         (include_str!("../vectors/records.txt"), 400),
         (include_str!("../vectors/101/records.txt"), 200),
         (include_str!("../vectors/101/edge-records.txt"), 12),
     ];
-    blocks_of(&files, &["old", "new", "edits", "answer"])
-        .into_iter()
-        .map(|lines| {
+    let second = [
+        (include_str!("../vectors/104/records.txt"), 150),
+        (include_str!("../vectors/104/edge-records.txt"), 40),
+    ];
+    let words = &["old", "new", "edits", "answer"];
+    let of = |edition, blocks: Vec<Vec<&'static str>>| blocks.into_iter().map(move |lines| (edition, lines));
+    of(1, blocks_of(&first, words))
+        .chain(of(2, blocks_of(&second, words)))
+        .map(|(edition, lines)| {
             let answer = match lines[3].split_whitespace().collect::<Vec<_>>()[..] {
                 ["passed"] => Ok(()),
                 ["refused", number, chart, position] => Err((number.parse().unwrap(), chart.parse().unwrap(), position.parse().unwrap())),
                 _ => panic!("{}", lines[3]),
             };
-            (chart_of(lines[0]), chart_of(lines[1]), lines[2], answer)
+            (edition, chart_of(lines[0]), chart_of(lines[1]), lines[2], answer)
         })
         .collect()
 }
@@ -85,26 +121,31 @@ fn edit(record: &mut Record, edits: &str) {
 
 #[test]
 fn vectors_of_pairs_as_rendered() {
-    for lines in pairs() {
-        rendered(lines[0], lines[1], lines[2]);
+    for vector in pairs() {
+        let record = rendered(vector.edition, vector.old, vector.new, vector.out);
+        vector.has_sets(&record.sets);
     }
 }
 
-/// What the algorithms make of two charts is what is printed, and the plain checker passes it.
-fn rendered(old: &str, new: &str, out: &str) {
+/// What the algorithms of an edition make of two charts is what is printed, and the plain checker of that edition
+/// passes it.
+fn rendered(edition: u32, old: &str, new: &str, out: &str) -> Record {
     let (old, new) = (chart_of(old), chart_of(new));
-    let built = algorithms::build(&old, &new);
+    let built = algorithms::build(edition, &old, &new);
     let counts = [built.open, built.kept, built.covered];
-    assert_eq!(printed(&new, built.start, counts, &built.marks, &built.targets).join(" "), out, "{old:?} {new:?}");
-    assert_eq!(checker::check(&old, &new, &built.into()), Ok(()), "{old:?} {new:?}");
+    let all = printed(&new, built.start, counts, &built.marks, &built.targets);
+    assert_eq!(all.join(" "), out, "{edition} {old:?} {new:?}");
+    let record = built.into();
+    assert_eq!(checker::check(edition, &old, &new, &record), Ok(()), "{edition} {old:?} {new:?}");
+    record
 }
 
 #[test]
 fn vectors_of_records_as_rendered() {
-    for (old, new, edits, answer) in records() {
-        let mut record = Record::from(algorithms::build(&old, &new));
+    for (edition, old, new, edits, answer) in records() {
+        let mut record = Record::from(algorithms::build(edition, &old, &new));
         edit(&mut record, edits);
-        assert_eq!(checker::check(&old, &new, &record), answer, "{edits} {old:?} {new:?}");
+        assert_eq!(checker::check(edition, &old, &new, &record), answer, "{edition} {edits} {old:?} {new:?}");
     }
 }
 
@@ -143,12 +184,12 @@ fn never_by_operands(o: Operation) -> bool {
 #[test]
 fn rows_that_never_hold_as_rendered() {
     for [old, new, out, wrong] in NEVER {
-        rendered(old, new, out);
+        rendered(1, old, new, out);
         let (old, new) = (chart_of(old), chart_of(new));
         let built = if rows_that_never_hold(&new).is_empty() {
-            algorithms::build_by(&old, &new, |o| !never_by_operands(o))
+            algorithms::build_by(Footnotes::of(1), &old, &new, |o| !never_by_operands(o))
         } else {
-            algorithms::build_by(&old, &new, |_| true)
+            algorithms::build_by(Footnotes::of(1), &old, &new, |_| true)
         };
         assert_eq!(as_it_stands(&new, &built).join(" "), wrong, "{old:?} {new:?}");
     }
@@ -175,9 +216,55 @@ fn worked_sessions_as_rendered() {
     for (new, expected) in
         [(&changed, "0,3,2,1 0,0,1,1 1,1,130,3 1,2,195,1 195,3,4101,2 195,4,4100,2"), (&old, "0,1,0,1 0,0,65,3"), (&alarm, "4096,0,1,0")]
     {
-        let built = algorithms::build(&old, new);
+        let built = algorithms::build(1, &old, new);
         let counts = [built.open, built.kept, built.covered];
         assert_eq!(printed(new, built.start, counts, &built.marks, &built.targets).join(" "), expected);
+    }
+}
+
+/// Old chart, new chart and what would be printed of each edition's record.
+const BY_EDITION: [(&str, &str, [&str; 2]); 6] = [
+    // Document 01's first session: both charts move, and the rest is as it was.
+    (
+        "6,5,5,0,0,0 0,1,0,1,0,5 1,2,18,0,0,100 1,3,21,0,0,100 3,5,20,1,0,50 3,4,19,1,0,50",
+        "6,5,5,0,0,0 0,1,0,1,0,6 1,2,18,0,0,100 1,3,21,0,0,100 3,5,20,1,0,50 3,4,19,1,0,50",
+        [
+            "0,3,2,1 0,0,1,1 1,1,130,3 1,2,195,1 195,3,4101,2 195,4,4100,2",
+            "0,3,2,1 0,0,65,1 65,1,130,3 65,2,195,1 195,3,4101,2 195,4,4100,2",
+        ],
+    ),
+    // The old alarm comes after an assignment more: footnote 8 finds it.
+    (
+        "4,3,4,0,0,0 0,1,18,0,0,9 0,2,21,0,0,9 1,3,0,1,0,5 2,2,0,2,0,0",
+        "4,3,3,0,0,0 0,3,18,0,0,9 0,2,21,0,0,9 2,2,0,2,0,0",
+        ["0,1,1,1 0,0,4099,2 0,1,130,3", "0,1,0,2 0,0,195,3 0,1,130,3"],
+    ),
+    // The same where that assignment comes back to its place, and where it leads elsewhere: the step fails as before.
+    (
+        "4,3,4,0,0,0 0,1,18,0,0,9 0,2,21,0,0,9 1,1,0,1,0,5 2,2,0,2,0,0",
+        "4,3,3,0,0,0 0,3,18,0,0,9 0,2,21,0,0,9 2,2,0,2,0,0",
+        ["0,1,1,1 0,0,4099,2 0,1,130,3"; 2],
+    ),
+    // Old v1 < 9 beside new v1 := 6: an assumption writes nothing, and the old chart stays.
+    ("3,2,2,0,0,0 0,1,18,1,0,9 0,2,21,1,0,9", "3,2,1,0,0,0 0,1,0,1,0,6", ["0,1,0,1 0,0,1,3"; 2]),
+    // The start at the old alarm: edition 2 leaves it, and keeps a place that edition 1 does not.
+    ("2,0,1,0,0,0 0,1,0,1,0,5", "2,1,1,0,0,0 0,1,0,1,0,6", ["0,1,0,1 0,0,1,3", "0,1,1,0 0,0,4097,2"]),
+    // v1 := 6 put in before v1 := 5: edition 1 waits for the equal row, edition 2 goes past it and keeps two places.
+    (
+        "4,2,3,0,0,0 0,1,0,1,0,5 1,2,18,1,0,9 1,3,21,1,0,9",
+        "5,3,4,0,0,0 0,1,0,1,0,6 1,2,0,1,0,5 2,3,18,1,0,9 2,4,21,1,0,9",
+        ["0,1,0,1 0,0,1,3", "0,3,2,0 0,0,65,1 65,1,66,1 66,2,4099,2 66,3,4100,2"],
+    ),
+];
+
+/// The second of these is the worked case whose set document 02's request names too.
+#[test]
+fn editions_as_rendered() {
+    for (which, (old, new, out)) in BY_EDITION.into_iter().enumerate() {
+        let records = [0, 1].map(|i| rendered(EDITIONS[i], old, new, out[i]));
+        if which == 1 {
+            assert_eq!(records.map(|record| record.sets[195]), [0, 2]);
+        }
     }
 }
 
@@ -242,7 +329,7 @@ const SIGNED: [(&str, &str, &str); 9] = [
 #[test]
 fn signed_rows_as_rendered() {
     for (old, new, out) in SIGNED {
-        rendered(old, new, out);
+        rendered(1, old, new, out);
     }
 }
 
@@ -262,7 +349,7 @@ fn drawn_charts_are_varied() {
         let (mut marks, mut lone, mut most) = ([0usize; 5], 0, 0);
         for _ in 0..cases(if sort == Sort::Wide { 20 } else { 200 }) {
             let (old, new) = drawn::pair(&mut random, sort);
-            let built = algorithms::build(&old, &new);
+            let built = algorithms::build(1, &old, &new);
             for &mark in &built.marks {
                 marks[mark as usize] += 1;
             }
@@ -274,7 +361,7 @@ fn drawn_charts_are_varied() {
                 other_order += before.contains(&(from, Operation { code: o.code ^ 8, ..o })) as usize;
             }
             most = most.max(built.marks.iter().filter(|m| **m != 0).count());
-            assert_eq!(checker::check(&old, &new, &built.into()), Ok(()), "{old:?} {new:?}");
+            assert_eq!(checker::check(1, &old, &new, &built.into()), Ok(()), "{old:?} {new:?}");
         }
         println!("{sort:?}: marks {marks:?}, lone starts {lone}, nodes of the largest {most}");
         assert!(marks[1] > 0 && marks[2] > 0 && marks[3] > 0 && (sort != Sort::Wide || most > 3000));
@@ -329,9 +416,10 @@ fn drawn_rows_that_never_hold() {
             }
             let was = rows_that_never_hold(&old);
             amended += rows_that_never_hold(&new).iter().filter(|row| !was.contains(row)).count();
-            let built = algorithms::build(&old, &new);
-            explored += (algorithms::build_by(&old, &new, |_| true) != built) as usize;
-            assigned += (algorithms::build_by(&old, &new, |o| !never_by_operands(o)) != built) as usize;
+            let built = algorithms::build(1, &old, &new);
+            let first = Footnotes::of(1);
+            explored += (algorithms::build_by(first, &old, &new, |_| true) != built) as usize;
+            assigned += (algorithms::build_by(first, &old, &new, |o| !never_by_operands(o)) != built) as usize;
             // The second row, where the first never holds, leads somewhere: without that row it would be the first.
             let firsts = targets_that_are_ignored(&new).into_iter().filter(|i| i % 2 == 0);
             ranked += firsts.filter(|i| built.targets[i + 1] != 65535).count();
@@ -343,6 +431,73 @@ fn drawn_rows_that_never_hold() {
     println!("second rows that lead somewhere, after a first one that never holds: {ranked}");
     assert!(stands.len() == 24 && stands.values().all(|n| *n > 20) && amended > 100);
     assert!(explored > 50 && assigned > 50 && ranked > 100);
+}
+
+/// How many pairs of a sort a comparison takes.
+fn share(sort: Sort, usual: usize) -> usize {
+    cases(match sort {
+        Sort::Wide => usual / 50,
+        Sort::Dense => usual / 10,
+        _ => usual,
+    })
+}
+
+/// What the records of two charts by edition are counted by.
+const DIFFERENCES: [&str; 9] = [
+    "differ",
+    "other without footnote 6",
+    "other without footnote 8",
+    "edition 2 keeps fewer",
+    "of these edition 1 the start",
+    "edition 2 keeps more",
+    "of these with the start at the old alarm",
+    "of edition 1 refused by 2",
+    "of edition 2 refused by 1",
+];
+
+/// Which of these hold of two charts. Where the start is kept, all new places count as kept.
+fn differences(old: &Chart, new: &Chart) -> [bool; DIFFERENCES.len()] {
+    let by = |sixth, eighth| {
+        algorithms::build_by(Footnotes { sixth, eighth }, old, new, |o| !algorithms::never_holds(o))
+    };
+    let built = EDITIONS.map(|edition| algorithms::build(edition, old, new));
+    let [first, second] = built.each_ref().map(|b| if b.start == 0 { b.kept } else { new.places });
+    let [differ, sixth, eighth] = [&built[0], &by(false, true), &by(true, false)].map(|other| *other != built[1]);
+    let starts_kept = built[0].start == 4096;
+    let records = built.map(Record::from);
+    let refused = [(2, &records[0]), (1, &records[1])].map(|(edition, record)| {
+        let answer = checker::check(edition, old, new, record);
+        assert!(matches!(answer, Ok(()) | Err((32, ..))), "{answer:?} {edition} {old:?} {new:?}");
+        answer.is_err()
+    });
+    let (fewer, more) = (second < first, second > first);
+    [differ, sixth, eighth, fewer, fewer && starts_kept, more, more && old.alarm == 0, refused[0], refused[1]]
+}
+
+fn shown(counts: [usize; DIFFERENCES.len()]) -> String {
+    DIFFERENCES.iter().zip(counts).map(|(what, n)| format!("{what} {n}")).collect::<Vec<_>>().join(", ")
+}
+
+/// The drawn charts tell the editions apart, by each footnote; of either edition some records are not the other's.
+/// Prints how often edition 2 keeps fewer new places than edition 1, and how often more, of which docs/REFERENCE.md has
+/// figures.
+#[test]
+fn drawn_charts_tell_the_editions() {
+    let mut random = Random::new(20304);
+    let mut all = [0; DIFFERENCES.len()];
+    for sort in SORTS {
+        let pairs = share(sort, 1000);
+        let mut counts = [0; DIFFERENCES.len()];
+        for _ in 0..pairs {
+            let (old, new) = drawn::pair(&mut random, sort);
+            counts.iter_mut().zip(differences(&old, &new)).for_each(|(count, is)| *count += is as usize);
+        }
+        println!("{sort:?}, {pairs} pairs: {}", shown(counts));
+        all.iter_mut().zip(counts).for_each(|(count, n)| *count += n);
+    }
+    println!("together: {}", shown(all));
+    assert!([0, 1, 7, 8].iter().all(|i| all[*i] > 300) && all[2] > 30, "{all:?}");
+    assert!(all[3] > 50 && all[4] > 3 && all[5] > 3, "{all:?}");
 }
 
 // ---- the proved code
@@ -366,25 +521,29 @@ mod proved {
         Record { start: start as u32, marks: buffers.marks, targets: buffers.targets, sets: buffers.sets }
     }
 
-    /// Builds on given buffers, compares answer and all four buffers with the rendering, has the record passed, and hands it back.
-    fn compare(old: &Chart, new: &Chart, mut buffers: Buffers) -> Record {
-        let expected = algorithms::build(old, new);
-        let answer = build(old, new, &mut buffers);
-        assert_eq!(answer, Ok([expected.start, expected.open, expected.kept, expected.covered].map(u64::from)), "{old:?} {new:?}");
-        assert!(buffers.marks == expected.marks, "marks: {old:?} {new:?}");
-        assert!(buffers.targets == expected.targets, "targets: {old:?} {new:?}");
-        assert!(buffers.sets == expected.sets, "sets: {old:?} {new:?}");
-        assert!(buffers.waiting == expected.waiting, "waiting: {old:?} {new:?}");
+    /// Builds in an edition on given buffers, compares answer and all four buffers with the rendering, has the record
+    /// passed by that edition's check, and hands it back.
+    fn compare(edition: u32, old: &Chart, new: &Chart, mut buffers: Buffers) -> Record {
+        let expected = algorithms::build(edition, old, new);
+        let answer = build(edition, old, new, &mut buffers);
+        let counts = [expected.start, expected.open, expected.kept, expected.covered].map(u64::from);
+        assert_eq!(answer, Ok(counts), "{edition} {old:?} {new:?}");
+        assert!(buffers.marks == expected.marks, "marks: {edition} {old:?} {new:?}");
+        assert!(buffers.targets == expected.targets, "targets: {edition} {old:?} {new:?}");
+        assert!(buffers.sets == expected.sets, "sets: {edition} {old:?} {new:?}");
+        assert!(buffers.waiting == expected.waiting, "waiting: {edition} {old:?} {new:?}");
         let record = record(answer.unwrap()[0], buffers);
-        assert_eq!(compare_check(old, new, &record), Ok(()));
+        assert_eq!(compare_check(edition, old, new, &record), Ok(()));
         record
     }
 
-    /// Has a record checked, compares the answer with the plain checker's, and sees that nothing was written.
-    fn compare_check(old: &Chart, new: &Chart, record: &Record) -> Result<(), Refusal> {
+    /// Has a record checked in an edition, compares the answer with the plain checker's, and sees that nothing was
+    /// written.
+    fn compare_check(edition: u32, old: &Chart, new: &Chart, record: &Record) -> Result<(), Refusal> {
         let (charts, before) = ((old.rows.clone(), new.rows.clone()), record.clone());
-        let answer = check(old, new, record);
-        assert_eq!(answer.map(|values| assert_eq!(values, [0; 4])), checker::check(old, new, record), "{old:?} {new:?} {record:?}");
+        let answer = check(edition, old, new, record);
+        let expected = checker::check(edition, old, new, record);
+        assert_eq!(answer.map(|values| assert_eq!(values, [0; 4])), expected, "{edition} {old:?} {new:?} {record:?}");
         assert!(*record == before && (&old.rows, &new.rows) == (&charts.0, &charts.1), "the checker wrote to what it was lent");
         answer.map(|_| ())
     }
@@ -393,22 +552,24 @@ mod proved {
     fn vectors_of_pairs() {
         let mut random = Random::new(20270);
         let mut barred = 0;
-        for line in pairs() {
+        for vector in pairs() {
+            let edition = vector.edition;
             let mut read = |text: &str| {
                 let mut table = vec![random.word(); 768];
                 let [places, alarm, rows, _] = texts::read(&text_of(text), &mut table).unwrap();
                 Chart { places: places as u32, alarm: alarm as u32, rows: table[..6 * rows as usize].to_vec() }
             };
-            let (old, new) = (read(line[0]), read(line[1]));
+            let (old, new) = (read(vector.old), read(vector.new));
             let mut buffers = rubbish(&mut random);
-            let answer = build(&old, &new, &mut buffers).unwrap().map(|x| x as u32);
+            let answer = build(edition, &old, &new, &mut buffers).unwrap().map(|x| x as u32);
             let out = printed(&new, answer[0], [answer[1], answer[2], answer[3]], &buffers.marks, &buffers.targets);
-            assert_eq!(out.join(" "), line[2], "{old:?} {new:?}");
+            assert_eq!(out.join(" "), vector.out, "{edition} {old:?} {new:?}");
+            vector.has_sets(&buffers.sets);
             // What is printed says nothing of these, whatever stands there.
             let ignored = targets_that_are_ignored(&new);
             assert!(ignored.iter().all(|i| buffers.targets[*i] == 65535), "{old:?} {new:?}");
             barred += (!ignored.is_empty()) as usize;
-            assert_eq!(compare_check(&old, &new, &record(answer[0] as u64, buffers)), Ok(()));
+            assert_eq!(compare_check(edition, &old, &new, &record(answer[0] as u64, buffers)), Ok(()));
         }
         assert!(barred >= 287, "only {barred} new charts with rows that never hold");
     }
@@ -416,22 +577,24 @@ mod proved {
     #[test]
     fn vectors_of_records() {
         let mut random = Random::new(20271);
-        for (old, new, edits, answer) in records() {
+        for (edition, old, new, edits, answer) in records() {
             let mut buffers = rubbish(&mut random);
-            let start = build(&old, &new, &mut buffers).unwrap()[0];
+            let start = build(edition, &old, &new, &mut buffers).unwrap()[0];
             let mut record = record(start, buffers);
             edit(&mut record, edits);
-            assert_eq!(check(&old, &new, &record).map(|values| assert_eq!(values, [0; 4])), answer, "{edits} {old:?} {new:?}");
+            let said = check(edition, &old, &new, &record).map(|values| assert_eq!(values, [0; 4]));
+            assert_eq!(said, answer, "{edition} {edits} {old:?} {new:?}");
         }
     }
 
-    /// How many pairs of a sort a comparison takes.
-    fn share(sort: Sort, usual: usize) -> usize {
-        cases(match sort {
-            Sort::Wide => usual / 50,
-            Sort::Dense => usual / 10,
-            _ => usual,
-        })
+    #[test]
+    fn editions() {
+        let mut random = Random::new(20305);
+        for (old, new, _) in BY_EDITION {
+            for edition in EDITIONS {
+                compare(edition, &chart_of(old), &chart_of(new), rubbish(&mut random));
+            }
+        }
     }
 
     #[test]
@@ -441,24 +604,28 @@ mod proved {
             for _ in 0..share(sort, 4000) {
                 let (old, new) = drawn::pair(&mut random, sort);
                 let before = rubbish(&mut random);
-                compare(&old, &new, before);
+                for edition in EDITIONS {
+                    compare(edition, &old, &new, before.clone());
+                }
             }
         }
     }
 
-    /// What a build leaves for one pair of charts is what the next one finds; and both charts may be one.
+    /// What a build leaves for one pair of charts is what the next one finds, in another edition; and both charts may
+    /// be one.
     #[test]
     fn builds_one_after_another() {
         let mut random = Random::new(20273);
         let mut buffers = rubbish(&mut random);
         for round in 0..cases(300) {
             let sort = SORTS[round % SORTS.len()];
-            if sort == Sort::Wide && round % 49 != 6 {
+            if sort == Sort::Wide && round / SORTS.len() % 7 != 0 {
                 continue;
             }
             let (old, new) = drawn::pair(&mut random, sort);
-            for (old, new) in [(&old, &new), (&new, &old), (&old, &old)] {
-                let left = compare(old, new, buffers);
+            let turns = [(1, &old, &new), (2, &old, &new), (1, &new, &old), (2, &old, &old), (1, &old, &old)];
+            for (edition, old, new) in turns {
+                let left = compare(edition, old, new, buffers);
                 let waiting = if round % 2 == 0 { vec![0; 4096] } else { vec![255; 4096] };
                 buffers = Buffers { marks: left.marks, targets: left.targets, sets: left.sets, waiting };
             }
@@ -468,25 +635,32 @@ mod proved {
     #[test]
     fn spoilt_records_as_modelled() {
         let mut random = Random::new(20274);
-        let (mut passed, mut refused) = (0, std::collections::BTreeMap::new());
+        let (mut passed, mut refused, mut told) = ([0; 2], std::collections::BTreeMap::new(), [0; 2]);
         for sort in SORTS {
-            for _ in 0..share(sort, 400) {
+            for round in 0..share(sort, 400) {
                 let (old, new) = drawn::pair(&mut random, sort);
-                let built = Record::from(algorithms::build(&old, &new));
+                let built = Record::from(algorithms::build(EDITIONS[round % 2], &old, &new));
                 for _ in 0..6 {
                     let mut record = built.clone();
                     for _ in 0..1 + random.below(3) {
                         drawn::spoil(&mut random, &mut record);
                     }
-                    match compare_check(&old, &new, &record) {
-                        Ok(()) => passed += (record != built) as usize,
-                        Err((number, _, position)) => *refused.entry((number, position == 8192)).or_insert(0) += 1,
+                    let answers = EDITIONS.map(|edition| compare_check(edition, &old, &new, &record));
+                    for (i, answer) in answers.into_iter().enumerate() {
+                        match answer {
+                            Ok(()) => passed[i] += (record != built) as usize,
+                            Err((number, _, at)) => *refused.entry((i, number, at == 8192)).or_insert(0) += 1,
+                        }
+                        told[i] += (answer.is_ok() && answers[1 - i].is_err()) as usize;
                     }
                 }
             }
         }
-        println!("passed though spoilt {passed}; refused by number, and whether at the start: {refused:?}");
-        assert!(passed > 100 && [(31, false), (32, false), (32, true)].iter().all(|of| refused.get(of) > Some(&100)));
+        println!("by edition: passed though spoilt {passed:?}, by this one alone {told:?}");
+        println!("refused by edition, number, and whether at the start: {refused:?}");
+        assert!(passed.iter().all(|n| *n > 100) && told.iter().all(|n| *n > 20));
+        let due = |i| [(i, 31, false), (i, 32, false), (i, 32, true)];
+        assert!([due(0), due(1)].concat().iter().all(|of| refused.get(of) > Some(&100)));
     }
 
     /// Records of charts of two places, made of nothing: either start, the alarms anywhere, any marks and targets.
@@ -494,16 +668,18 @@ mod proved {
     fn small_records_as_modelled() {
         let mut random = Random::new(20278);
         // The last two have rows that never hold: first, second and alone.
-        let charts: [&[u32]; 6] = [
+        let charts: [&[u32]; 7] = [
             &[0, 1, 0, 0, 0, 7],
+            &[0, 1, 0, 0, 0, 8],
             &[0, 0, 0, 0, 0, 7, 1, 0, 0, 1, 0, 7],
             &[0, 1, 18, 0, 0, 5, 0, 0, 21, 0, 0, 5],
             &[0, 0, 18, 1, 0, 5, 0, 1, 21, 1, 0, 5, 1, 1, 0, 0, 0, 7],
             &[0, 1, 18, 0, 0, 0, 0, 0, 21, 0, 0, 0, 1, 0, 0, 1, 0, 7],
             &[0, 1, 35, 1, 1, 0, 0, 0, 36, 1, 1, 0, 1, 0, 42, 0, 0, 0],
         ];
-        let mut record = Record::from(algorithms::build(&faultless(), &faultless()));
+        let mut record = Record::from(algorithms::build(1, &faultless(), &faultless()));
         let (mut passed, mut at_start, mut elsewhere, mut covered, mut barred) = ([0; 8], [0; 8], 0, 0, 0);
+        let mut told = [0; 2];
         for _ in 0..cases(60_000) {
             let mut drawn = || Chart { places: 2, alarm: random.below(2) as u32, rows: random.one_of(&charts).to_vec() };
             let (old, new) = (drawn(), drawn());
@@ -519,23 +695,28 @@ mod proved {
                 record.marks[kept] = random.one_of(&[0, 2, 2]);
             }
             let kind = (record.start / 2048 + old.alarm) as usize * 2 + new.alarm as usize;
-            match compare_check(&old, &new, &record) {
-                Ok(()) => {
-                    passed[kind] += 1;
-                    let ignored = targets_that_are_ignored(&new);
-                    barred += ignored.iter().any(|i| record.marks[i / 2] != 0 && record.targets[*i] != 65535) as usize;
-                    for values in [[0; 64], [4; 64], [5; 64], [u32::MAX; 64]] {
-                        covered += keeps_promise(&old, &new, &record, &values, &checker::run(&new, &values, 20)) as usize;
-                    }
+            let answers = EDITIONS.map(|edition| compare_check(edition, &old, &new, &record));
+            for (i, answer) in answers.into_iter().enumerate() {
+                match answer {
+                    Ok(()) => passed[kind] += 1,
+                    Err((_, _, 8192)) => at_start[kind] += 1,
+                    Err(_) => elsewhere += 1,
                 }
-                Err((_, _, 8192)) => at_start[kind] += 1,
-                Err(_) => elsewhere += 1,
+                told[i] += (answer.is_ok() && answers[1 - i].is_err()) as usize;
+            }
+            if answers.contains(&Ok(())) {
+                let ignored = targets_that_are_ignored(&new);
+                barred += ignored.iter().any(|i| record.marks[i / 2] != 0 && record.targets[*i] != 65535) as usize;
+                for values in [[0; 64], [4; 64], [5; 64], [u32::MAX; 64]] {
+                    covered += keeps_promise(&old, &new, &record, &values, &checker::run(&new, &values, 20)) as usize;
+                }
             }
         }
         println!("by start, old alarm and new alarm: passed {passed:?}, refused at the start {at_start:?}; refused elsewhere {elsewhere}; covered runs {covered}; targets that are ignored {barred}");
+        println!("passed by edition 1 and 2 alone {told:?}");
         // A start pair at the new alarm alone is never passed; everything else is, now and then.
         assert!((0..8).all(|kind| at_start[kind] > 0 && (passed[kind] > 0) == (kind != 2)) && elsewhere > 1000 && covered > 20);
-        assert!(barred > 100);
+        assert!(barred > 100 && told.iter().all(|n| *n > 0));
     }
 
     /// Whether a run of the new chart reaches its alarm and is covered; then the old chart's run from the same values reaches its own.
@@ -548,25 +729,32 @@ mod proved {
         due
     }
 
-    /// The promise, tried, on built records and on spoilt ones that are passed all the same.
+    /// A record that an edition built, and what is left of four spoilt ones that its check passes all the same.
+    fn passed_records(random: &mut Random, edition: u32, old: &Chart, new: &Chart) -> Vec<Record> {
+        let mut buffers = rubbish(random);
+        let start = build(edition, old, new, &mut buffers).unwrap()[0];
+        let mut all = vec![record(start, buffers)];
+        for _ in 0..4 {
+            let mut other = all[0].clone();
+            drawn::spoil(random, &mut other);
+            if other != all[0] && check(edition, old, new, &other).is_ok() {
+                all.push(other);
+            }
+        }
+        all
+    }
+
+    /// The promise, tried, on built records and on spoilt ones that are passed all the same, of both editions.
     #[test]
     fn covered_runs_reach_the_old_alarm() {
         let mut random = Random::new(20275);
-        let (mut covered, mut stopped, mut signed, mut tried) = (0, 0, 0, 0);
-        for sort in [Sort::Graphs, Sort::AmendedGraphs, Sort::Procedures, Sort::Renumbered, Sort::Sparse, Sort::Dense] {
+        let mut tried = 0;
+        // By edition: the runs that its records cover, some of them, and those that its built one covers, or it alone.
+        let [mut covered, mut stopped, mut signed, mut by_built, mut alone] = [[0; 2]; 5];
+        for sort in SORTS.into_iter().filter(|sort| *sort != Sort::Wide) {
             for _ in 0..share(sort, 500) {
                 let (old, new) = drawn::pair(&mut random, sort);
-                let mut buffers = rubbish(&mut random);
-                let start = build(&old, &new, &mut buffers).unwrap()[0];
-                let built = record(start, buffers);
-                let mut all = vec![built.clone()];
-                for _ in 0..4 {
-                    let mut other = built.clone();
-                    drawn::spoil(&mut random, &mut other);
-                    if other != built && check(&old, &new, &other).is_ok() {
-                        all.push(other);
-                    }
-                }
+                let records = EDITIONS.map(|edition| passed_records(&mut random, edition, &old, &new));
                 for _ in 0..60 {
                     let mut values = [0; 64];
                     for v in &mut values {
@@ -575,15 +763,25 @@ mod proved {
                     }
                     let run = checker::run(&new, &values, 200);
                     tried += run.reached as usize;
-                    let by = all.iter().filter(|record| keeps_promise(&old, &new, record, &values, &run)).count();
-                    covered += by;
-                    stopped += if run.stopped { by } else { 0 };
-                    signed += if run.signed { by } else { 0 };
+                    let kept = |record: &Record| keeps_promise(&old, &new, record, &values, &run);
+                    let by = records.each_ref().map(|all| all.iter().filter(|record| kept(record)).count());
+                    let built = records.each_ref().map(|all| kept(&all[0]));
+                    for i in 0..2 {
+                        covered[i] += by[i];
+                        stopped[i] += if run.stopped { by[i] } else { 0 };
+                        signed[i] += if run.signed { by[i] } else { 0 };
+                        by_built[i] += built[i] as usize;
+                        alone[i] += (built[i] && !built[1 - i]) as usize;
+                    }
                 }
             }
         }
-        println!("runs to the new alarm {tried}; covered ones {covered}, of which {stopped} stop at 0, {signed} need a signed reading");
-        assert!(covered > 1000 && stopped > 100 && signed > 100);
+        println!("runs to the new alarm {tried}; by edition:");
+        println!("covered by the built record {by_built:?}, by it alone {alone:?}");
+        println!("by any record {covered:?}, of which {stopped:?} stop at 0, {signed:?} need a signed reading");
+        let due = [(covered, 1000), (stopped, 100), (signed, 100)];
+        assert!(due.iter().all(|(counts, least)| counts.iter().all(|n| n > least)));
+        assert!(alone[1] > 100);
     }
 
     /// Code 4 stops at 0, and the runs of both charts with it: where the burn is larger both come to the alarm of fuel
@@ -592,7 +790,7 @@ mod proved {
     fn fuel_stops_at_nought() {
         let old = chart_of("4,2,3,0,0,0 0,1,4,0,1,2 1,2,18,0,0,50 1,3,21,0,0,50");
         let new = chart_of("5,3,4,0,0,0 0,1,0,5,0,7 1,2,4,0,1,2 2,3,18,0,0,50 2,4,21,0,0,50");
-        let record = compare(&old, &new, rubbish(&mut Random::new(20282)));
+        let record = compare(1, &old, &new, rubbish(&mut Random::new(20282)));
         assert!(checker::covers(&new, &record, &[0]));
         let less = Operation { code: 4, a: 0, b: 1, c: 2 };
         for (fuel, burn, left) in [(5, 100, 0), (0, 1, 0), (100, 100, 0), (100, 5, 95)] {
@@ -612,7 +810,7 @@ mod proved {
         let mut random = Random::new(20298);
         for [old, new, out, _] in NEVER {
             let (old, new) = (chart_of(old), chart_of(new));
-            let record = compare(&old, &new, rubbish(&mut random));
+            let record = compare(1, &old, &new, rubbish(&mut random));
             let count = |mark| record.marks.iter().filter(|m| **m == mark).count() as u32;
             let all = printed(&new, record.start, [count(1), count(2), count(3)], &record.marks, &record.targets);
             assert_eq!(all.join(" "), out, "{old:?} {new:?}");
@@ -627,10 +825,10 @@ mod proved {
         let mut random = Random::new(20299);
         let (mut taken_up, mut at_alarm, mut beside) = (0, 0, 0);
         for sort in SORTS {
-            for _ in 0..share(sort, 500) {
+            for round in 0..share(sort, 500) {
                 let (old, new) = drawn::pair(&mut random, sort);
                 let mut buffers = rubbish(&mut random);
-                build(&old, &new, &mut buffers).unwrap();
+                build(EDITIONS[round % 2], &old, &new, &mut buffers).unwrap();
                 for index in targets_that_are_ignored(&new) {
                     assert_eq!(buffers.targets[index], 65535, "{index} {old:?} {new:?}");
                     let pair = index / 2;
@@ -678,13 +876,14 @@ mod proved {
         // Of built records the targets ignored, by whether their pair is at the old alarm, and by its mark.
         let (mut passed, mut refused, mut judged) = (0, 0, [[0; 5]; 2]);
         for sort in SORTS {
-            for _ in 0..share(sort, 400) {
+            for round in 0..share(sort, 400) {
+                let edition = EDITIONS[round % 2];
                 let (old, new) = drawn::pair(&mut random, sort);
                 let ignored = targets_that_are_ignored(&new);
                 if ignored.is_empty() {
                     continue;
                 }
-                let built = Record::from(algorithms::build(&old, &new));
+                let built = Record::from(algorithms::build(edition, &old, &new));
                 for changes in 0..4 {
                     let mut record = built.clone();
                     (0..changes).for_each(|_| drawn::spoil(&mut random, &mut record));
@@ -692,7 +891,7 @@ mod proved {
                         continue;
                     }
                     let other = retargeted(&mut random, &record, &ignored);
-                    let answers = [&record, &other].map(|r| compare_check(&old, &new, r));
+                    let answers = [&record, &other].map(|r| compare_check(edition, &old, &new, r));
                     assert_eq!(answers[0], answers[1], "{old:?} {new:?} {other:?}");
                     match answers[0] {
                         Ok(()) => passed += (other != record) as usize,
@@ -719,9 +918,10 @@ mod proved {
         let mut random = Random::new(20301);
         let (mut present, mut absent) = (0, 0);
         for sort in SORTS {
-            for _ in 0..share(sort, 100) {
+            for round in 0..share(sort, 100) {
+                let edition = EDITIONS[round % 2];
                 let (old, new) = drawn::pair(&mut random, sort);
-                let built = Record::from(algorithms::build(&old, &new));
+                let built = Record::from(algorithms::build(edition, &old, &new));
                 let ignored = targets_that_are_ignored(&new);
                 let here = ignored.iter().filter(|i| built.marks[*i / 2] != 0).take(4);
                 for &index in here.chain(ignored.first()) {
@@ -729,7 +929,8 @@ mod proved {
                     let any = 4160 + random.below(65535 - 4160) as u16;
                     for odd in [4160, 4161, 32768, 65534, any] {
                         record.targets[index] = odd;
-                        assert_eq!(compare_check(&old, &new, &record), Err((31, 0, 0)), "{index} {odd}: {new:?}");
+                        let answer = compare_check(edition, &old, &new, &record);
+                        assert_eq!(answer, Err((31, 0, 0)), "{index} {odd}: {new:?}");
                     }
                     present += (built.marks[index / 2] != 0) as usize;
                     absent += (built.marks[index / 2] == 0) as usize;
@@ -747,9 +948,10 @@ mod proved {
         let mut random = Random::new(20302);
         let mut beside = [0; 2];
         for sort in SORTS {
-            for _ in 0..share(sort, 200) {
+            for round in 0..share(sort, 200) {
+                let edition = EDITIONS[round % 2];
                 let (old, new) = drawn::pair(&mut random, sort);
-                let built = Record::from(algorithms::build(&old, &new));
+                let built = Record::from(algorithms::build(edition, &old, &new));
                 let ignored = targets_that_are_ignored(&new);
                 // At the old alarm 65535 would be right.
                 let elsewhere = |i: &&usize| **i as u32 / 128 != old.alarm && built.marks[**i / 2] != 0;
@@ -757,7 +959,8 @@ mod proved {
                 for &index in here.take(4) {
                     let mut record = retargeted(&mut random, &built, &ignored);
                     record.targets[index ^ 1] = 65535;
-                    assert_eq!(compare_check(&old, &new, &record), Err((32, 0, index ^ 1)), "{old:?} {new:?}");
+                    let answer = compare_check(edition, &old, &new, &record);
+                    assert_eq!(answer, Err((32, 0, index ^ 1)), "{edition} {old:?} {new:?}");
                     beside[index % 2] += 1;
                 }
             }
@@ -773,8 +976,9 @@ mod proved {
     fn following_past_rows_that_never_hold() {
         let mut random = Random::new(20303);
         let [mut lists, mut misled, mut runs, mut covered] = [0; 4];
-        for sort in [Sort::Graphs, Sort::AmendedGraphs, Sort::Procedures, Sort::Renumbered, Sort::Sparse, Sort::Dense] {
-            for _ in 0..share(sort, 200) {
+        for sort in SORTS.into_iter().filter(|sort| *sort != Sort::Wide) {
+            for round in 0..share(sort, 200) {
+                let edition = EDITIONS[round % 2];
                 let (old, new) = drawn::pair(&mut random, sort);
                 let ignored = targets_that_are_ignored(&new);
                 let never = checker::never_held(&new);
@@ -782,10 +986,10 @@ mod proved {
                     continue;
                 }
                 let mut buffers = rubbish(&mut random);
-                let start = build(&old, &new, &mut buffers).unwrap()[0];
+                let start = build(edition, &old, &new, &mut buffers).unwrap()[0];
                 let built = record(start, buffers);
                 let other = retargeted(&mut random, &built, &ignored);
-                assert_eq!(compare_check(&old, &new, &other), Ok(()));
+                assert_eq!(compare_check(edition, &old, &new, &other), Ok(()));
                 for _ in 0..60 {
                     let list = chained(&mut random, &new, 12);
                     let said = checker::covers(&new, &built, &list);
@@ -814,7 +1018,7 @@ mod proved {
     fn signed_rows() {
         let mut random = Random::new(20283);
         for (old, new, _) in SIGNED {
-            compare(&chart_of(old), &chart_of(new), rubbish(&mut random));
+            compare(1, &chart_of(old), &chart_of(new), rubbish(&mut random));
         }
     }
 
@@ -827,7 +1031,7 @@ mod proved {
         for ([was_cold, was_warm], [is_cold, is_warm]) in [(signed, unsigned), (unsigned, signed)] {
             let old = chart_of(&format!("3,1,2,0,0,0 0,1,{was_cold} 0,2,{was_warm}"));
             let new = chart_of(&format!("4,2,3,0,0,0 0,1,0,5,0,7 1,2,{is_cold} 1,3,{is_warm}"));
-            let record = compare(&old, &new, rubbish(&mut Random::new(20284)));
+            let record = compare(1, &old, &new, rubbish(&mut Random::new(20284)));
             assert!(checker::covers(&new, &record, &[0]));
             for (degrees, below) in [(0, false), (1, false), (i32::MAX, false), (i32::MIN, true), (i32::MIN + 1, true), (-1, true)] {
                 let mut values = [0; 64];
@@ -845,28 +1049,61 @@ mod proved {
         Chart { places: 2, alarm: 1, rows: vec![0, 1, 18, 0, 0, 5, 0, 0, 21, 0, 0, 5] }
     }
 
-    /// A refused build leaves all four buffers as they were, and what stands about them.
-    fn refused(old: &Chart, new: &Chart, buffers: &Buffers, refusal: Refusal) {
+    /// Numbers that are no edition: next to one, or one if all but its lowest bits were dropped.
+    const NO_EDITIONS: [u32; 9] = [0, 3, 4, 257, 258, 65537, 65538, HALF + 1, u32::MAX];
+
+    /// A build refused in an edition leaves all four buffers as they were.
+    fn refused_in(edition: u32, old: &Chart, new: &Chart, buffers: &Buffers, refusal: Refusal) {
         let mut lent = buffers.clone();
-        assert_eq!(build(old, new, &mut lent), Err(refusal), "{old:?} {new:?}");
-        assert!(lent == *buffers, "a refusal wrote to a buffer: {old:?} {new:?}");
+        assert_eq!(build(edition, old, new, &mut lent), Err(refusal), "{edition} {old:?} {new:?}");
+        assert!(lent == *buffers, "a refusal wrote to a buffer: {edition} {old:?} {new:?}");
+    }
+
+    /// So is one in both editions; and where there is no such edition this is 21, whatever else is due.
+    fn refused(old: &Chart, new: &Chart, buffers: &Buffers, refusal: Refusal) {
+        EDITIONS.iter().for_each(|edition| refused_in(*edition, old, new, buffers, refusal));
+        NO_EDITIONS.iter().for_each(|edition| refused_in(*edition, old, new, buffers, (21, 0, 0)));
+    }
+
+    /// The same of a check.
+    fn check_refused(old: &Chart, new: &Chart, record: &Record, refusal: Refusal) {
+        for (edition, due) in EDITIONS.map(|e| (e, refusal)).into_iter().chain(NO_EDITIONS.map(|e| (e, (21, 0, 0)))) {
+            assert_eq!(compare_check(edition, old, new, record), Err(due), "{edition}");
+        }
+    }
+
+    /// 21 where nothing else is wrong, of charts of every sort and of their own record.
+    #[test]
+    fn other_editions() {
+        let mut random = Random::new(20306);
+        for sort in SORTS {
+            for _ in 0..share(sort, 100) {
+                let (old, new) = drawn::pair(&mut random, sort);
+                let (buffers, any) = (rubbish(&mut random), random.word().max(3));
+                let record = Record::from(algorithms::build(random.one_of(&EDITIONS), &old, &new));
+                for edition in NO_EDITIONS.into_iter().chain([any]) {
+                    refused_in(edition, &old, &new, &buffers, (21, 0, 0));
+                    assert_eq!(compare_check(edition, &old, &new, &record), Err((21, 0, 0)));
+                }
+            }
+        }
     }
 
     #[test]
     fn faulty_charts() {
         let mut random = Random::new(20276);
         let buffers = rubbish(&mut random);
-        let mut record = Record::from(algorithms::build(&faultless(), &faultless()));
+        let mut record = Record::from(algorithms::build(1, &faultless(), &faultless()));
         // A record at fault: the charts are judged before it.
         record.start = 7;
         for (bad, (number, position)) in model::faulty() {
             for (old, new, chart) in [(&bad, &faultless(), 0), (&faultless(), &bad, 1), (&bad, &bad, 0)] {
                 refused(old, new, &buffers, (number, chart, position));
-                assert_eq!(compare_check(old, new, &record), Err((number, chart, position)));
+                check_refused(old, new, &record, (number, chart, position));
             }
             for (other, (first, at)) in model::faulty() {
                 refused(&other, &bad, &buffers, (first, 0, at));
-                assert_eq!(compare_check(&other, &bad, &record), Err((first, 0, at)));
+                check_refused(&other, &bad, &record, (first, 0, at));
             }
         }
         let mut seen = [0usize; 9];
@@ -876,10 +1113,10 @@ mod proved {
             let refusal = if first.0 != 0 { (first.0, 0, first.1) } else { (second.0, 1, second.1) };
             seen[refusal.0 as usize] += 1;
             if refusal.0 == 0 {
-                compare(&old, &new, buffers.clone());
+                EDITIONS.iter().for_each(|edition| drop(compare(*edition, &old, &new, buffers.clone())));
             } else {
                 refused(&old, &new, &buffers, refusal);
-                assert_eq!(compare_check(&old, &new, &record), Err(refusal));
+                check_refused(&old, &new, &record, refusal);
             }
         }
         assert!([0, 1, 4, 5, 6, 7, 8].iter().all(|n| seen[*n] > 0), "{seen:?}");
@@ -889,7 +1126,7 @@ mod proved {
     fn wrong_lengths() {
         let mut random = Random::new(20277);
         let buffers = rubbish(&mut random);
-        let record = Record::from(algorithms::build(&faultless(), &faultless()));
+        let record = Record::from(algorithms::build(1, &faultless(), &faultless()));
         let bad = Chart { places: 0, alarm: 9, rows: vec![9; 6] };
         let length = |right: usize| [0, 1, right / 2, right - 1, right + 1, 2 * right];
         // Before the faults of charts and records too.
@@ -915,7 +1152,7 @@ mod proved {
                     }
                     refused(&old, &new, &lent, (21, 0, 0));
                     if which < 3 {
-                        assert_eq!(compare_check(&old, &new, &checked), Err((21, 0, 0)));
+                        check_refused(&old, &new, &checked, (21, 0, 0));
                     }
                 }
             }
@@ -923,7 +1160,7 @@ mod proved {
                 let longer = |chart: &Chart| Chart { rows: [&chart.rows[..], &vec![0; extra]].concat(), ..chart.clone() };
                 for (old, new) in [(longer(&old), new.clone()), (old.clone(), longer(&new)), (longer(&old), longer(&new))] {
                     refused(&old, &new, &buffers, (21, 0, 0));
-                    assert_eq!(compare_check(&old, &new, &Record { start, ..record.clone() }), Err((21, 0, 0)));
+                    check_refused(&old, &new, &Record { start, ..record.clone() }, (21, 0, 0));
                 }
             }
         }
@@ -933,23 +1170,23 @@ mod proved {
     #[test]
     fn every_mark_and_odd_targets() {
         let (old, new) = (faultless(), Chart { places: 3, ..faultless() });
-        let record = Record::from(algorithms::build(&old, &new));
+        let record = Record::from(algorithms::build(1, &old, &new));
         for node in 0..4160 {
             for mark in [0, 1, 2, 3, 4, 5, 255] {
                 let mut record = record.clone();
                 record.marks[node] = mark;
-                compare_check(&old, &new, &record).ok();
+                compare_check(EDITIONS[node % 2], &old, &new, &record).ok();
             }
         }
         for index in [0, 1, 2, 127, 128, 4095, 4096, 8190, 8191] {
             for target in [0, 1, 64, 65, 4095, 4096, 4097, 4159, 4160, 4161, 32768, 65534, 65535] {
                 let mut record = record.clone();
                 record.targets[index] = target;
-                compare_check(&old, &new, &record).ok();
+                compare_check(1, &old, &new, &record).ok();
             }
         }
         for start in [0, 1, 64, 4095, 4096, 4097, 65535, 65536, 65536 + 4096, u32::MAX] {
-            compare_check(&old, &new, &Record { start, ..record.clone() }).ok();
+            compare_check(1, &old, &new, &Record { start, ..record.clone() }).ok();
         }
     }
 }

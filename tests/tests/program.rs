@@ -185,7 +185,7 @@ fn examples_of_the_reference() {
 }
 
 /// Conditions of drawn charts, many of them longer than the 1,024 bytes of a portion, against what Algorithms 1 and 2
-/// in plain Rust make of them.
+/// in plain Rust make of them in edition 1, which the program names.
 #[test]
 fn many_portions() {
     let mut random = Random::new(20280);
@@ -194,7 +194,7 @@ fn many_portions() {
         // Few others are long.
         for _ in 0..cases(if sort == Sort::Dense { 50 } else { 20 }) {
             let (old, new) = drawn::pair(&mut random, sort);
-            let built = algorithms::build(&old, &new);
+            let built = algorithms::build(1, &old, &new);
             let counts = [built.open, built.kept, built.covered];
             let expected = algorithms::printed(&new, built.start, counts, &built.marks, &built.targets).join("\r\n") + "\r\n";
             let [old, new] = [&old, &new].map(|chart| String::from_utf8(texts::plain_write(chart)).unwrap());

@@ -4,7 +4,7 @@ use picker_tests::checker::Record;
 use picker_tests::conditions::{linked, Buffers};
 use picker_tests::drawn::{self, Sort, SORTS};
 use picker_tests::stack::measured;
-use picker_tests::{algorithms, cases, texts, Chart, Random};
+use picker_tests::{algorithms, cases, texts, Chart, Random, EDITIONS};
 use std::hint::black_box;
 
 /// Places, alarm, table and its length, twice.
@@ -17,16 +17,16 @@ fn lent<T>(memory: &mut [T]) -> [u64; 2] {
 }
 
 /// The stack that a build takes.
-fn building(old: &Chart, new: &Chart) -> usize {
+fn building(edition: u32, old: &Chart, new: &Chart) -> usize {
     let mut b = Buffers { marks: vec![7; 4160], targets: vec![7; 8192], sets: vec![7; 4096], waiting: vec![7; 4096] };
-    let mut arguments = both(old, new);
+    let mut arguments = [vec![edition as u64], both(old, new)].concat();
     arguments.extend([lent(&mut b.marks), lent(&mut b.targets), lent(&mut b.sets), lent(&mut b.waiting)].concat());
     unsafe { measured(linked::picker_build as *const () as usize, &arguments).1 }
 }
 
 /// The stack that a check takes.
-fn checking(old: &Chart, new: &Chart, record: &mut Record) -> usize {
-    let mut arguments = both(old, new);
+fn checking(edition: u32, old: &Chart, new: &Chart, record: &mut Record) -> usize {
+    let mut arguments = [vec![edition as u64], both(old, new)].concat();
     arguments.push(record.start as u64);
     arguments.extend([lent(&mut record.marks), lent(&mut record.targets), lent(&mut record.sets)].concat());
     unsafe { measured(linked::picker_check as *const () as usize, &arguments).1 }
@@ -102,11 +102,13 @@ impl Most {
     }
 
     fn pair(&mut self, random: &mut Random, old: &Chart, new: &Chart) {
-        self.saw(0, building(old, new));
-        let mut record = Record::from(algorithms::build(old, new));
-        self.saw(1, checking(old, new, &mut record));
-        drawn::spoil(random, &mut record);
-        self.saw(1, checking(old, new, &mut record));
+        for edition in EDITIONS {
+            self.saw(0, building(edition, old, new));
+            let mut record = Record::from(algorithms::build(edition, old, new));
+            self.saw(1, checking(edition, old, new, &mut record));
+            drawn::spoil(random, &mut record);
+            self.saw(1, checking(edition, old, new, &mut record));
+        }
     }
 
     fn chart(&mut self, random: &mut Random, name: u32, both: [&Chart; 2]) {
