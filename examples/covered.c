@@ -23,6 +23,9 @@
 /* Enough of a file: no faultless chart is longer, and a longer text is refused by what stands in these bytes. */
 #define FILE_LEN 16384
 
+/* A record says nothing of its edition: it is checked by the one that built it. */
+#define EDITION PICKER_FIRST_EDITION
+
 struct chart {
     uint32_t places;
     uint32_t alarm;
@@ -75,14 +78,14 @@ static int read_chart(const char *name, struct chart *chart)
 static int build(const struct chart *o, const struct chart *n, struct record *r)
 {
     static uint8_t waiting[PICKER_WAITING_LEN];
-    uint64_t answer = picker_build(o->places, o->alarm, o->rows, o->rows_len, n->places, n->alarm, n->rows, n->rows_len,
-                                   r->marks, PICKER_MARKS_LEN, r->targets, PICKER_TARGETS_LEN, r->sets, PICKER_SETS_LEN,
-                                   waiting, PICKER_WAITING_LEN);
+    uint64_t answer = picker_build(EDITION, o->places, o->alarm, o->rows, o->rows_len, n->places, n->alarm, n->rows,
+                                   n->rows_len, r->marks, PICKER_MARKS_LEN, r->targets, PICKER_TARGETS_LEN, r->sets,
+                                   PICKER_SETS_LEN, waiting, PICKER_WAITING_LEN);
     if (complained("build", answer)) {
         return 0;
     }
     r->start = picker_build_start(answer);
-    answer = picker_check(o->places, o->alarm, o->rows, o->rows_len, n->places, n->alarm, n->rows, n->rows_len,
+    answer = picker_check(EDITION, o->places, o->alarm, o->rows, o->rows_len, n->places, n->alarm, n->rows, n->rows_len,
                           r->start, r->marks, PICKER_MARKS_LEN, r->targets, PICKER_TARGETS_LEN, r->sets,
                           PICKER_SETS_LEN);
     return !complained("check", answer) && picker_check_passed(answer);

@@ -30,9 +30,9 @@
 extern "C" {
 #endif
 
-#define PICKER_VERSION "0.1.0"
+#define PICKER_VERSION "0.2.0"
 /* Goes up with each change of a signature, and not with a call more. */
-#define PICKER_INTERFACE 1
+#define PICKER_INTERFACE 2
 
 /* Limits of a chart. */
 #define PICKER_PLACES_MAX 64
@@ -52,6 +52,15 @@ extern "C" {
 /* Charts, as picker_lookup takes them and picker_chart gives them. */
 #define PICKER_OLD 0 /* or the sole one */
 #define PICKER_NEW 1
+
+/* Editions of the detector, as picker_build and picker_check take them: by which rules the old chart keeps up with the
+ * new one. The second is the first with two more (docs/REFERENCE.md): where both charts write the same variable
+ * otherwise, both move; and where the new alarm is met, the old one is looked for behind the old assignments that
+ * follow. Mostly it keeps the same places or fewer, now and then more. A covered run says the same in both. A RECORD
+ * DOES NOT TELL ITS EDITION, AND HAS TO BE CHECKED BY THE ONE THAT BUILT IT: the other may refuse it
+ * (PICKER_BAD_RECORD). One that either passes can be relied upon, whichever built it. */
+#define PICKER_FIRST_EDITION 1
+#define PICKER_SECOND_EDITION 2
 
 /* Marks. */
 #define PICKER_ABSENT 0
@@ -82,7 +91,7 @@ extern "C" {
 #define PICKER_BAD_OPERAND 7 /* a variable above 63, or an unused operand that isn't 0 */
 #define PICKER_CONFLICT 8    /* beside an earlier row of its place: not two assumptions of which always one holds */
 /* Of a call; chart 0. */
-#define PICKER_BAD_LENGTH 21 /* a length other than stated, or a table that isn't whole rows; position 0. First */
+#define PICKER_BAD_LENGTH 21 /* a wrong length, a table that isn't whole rows, or another edition; position 0. First */
 #define PICKER_BAD_SHAPE 31  /* a start, mark or target that no record has; position 0 */
 #define PICKER_BAD_RECORD 32 /* a rule fails: follow no run in it. Position: an index in targets, or PICKER_AT_START */
 #define PICKER_AT_START 8192
@@ -116,9 +125,10 @@ uint64_t picker_lookup(uint32_t old_places, uint32_t old_alarm,
 
 /* Builds the condition of two charts. picker_build_start, _open, _kept, _covered. What the four held before has no
  * effect; waiting is all 0 afterwards. With the start, marks, targets and sets are a record that picker_check
- * passes for the same charts. The target of a new row that never holds (an assumption that no values meet, v0 < 0) is
- * PICKER_NO_NODE, and nothing is explored behind it. */
-uint64_t picker_build(uint32_t old_places, uint32_t old_alarm,
+ * passes for the same edition and charts. The target of a new row that never holds (an assumption that no values meet,
+ * v0 < 0) is PICKER_NO_NODE, and nothing is explored behind it. */
+uint64_t picker_build(uint32_t edition,                              /* PICKER_FIRST_EDITION or _SECOND_EDITION */
+                      uint32_t old_places, uint32_t old_alarm,
                       const uint32_t *old_rows, size_t old_rows_len, /* old_rows_len: entries, six for each row */
                       uint32_t new_places, uint32_t new_alarm,
                       const uint32_t *new_rows, size_t new_rows_len, /* new_rows_len: entries, six for each row */
@@ -127,9 +137,11 @@ uint64_t picker_build(uint32_t old_places, uint32_t old_alarm,
                       uint64_t *sets, size_t sets_len,               /* PICKER_SETS_LEN: bit i for variable i */
                       uint8_t *waiting, size_t waiting_len);         /* PICKER_WAITING_LEN */
 
-/* Checks a record, whoever made it. picker_check_passed. Nothing is written. Targets of new rows that never hold are
- * below PICKER_NODES or PICKER_NO_NODE, as all are (PICKER_BAD_SHAPE); else they are not looked at. */
-uint64_t picker_check(uint32_t old_places, uint32_t old_alarm,
+/* Checks a record, whoever made it, by the rules of an edition. picker_check_passed. Nothing is written. Targets of new
+ * rows that never hold are below PICKER_NODES or PICKER_NO_NODE, as all are (PICKER_BAD_SHAPE); else they are not
+ * looked at. */
+uint64_t picker_check(uint32_t edition,                              /* that of picker_build */
+                      uint32_t old_places, uint32_t old_alarm,
                       const uint32_t *old_rows, size_t old_rows_len, /* old_rows_len: entries, six for each row */
                       uint32_t new_places, uint32_t new_alarm,
                       const uint32_t *new_rows, size_t new_rows_len, /* new_rows_len: entries, six for each row */

@@ -1,5 +1,6 @@
 /* session OLD.csv NEW.csv: the header in use, in C and in C++. Reads the sample charts, builds, checks, and compares
- * with the worked session; then what the header says of refusals, lengths, NULL, overlap and answers at their edges. */
+ * with the worked session, in both editions; then what the header says of refusals, editions, lengths, NULL, overlap
+ * and answers at their edges. */
 #include <stdio.h>
 #include <string.h>
 
@@ -58,9 +59,11 @@ static int painted(void)
     return others == 0;
 }
 
-static uint64_t build(int o, int n) { return picker_build(CHART(o), CHART(n), RECORD, WAITING); }
+static uint32_t edition = PICKER_FIRST_EDITION;
 
-static uint64_t check(int o, int n, uint32_t start) { return picker_check(CHART(o), CHART(n), start, RECORD); }
+static uint64_t build(int o, int n) { return picker_build(edition, CHART(o), CHART(n), RECORD, WAITING); }
+
+static uint64_t check(int o, int n, uint32_t start) { return picker_check(edition, CHART(o), CHART(n), start, RECORD); }
 
 /* The transitions of the record, in the program's order, against those expected. */
 static void transitions(int n, const uint32_t (*expected)[4], size_t count)
@@ -118,6 +121,46 @@ static void spoiled(void)
     uint64_t answer = check(0, 1, PICKER_START_PAIR);
     is_refused("another target", answer, PICKER_BAD_RECORD, 0, 3);
     is("passed", (uint64_t)picker_check_passed(answer), 0);
+}
+
+/* The worked session in edition 2: both charts move by their first rows. Each edition passes its own record alone. */
+static void second_edition(void)
+{
+    static const uint32_t expected[][4] = {
+        {0, 0, 65, PICKER_OPEN},   {65, 1, 130, PICKER_COVERED}, {65, 2, 195, PICKER_OPEN},
+        {195, 3, 4101, PICKER_KEPT}, {195, 4, 4100, PICKER_KEPT},
+    };
+    build(0, 1);
+    edition = PICKER_SECOND_EDITION;
+    is_refused("record of edition 1", check(0, 1, PICKER_START_PAIR), PICKER_BAD_RECORD, 0, 0);
+    paint();
+    uint64_t answer = build(0, 1);
+    is("start", picker_build_start(answer), PICKER_START_PAIR);
+    is("open and kept", picker_build_open(answer) * 10 + picker_build_kept(answer), 32);
+    is("covered", picker_build_covered(answer), 1);
+    transitions(1, expected, sizeof expected / sizeof *expected);
+    is("set of (1, 1)", sets[65], 2);
+    is("passes", (uint64_t)picker_check_passed(check(0, 1, PICKER_START_PAIR)), 1);
+    edition = PICKER_FIRST_EDITION;
+    is_refused("record of edition 2", check(0, 1, PICKER_START_PAIR), PICKER_BAD_RECORD, 0, 0);
+}
+
+/* Other editions are refused before a chart's fault, and a refused build leaves what was lent. */
+static void other_editions(void)
+{
+    static const uint32_t others[] = {0, 3, 257, 65538, UINT32_MAX};
+    for (size_t i = 0; i < sizeof others / sizeof *others; i++) {
+        edition = others[i];
+        for (int faulty = 0; faulty < 2; faulty++) {
+            tables[1][PICKER_ROW_LEN * 2 + 2] = faulty ? 38 : 21;
+            paint();
+            is_refused("build of no edition", build(0, 1), PICKER_BAD_LENGTH, 0, 0);
+            is("painted", (uint64_t)painted(), 1);
+            is_refused("check of no edition", check(0, 1, PICKER_START_PAIR), PICKER_BAD_LENGTH, 0, 0);
+        }
+        tables[1][PICKER_ROW_LEN * 2 + 2] = 21;
+    }
+    edition = PICKER_FIRST_EDITION;
 }
 
 /* The same table as old and new: what is only read may overlap. */
@@ -224,11 +267,12 @@ static void nulls(void)
     }
     is("no old table", picker_lookup_rows(picker_lookup(NONE, CHART(1), PICKER_NEW, 1, rows, PICKER_PART_LEN)), 2);
     is_refused("part", picker_lookup(CHART(0), CHART(1), PICKER_OLD, 0, NULL, 0), PICKER_BAD_LENGTH, 0, 0);
-    answer = picker_build(CHART(0), CHART(1), NULL, 0, NULL, 0, NULL, 0, NULL, 0);
+    answer = picker_build(edition, CHART(0), CHART(1), NULL, 0, NULL, 0, NULL, 0, NULL, 0);
     is_refused("buffers", answer, PICKER_BAD_LENGTH, 0, 0);
-    is_refused("record", picker_check(CHART(0), CHART(1), 0, NULL, 0, NULL, 0, NULL, 0), PICKER_BAD_LENGTH, 0, 0);
-    is_refused("old rows", picker_build(NONE, CHART(1), RECORD, WAITING), PICKER_EMPTY_CHART, PICKER_OLD, 0);
-    is_refused("new rows", picker_check(CHART(0), NONE, 0, RECORD), PICKER_EMPTY_CHART, PICKER_NEW, 0);
+    answer = picker_check(edition, CHART(0), CHART(1), 0, NULL, 0, NULL, 0, NULL, 0);
+    is_refused("record", answer, PICKER_BAD_LENGTH, 0, 0);
+    is_refused("old rows", picker_build(edition, NONE, CHART(1), RECORD, WAITING), PICKER_EMPTY_CHART, PICKER_OLD, 0);
+    is_refused("new rows", picker_check(edition, CHART(0), NONE, 0, RECORD), PICKER_EMPTY_CHART, PICKER_NEW, 0);
 }
 
 /* Answers taken apart at their edges. */
@@ -245,7 +289,7 @@ static void answers(void)
     is("lengths", PICKER_ROW_LEN * PICKER_ROWS_MAX, PICKER_TABLE_LEN);
     is("nodes", PICKER_PAIRS + PICKER_PLACES_MAX, PICKER_NODES);
     is("last target", picker_target_index(PICKER_PAIRS - 1, 1), PICKER_TARGETS_LEN - 1);
-    is("interface", PICKER_INTERFACE, 1);
+    is("interface", PICKER_INTERFACE, 2);
 }
 
 int main(int argc, char **argv)
@@ -267,6 +311,8 @@ int main(int argc, char **argv)
     }
     session();
     spoiled();
+    second_edition();
+    other_editions();
     same_chart();
     kept_start();
     text_and_rows();
