@@ -61,22 +61,52 @@ impl<'a> Graph<'a> {
     }
 }
 
-/// One aligned step: the pair that it comes to and its set, none where it fails.
-fn step(old: &Graph, new_alarm: usize, from: Pair, mut set: u64, row: &[u32]) -> Option<(Pair, u64)> {
-    let mut p = from.old;
-    if row[2] < 16 {
-        let written = 1 << row[3];
-        match old.rows[p].iter().find(|e| e[2..] == row[2..]) {
-            Some(e) => {
+/// What a step is made by.
+struct Steps<'a> {
+    edition: u32,
+    old: Graph<'a>,
+    new_alarm: usize,
+}
+
+impl Steps<'_> {
+    /// One aligned step: the pair that it comes to and its set, none where it fails.
+    fn step(&self, from: Pair, mut set: u64, row: &[u32]) -> Option<(Pair, u64)> {
+        let old = &self.old;
+        let mut p = from.old;
+        if row[2] < 16 {
+            let written = 1 << row[3];
+            let writes_it = |e: &&&[u32]| self.edition == 2 && e[2] < 16 && e[3] == row[3];
+            if let Some(e) = old.rows[p].iter().find(|e| e[2..] == row[2..]) {
                 set = if set & read_by(row) != 0 { set | written } else { set & !written };
                 p = e[1] as usize;
+            } else {
+                set |= written;
+                p = old.rows[p].iter().find(writes_it).map_or(p, |e| e[1] as usize);
             }
-            None => set |= written,
+        } else {
+            (p, set) = self.followed(p, set)?;
+            let here: &[&[u32]] = if p == old.alarm { &[] } else { &old.rows[p] };
+            let equal = here.iter().find(|e| e[2..] == row[2..]);
+            if let Some(e) = equal.or_else(|| here.iter().find(|e| implied(row, e))) {
+                if set & (read_by(row) | read_by(e)) != 0 {
+                    return None;
+                }
+                p = e[1] as usize;
+            }
         }
-    } else {
+        if row[1] as usize == self.new_alarm && p != old.alarm {
+            let saved = if self.edition == 2 { self.followed(p, set) } else { None };
+            (p, set) = saved.filter(|(p, _)| *p == old.alarm)?;
+        }
+        Some((Pair { old: p, new: row[1] as usize }, set))
+    }
+
+    /// Where the old assignments from a place end, and the set with what they write; none where they come to a place
+    /// twice.
+    fn followed(&self, mut p: usize, mut set: u64) -> Option<(usize, u64)> {
         let mut come_to = vec![p];
-        while p != old.alarm {
-            let Some(e) = old.rows[p].first().filter(|e| e[2] < 16) else { break };
+        while p != self.old.alarm {
+            let Some(e) = self.old.rows[p].first().filter(|e| e[2] < 16) else { break };
             set |= 1 << e[3];
             p = e[1] as usize;
             if come_to.contains(&p) {
@@ -84,24 +114,25 @@ fn step(old: &Graph, new_alarm: usize, from: Pair, mut set: u64, row: &[u32]) ->
             }
             come_to.push(p);
         }
-        let here: &[&[u32]] = if p == old.alarm { &[] } else { &old.rows[p] };
-        if let Some(e) = here.iter().find(|e| e[2..] == row[2..]).or_else(|| here.iter().find(|e| implied(row, e))) {
-            if set & (read_by(row) | read_by(e)) != 0 {
-                return None;
-            }
-            p = e[1] as usize;
-        }
+        Some((p, set))
     }
-    let q = row[1] as usize;
-    (q != new_alarm || p == old.alarm).then_some((Pair { old: p, new: q }, set))
+
+    /// Whether a row leads from a pair with a set to another with another.
+    fn leads(&self, from: Pair, set: u64, row: &[u32], to: Pair, holds: u64) -> bool {
+        if from.old == self.old.alarm {
+            return to.new == row[1] as usize;
+        }
+        self.step(from, set, row).is_some_and(|(pair, set)| pair == to && set & !holds == 0)
+    }
 }
 
 /// The condition of two charts.
-pub fn build(old: &Chart, new: &Chart) -> Result<Condition, Refusal> {
-    judged(old, new)?;
-    let (old, new) = (Graph::new(old), Graph::new(new));
-    let (mut pairs, kept) = explore(&old, &new);
-    if kept.contains(&0) || (new.alarm == 0 && old.alarm != 0) {
+pub fn build(edition: u32, old: &Chart, new: &Chart) -> Result<Condition, Refusal> {
+    judged(edition, old, new)?;
+    let new = Graph::new(new);
+    let steps = Steps { edition, old: Graph::new(old), new_alarm: new.alarm };
+    let (mut pairs, kept) = explore(&steps, &new);
+    if kept.contains(&0) || (new.alarm == 0 && steps.old.alarm != 0) {
         return Ok(Condition { start: Node::Kept(0), pairs: HashMap::new(), kept: HashSet::from([0]) });
     }
     mark(&mut pairs, &kept);
@@ -142,7 +173,7 @@ impl Explorer {
 }
 
 /// Algorithm 2: the pairs in the graph, and the kept places.
-fn explore(old: &Graph, new: &Graph) -> (HashMap<Pair, State>, HashSet<usize>) {
+fn explore(steps: &Steps, new: &Graph) -> (HashMap<Pair, State>, HashSet<usize>) {
     let mut all = Explorer { pairs: HashMap::new(), waiting: BTreeSet::from([START]), kept: HashSet::new() };
     all.join(START, 0);
     while let Some(pair) = all.waiting.pop_first() {
@@ -153,9 +184,9 @@ fn explore(old: &Graph, new: &Graph) -> (HashMap<Pair, State>, HashSet<usize>) {
                 set = state.set;
             }
             let q = row[1] as usize;
-            let target = match step(old, new.alarm, pair, set, row) {
+            let target = match steps.step(pair, set, row) {
                 Some((to, joined)) if !all.kept.contains(&q) => {
-                    if all.join(to, joined) && to.old != old.alarm {
+                    if all.join(to, joined) && to.old != steps.old.alarm {
                         all.waiting.insert(to);
                     }
                     Node::Pair(to)
@@ -209,20 +240,22 @@ fn mark(pairs: &mut HashMap<Pair, State>, kept: &HashSet<usize>) {
 }
 
 /// Whether a condition keeps the rules; charts at fault are a refusal. What is no place or mark it can't hold.
-pub fn check(old: &Chart, new: &Chart, condition: &Condition) -> Result<bool, Refusal> {
-    judged(old, new)?;
-    let (old, new) = (Graph::new(old), Graph::new(new));
+pub fn check(edition: u32, old: &Chart, new: &Chart, condition: &Condition) -> Result<bool, Refusal> {
+    judged(edition, old, new)?;
+    let new = Graph::new(new);
+    let steps = Steps { edition, old: Graph::new(old), new_alarm: new.alarm };
     let Condition { start, pairs, kept } = condition;
+    let fits = new.alarm != 0 || steps.old.alarm == 0;
     let starts = match start {
-        Node::Pair(pair) => pairs.get(pair).is_some_and(|s| s.mark == Mark::Open) && (new.alarm != 0 || old.alarm == 0),
+        Node::Pair(pair) => fits && pairs.get(pair).is_some_and(|s| s.mark == Mark::Open),
         Node::Kept(place) => kept.contains(place),
     };
     let keeps = |(&pair, state): (&Pair, &State)| {
         new.rows[pair.new].iter().zip(state.targets).filter(|(row, _)| can_be_taken(row)).all(|(row, target)| match target {
-            None => pair.old == old.alarm,
+            None => pair.old == steps.old.alarm,
             Some(Node::Kept(q)) => q == row[1] as usize && kept.contains(&q) && state.mark == Mark::Open,
             Some(Node::Pair(to)) => pairs.get(&to).is_some_and(|reached| {
-                allowed(state.mark, reached.mark) && leads(&old, new.alarm, pair, state.set, row, to, reached.set)
+                allowed(state.mark, reached.mark) && steps.leads(pair, state.set, row, to, reached.set)
             }),
         })
     };
@@ -237,14 +270,6 @@ fn allowed(from: Mark, to: Mark) -> bool {
     }
 }
 
-/// Whether a row leads from a pair with a set to another with another.
-fn leads(old: &Graph, new_alarm: usize, from: Pair, set: u64, row: &[u32], to: Pair, holds: u64) -> bool {
-    if from.old == old.alarm {
-        return to.new == row[1] as usize;
-    }
-    step(old, new_alarm, from, set, row).is_some_and(|(pair, set)| pair == to && set & !holds == 0)
-}
-
 #[cfg(test)]
 mod tests {
     use super::*;
@@ -252,7 +277,7 @@ mod tests {
     use picker_tests::checker::{self, Record};
     use picker_tests::conditions::Buffers;
     use picker_tests::drawn::{self, Sort, SORTS};
-    use picker_tests::{algorithms, cases, model, Random};
+    use picker_tests::{algorithms, cases, model, Random, EDITIONS};
 
     fn number(node: Node) -> usize {
         match node {
@@ -317,65 +342,79 @@ mod tests {
         made
     }
 
-    #[test]
-    fn builds_and_checks() {
-        let mut random = Random::new(20285);
-        let mut answers = [0; 2];
-        for sort in SORTS {
-            for _ in 0..cases(if sort == Sort::Wide { 4 } else { 200 }) {
-                let (old, new) = drawn::pair(&mut random, sort);
-                let built = Record::from(algorithms::build(&old, &new));
-                assert!(record(&build(&old, &new).unwrap()) == built, "{old:?} {new:?}");
-                for changes in 0..4 {
-                    let mut r = built.clone();
-                    (0..changes).for_each(|_| drawn::spoil(&mut random, &mut r));
-                    let expected = checker::check(&old, &new, &r);
-                    // What is no record at all has no condition.
-                    if !matches!(expected, Err((31, ..))) {
-                        assert_eq!(check(&old, &new, &condition(&r)), Ok(expected.is_ok()), "{old:?} {new:?} {r:?}");
-                        answers[expected.is_ok() as usize] += 1;
-                    }
+    /// How many answers of either kind the checks of each edition gave.
+    type Answers = [[usize; 2]; 2];
+
+    /// Builds what was built, and answers as expected where that and the same more and more spoilt is checked.
+    fn compare(
+        random: &mut Random,
+        answers: &mut Answers,
+        (edition, old, new): (u32, &Chart, &Chart),
+        built: Record,
+        expected: impl Fn(u32, &Record) -> Result<(), Refusal>,
+    ) {
+        assert!(record(&build(edition, old, new).unwrap()) == built, "{edition} {old:?} {new:?}");
+        for changes in 0..4 {
+            let mut r = built.clone();
+            (0..changes).for_each(|_| drawn::spoil(random, &mut r));
+            for by in EDITIONS {
+                let expected = expected(by, &r);
+                // What is no record at all has no condition.
+                if !matches!(expected, Err((31, ..))) {
+                    assert_eq!(check(by, old, new, &condition(&r)), Ok(expected.is_ok()), "{by} {old:?} {new:?} {r:?}");
+                    answers[by as usize - 1][expected.is_ok() as usize] += 1;
                 }
             }
         }
-        assert!(answers.iter().all(|n| *n > 100), "{answers:?}");
+    }
+
+    #[test]
+    fn builds_and_checks() {
+        let mut random = Random::new(20285);
+        let mut answers = Answers::default();
+        for sort in SORTS {
+            for _ in 0..cases(if sort == Sort::Wide { 4 } else { 200 }) {
+                let (old, new) = drawn::pair(&mut random, sort);
+                for edition in EDITIONS {
+                    let built = algorithms::build(edition, &old, &new).into();
+                    let expected = |by, r: &Record| checker::check(by, &old, &new, r);
+                    compare(&mut random, &mut answers, (edition, &old, &new), built, expected);
+                }
+            }
+        }
+        assert!(answers.iter().flatten().all(|n| *n > 100), "{answers:?}");
     }
 
     /// With signed comparisons, in one of the two charts and beside unsigned ones too: as the plain Rust beside it.
     #[test]
     fn signed_charts() {
         let mut random = Random::new(20295);
-        let mut answers = [0; 2];
+        let mut answers = Answers::default();
         for sort in SORTS {
             for _ in 0..cases(if sort == Sort::Wide { 2 } else { 40 }) {
                 let (old, new) = drawn::pair(&mut random, sort);
-                for (old, new) in signed::pairs(&old, &new) {
+                let all = signed::pairs(&old, &new);
+                for (edition, (old, new)) in EDITIONS.into_iter().flat_map(|e| all.iter().map(move |pair| (e, pair))) {
                     let mut b = Buffers { marks: vec![9; 4160], targets: vec![9; 8192], sets: vec![9; 4096], waiting: vec![9; 4096] };
-                    let start = plain_build::build::<true>(&old, &new, &mut b).unwrap()[0];
+                    let start = plain_build::build::<true>(edition, old, new, &mut b).unwrap()[0];
                     let built = Record { start, marks: b.marks, targets: b.targets, sets: b.sets };
-                    assert!(record(&build(&old, &new).unwrap()) == built, "{old:?} {new:?}");
-                    for changes in 0..4 {
-                        let mut r = built.clone();
-                        (0..changes).for_each(|_| drawn::spoil(&mut random, &mut r));
-                        let expected = plain_build::check(&old, &new, r.start, &r.marks, &r.targets, &r.sets);
-                        // What is no record at all has no condition.
-                        if !matches!(expected, Err((31, ..))) {
-                            assert_eq!(check(&old, &new, &condition(&r)), Ok(expected.is_ok()), "{old:?} {new:?} {r:?}");
-                            answers[expected.is_ok() as usize] += 1;
-                        }
-                    }
+                    let expected = |by, r: &Record| plain_build::check(by, old, new, r);
+                    compare(&mut random, &mut answers, (edition, old, new), built, expected);
                 }
             }
         }
-        assert!(answers.iter().all(|n| *n > 100), "{answers:?}");
+        assert!(answers.iter().flatten().all(|n| *n > 100), "{answers:?}");
     }
 
     #[test]
     fn faulty_charts() {
         let good = Chart { places: 1, alarm: 0, rows: vec![0, 0, 0, 0, 0, 0] };
         for (bad, (number, position)) in model::faulty() {
-            assert_eq!(build(&bad, &good).unwrap_err(), (number, 0, position));
-            assert_eq!(build(&good, &bad).unwrap_err(), (number, 1, position));
+            for edition in EDITIONS {
+                assert_eq!(build(edition, &bad, &good).unwrap_err(), (number, 0, position));
+                assert_eq!(build(edition, &good, &bad).unwrap_err(), (number, 1, position));
+            }
+            assert_eq!(build(3, &bad, &good).unwrap_err(), (21, 0, 0));
         }
     }
 }

@@ -1,5 +1,5 @@
 //! One table, in Markdown: the proved code and Rust without proof on the same work, in one run, side by side. It takes
-//! about four minutes, and means something only where nothing else runs.
+//! about five minutes, and means something only where nothing else runs.
 
 mod conditions;
 mod everyday;

@@ -4,13 +4,23 @@
 //! - with sets instead: marks and waiting are left alone until the end, and only the bit sets know;
 //! - with lists: the same, and open marks are propagated over lists of predecessors, which takes 8 KiB more on the stack and two lists on the
 //!   heap. The two others pass over the pairs that are not open yet, which needs no memory but the lent buffers and those words.
+//!
+//! What is done for every row is compiled once for each edition, so that none is slower for knowing the other.
 
 use crate::plain::judge;
+use picker_tests::checker::Record;
 use picker_tests::conditions::Buffers;
-use picker_tests::Chart;
+use picker_tests::{Chart, EDITIONS};
+use std::slice::ChunksExact;
 
 /// Number, chart and position.
 pub type Refusal = (u32, u32, usize);
+
+/// Of a build: start and counts of marks 1, 2 and 3.
+pub type Answer = Result<[u32; 4], Refusal>;
+
+/// A build in an edition, of the old chart and the new one.
+pub type Builder = fn(u32, &Chart, &Chart, &mut Buffers) -> Answer;
 
 /// A chart with the first row of each place.
 struct Index<'a> {
@@ -33,13 +43,13 @@ impl<'a> Index<'a> {
 
     /// The rows of a place: none, one or two.
     #[inline]
-    fn rows(&self, place: usize) -> std::slice::ChunksExact<'a, u32> {
+    fn rows(&self, place: usize) -> ChunksExact<'a, u32> {
         self.rows[6 * self.first[place] as usize..6 * self.first[place + 1] as usize].chunks_exact(6)
     }
 }
 
-pub fn judged(old: &Chart, new: &Chart) -> Result<(), Refusal> {
-    if old.rows.len() % 6 != 0 || new.rows.len() % 6 != 0 {
+pub fn judged(edition: u32, old: &Chart, new: &Chart) -> Result<(), Refusal> {
+    if !EDITIONS.contains(&edition) || old.rows.len() % 6 != 0 || new.rows.len() % 6 != 0 {
         return Err((21, 0, 0));
     }
     for (which, chart) in [old, new].into_iter().enumerate() {
@@ -199,9 +209,38 @@ pub fn read_by(o: &[u32]) -> u64 {
     }
 }
 
+/// Where the old assignments from a place end, the set with what they write, and the rows there; none where they come
+/// to a place twice.
+#[inline(always)]
+fn followed<'a>(old: &Index<'a>, mut p: usize, mut set: u64) -> Option<(usize, u64, ChunksExact<'a, u32>)> {
+    let mut come_to = 1u64 << p;
+    let mut here = old.rows(p);
+    while p != old.alarm {
+        match here.clone().next() {
+            Some(e) if e[2] < 16 => {
+                set |= 1 << e[3];
+                p = e[1] as usize;
+                if come_to >> p & 1 == 1 {
+                    return None;
+                }
+                come_to |= 1 << p;
+                here = old.rows(p);
+            }
+            _ => break,
+        }
+    }
+    Some((p, set, here))
+}
+
 /// The old place that a step comes to and its set; none where it fails.
-#[inline]
-fn step(old: &Index, new_alarm: usize, mut p: usize, mut set: u64, row: &[u32]) -> Option<(usize, u64)> {
+#[inline(always)]
+fn step<const EDITION: u32>(
+    old: &Index,
+    new_alarm: usize,
+    mut p: usize,
+    mut set: u64,
+    row: &[u32],
+) -> Option<(usize, u64)> {
     if row[2] < 16 {
         let written = 1u64 << row[3];
         match old.rows(p).next() {
@@ -209,25 +248,15 @@ fn step(old: &Index, new_alarm: usize, mut p: usize, mut set: u64, row: &[u32]) 
                 set = if set & read_by(row) != 0 { set | written } else { set & !written };
                 p = e[1] as usize;
             }
+            Some(e) if EDITION == 2 && e[2] < 16 && e[3] == row[3] => {
+                set |= written;
+                p = e[1] as usize;
+            }
             _ => set |= written,
         }
     } else {
-        let mut come_to = 1u64 << p;
-        let mut here = old.rows(p);
-        while p != old.alarm {
-            match here.clone().next() {
-                Some(e) if e[2] < 16 => {
-                    set |= 1 << e[3];
-                    p = e[1] as usize;
-                    if come_to >> p & 1 == 1 {
-                        return None;
-                    }
-                    come_to |= 1 << p;
-                    here = old.rows(p);
-                }
-                _ => break,
-            }
-        }
+        let here;
+        (p, set, here) = followed(old, p, set)?;
         if p != old.alarm {
             if let Some(e) = here.clone().find(|e| e[2..] == row[2..]).or_else(|| here.clone().find(|e| implied(row, e))) {
                 if set & (read_by(row) | read_by(e)) != 0 {
@@ -237,7 +266,17 @@ fn step(old: &Index, new_alarm: usize, mut p: usize, mut set: u64, row: &[u32]) 
             }
         }
     }
+    if EDITION == 2 && row[1] as usize == new_alarm && p != old.alarm {
+        return saved(old, p, set);
+    }
     (row[1] as usize != new_alarm || p == old.alarm).then_some((p, set))
+}
+
+/// The old alarm and the set with what is written on the way there, if old assignments lead to it. Seldom asked, and so
+/// kept apart from the step.
+#[cold]
+fn saved(old: &Index, p: usize, set: u64) -> Option<(usize, u64)> {
+    followed(old, p, set).filter(|(p, ..)| *p == old.alarm).map(|(p, set, _)| (p, set))
 }
 
 // ---- the builder
@@ -261,12 +300,17 @@ struct Explored {
 }
 
 /// Algorithm 2. `KEPT_UP`: whether marks and waiting are kept up between turns.
-fn explore<const KEPT_UP: bool>(old: &Chart, new: &Chart, b: &mut Buffers) -> Result<Explored, Refusal> {
-    let (marks, targets, sets, waiting) = (&mut b.marks[..], &mut b.targets[..], &mut b.sets[..], &mut b.waiting[..]);
-    if marks.len() != 4160 || targets.len() != 8192 || sets.len() != 4096 || waiting.len() != 4096 {
+fn explore<const KEPT_UP: bool>(edition: u32, old: &Chart, new: &Chart, b: &mut Buffers) -> Result<Explored, Refusal> {
+    if b.marks.len() != 4160 || b.targets.len() != 8192 || b.sets.len() != 4096 || b.waiting.len() != 4096 {
         return Err((21, 0, 0));
     }
-    judged(old, new)?;
+    judged(edition, old, new)?;
+    Ok(if edition == 1 { explored::<KEPT_UP, 1>(old, new, b) } else { explored::<KEPT_UP, 2>(old, new, b) })
+}
+
+/// Algorithm 2 of an edition, where nothing is refused.
+fn explored<const KEPT_UP: bool, const EDITION: u32>(old: &Chart, new: &Chart, b: &mut Buffers) -> Explored {
+    let (marks, targets, sets, waiting) = (&mut b.marks[..], &mut b.targets[..], &mut b.sets[..], &mut b.waiting[..]);
     let all_taken = new.rows.chunks_exact(6).fold(true, |all, row| all & can_be_taken(row));
     let (old, new) = (Index::new(old), Index::new(new));
     marks.fill(0);
@@ -300,7 +344,7 @@ fn explore<const KEPT_UP: bool>(old: &Chart, new: &Chart, b: &mut Buffers) -> Re
             if kept >> q & 1 == 0 {
                 set = sets[pair];
             }
-            let to = match step(&old, new.alarm, p, set, row) {
+            let to = match step::<EDITION>(&old, new.alarm, p, set, row) {
                 None => {
                     if kept >> q2 & 1 == 0 {
                         kept |= 1 << q2;
@@ -350,7 +394,7 @@ fn explore<const KEPT_UP: bool>(old: &Chart, new: &Chart, b: &mut Buffers) -> Re
             }
         }
     }
-    Ok(Explored { present, kept, alone: kept & 1 == 1 || (new.alarm == 0 && old.alarm != 0) })
+    Explored { present, kept, alone: kept & 1 == 1 || (new.alarm == 0 && old.alarm != 0) }
 }
 
 /// The new start alone, kept: what the pairs had is taken back.
@@ -379,9 +423,9 @@ fn opens(marks: &mut [u8], targets: &[u16], pair: usize) -> bool {
     opens
 }
 
-/// Start and counts of marks 1, 2 and 3. Nothing but the buffers and a few words.
-pub fn build<const KEPT_UP: bool>(old: &Chart, new: &Chart, b: &mut Buffers) -> Result<[u32; 4], Refusal> {
-    let Explored { present, kept, alone } = explore::<KEPT_UP>(old, new, b)?;
+/// Nothing but the buffers and a few words.
+pub fn build<const KEPT_UP: bool>(edition: u32, old: &Chart, new: &Chart, b: &mut Buffers) -> Answer {
+    let Explored { present, kept, alone } = explore::<KEPT_UP>(edition, old, new, b)?;
     if alone {
         return Ok(leave_alone(&present, b));
     }
@@ -450,8 +494,8 @@ pub fn build<const KEPT_UP: bool>(old: &Chart, new: &Chart, b: &mut Buffers) -> 
 }
 
 /// The same with lists of predecessors, marks and waiting not kept up.
-pub fn build_with_lists(old: &Chart, new: &Chart, b: &mut Buffers) -> Result<[u32; 4], Refusal> {
-    let Explored { present, kept, alone } = explore::<false>(old, new, b)?;
+pub fn build_with_lists(edition: u32, old: &Chart, new: &Chart, b: &mut Buffers) -> Answer {
+    let Explored { present, kept, alone } = explore::<false>(edition, old, new, b)?;
     if alone {
         return Ok(leave_alone(&present, b));
     }
@@ -517,11 +561,17 @@ pub fn build_with_lists(old: &Chart, new: &Chart, b: &mut Buffers) -> Result<[u3
 
 // ---- the checker
 
-pub fn check(old: &Chart, new: &Chart, start: u32, marks: &[u8], targets: &[u16], sets: &[u64]) -> Result<(), Refusal> {
-    if marks.len() != 4160 || targets.len() != 8192 || sets.len() != 4096 {
+pub fn check(edition: u32, old: &Chart, new: &Chart, record: &Record) -> Result<(), Refusal> {
+    if record.marks.len() != 4160 || record.targets.len() != 8192 || record.sets.len() != 4096 {
         return Err((21, 0, 0));
     }
-    judged(old, new)?;
+    judged(edition, old, new)?;
+    if edition == 1 { checked::<1>(old, new, record) } else { checked::<2>(old, new, record) }
+}
+
+/// The check of an edition, of faultless charts and buffers of the stated lengths.
+fn checked<const EDITION: u32>(old: &Chart, new: &Chart, record: &Record) -> Result<(), Refusal> {
+    let (start, marks, targets, sets) = (record.start, &record.marks[..], &record.targets[..], &record.sets[..]);
     let (m, n) = (old.places as usize, new.places as usize);
     let (old, new) = (Index::new(old), Index::new(new));
     if start != 0 && start != 4096 {
@@ -575,7 +625,7 @@ pub fn check(old: &Chart, new: &Chart, start: u32, marks: &[u8], targets: &[u16]
                 } else if p == old.alarm {
                     to % 64 == q2 && reached != 0
                 } else {
-                    match step(&old, new.alarm, p, sets[pair], row) {
+                    match step::<EDITION>(&old, new.alarm, p, sets[pair], row) {
                         Some((p2, set)) => to == 64 * p2 + q2 && reached != 0 && set & !sets[to] == 0,
                         None => false,
                     }
@@ -593,7 +643,7 @@ pub fn check(old: &Chart, new: &Chart, start: u32, marks: &[u8], targets: &[u16]
 mod tests {
     use super::*;
     use crate::signed;
-    use picker_tests::checker::{self, Record};
+    use picker_tests::checker;
     use picker_tests::drawn::{self, Sort, SORTS};
     use picker_tests::model::HALF;
     use picker_tests::{algorithms, cases, conditions, model, texts, Operation, Random};
@@ -697,7 +747,7 @@ mod tests {
 
     // ---- charts
 
-    const BUILDERS: [fn(&Chart, &Chart, &mut Buffers) -> Result<[u32; 4], Refusal>; 3] = [build::<true>, build::<false>, build_with_lists];
+    const BUILDERS: [Builder; 3] = [build::<true>, build::<false>, build_with_lists];
 
     fn lent() -> Buffers {
         Buffers { marks: vec![9; 4160], targets: vec![9; 8192], sets: vec![9; 4096], waiting: vec![9; 4096] }
@@ -713,28 +763,28 @@ mod tests {
         (0..4).map(one).collect()
     }
 
-    fn checked(old: &Chart, new: &Chart, r: &Record) -> Result<(), Refusal> {
-        check(old, new, r.start, &r.marks, &r.targets, &r.sets)
-    }
-
     #[test]
     fn builds_and_checks() {
         let mut random = Random::new(20284);
         for sort in SORTS {
             for _ in 0..cases(if sort == Sort::Wide { 4 } else { 200 }) {
                 let (old, new) = drawn::pair(&mut random, sort);
-                let expected = algorithms::build(&old, &new);
-                for build in BUILDERS {
-                    let mut b = lent();
-                    let answer = build(&old, &new, &mut b);
-                    assert_eq!(answer, Ok([expected.start, expected.open, expected.kept, expected.covered]), "{old:?} {new:?}");
-                    assert!(
-                        b.marks == expected.marks && b.targets == expected.targets && b.sets == expected.sets && b.waiting == expected.waiting,
-                        "{old:?} {new:?}"
-                    );
-                }
-                for r in spoilt(&mut random, &Record::from(expected)) {
-                    assert_eq!(checked(&old, &new, &r), checker::check(&old, &new, &r), "{old:?} {new:?} {r:?}");
+                for edition in EDITIONS {
+                    let expected = algorithms::build(edition, &old, &new);
+                    for build in BUILDERS {
+                        let mut b = lent();
+                        let counts = [expected.start, expected.open, expected.kept, expected.covered];
+                        assert_eq!(build(edition, &old, &new, &mut b), Ok(counts), "{edition} {old:?} {new:?}");
+                        let Buffers { marks, targets, sets, waiting } = b;
+                        assert!(marks == expected.marks && targets == expected.targets, "{edition} {old:?} {new:?}");
+                        assert!(sets == expected.sets && waiting == expected.waiting, "{edition} {old:?} {new:?}");
+                    }
+                    for r in spoilt(&mut random, &Record::from(expected)) {
+                        for by in EDITIONS {
+                            let answer = checker::check(by, &old, &new, &r);
+                            assert_eq!(check(by, &old, &new, &r), answer, "{by} {old:?} {new:?} {r:?}");
+                        }
+                    }
                 }
             }
         }
@@ -748,16 +798,20 @@ mod tests {
             for _ in 0..cases(if sort == Sort::Wide { 4 } else { 200 }) {
                 let (old, new) = drawn::pair(&mut random, sort);
                 let (signed_old, signed_new) = (signed::signed(&old), signed::signed(&new));
-                let mut expected = lent();
-                let answer = build::<true>(&old, &new, &mut expected);
-                for build in BUILDERS {
-                    let mut b = lent();
-                    assert_eq!(build(&signed_old, &signed_new, &mut b), answer, "{signed_old:?} {signed_new:?}");
-                    assert!(b == expected, "{signed_old:?} {signed_new:?}");
-                }
-                let Buffers { marks, targets, sets, .. } = expected;
-                for r in spoilt(&mut random, &Record { start: answer.unwrap()[0], marks, targets, sets }) {
-                    assert_eq!(checked(&signed_old, &signed_new, &r), checked(&old, &new, &r), "{old:?} {new:?} {r:?}");
+                for edition in EDITIONS {
+                    let mut expected = lent();
+                    let answer = build::<true>(edition, &old, &new, &mut expected);
+                    for build in BUILDERS {
+                        let mut b = lent();
+                        let signed = build(edition, &signed_old, &signed_new, &mut b);
+                        assert_eq!(signed, answer, "{edition} {signed_old:?} {signed_new:?}");
+                        assert!(b == expected, "{edition} {signed_old:?} {signed_new:?}");
+                    }
+                    let Buffers { marks, targets, sets, .. } = expected;
+                    for r in spoilt(&mut random, &Record { start: answer.unwrap()[0], marks, targets, sets }) {
+                        let answers = [(&signed_old, &signed_new), (&old, &new)].map(|(o, n)| check(edition, o, n, &r));
+                        assert_eq!(answers[0], answers[1], "{edition} {old:?} {new:?} {r:?}");
+                    }
                 }
             }
         }
@@ -770,18 +824,19 @@ mod tests {
         for sort in SORTS {
             for _ in 0..cases(if sort == Sort::Wide { 2 } else { 40 }) {
                 let (old, new) = drawn::pair(&mut random, sort);
-                for (old, new) in signed::pairs(&old, &new) {
+                let all = signed::pairs(&old, &new);
+                for (edition, (old, new)) in EDITIONS.into_iter().flat_map(|e| all.iter().map(move |pair| (e, pair))) {
                     let mut expected = lent();
-                    let answer = conditions::build(&old, &new, &mut expected).map(|answer| answer.map(|n| n as u32));
+                    let answer = conditions::build(edition, old, new, &mut expected).map(|all| all.map(|n| n as u32));
                     for build in BUILDERS {
                         let mut b = lent();
-                        assert_eq!(build(&old, &new, &mut b), answer, "{old:?} {new:?}");
-                        assert!(b == expected, "{old:?} {new:?}");
+                        assert_eq!(build(edition, old, new, &mut b), answer, "{edition} {old:?} {new:?}");
+                        assert!(b == expected, "{edition} {old:?} {new:?}");
                     }
                     let Buffers { marks, targets, sets, .. } = expected;
                     for r in spoilt(&mut random, &Record { start: answer.unwrap()[0], marks, targets, sets }) {
-                        let expected = conditions::check(&old, &new, &r).map(|_| ());
-                        assert_eq!(checked(&old, &new, &r), expected, "{old:?} {new:?} {r:?}");
+                        let expected = conditions::check(edition, old, new, &r).map(|_| ());
+                        assert_eq!(check(edition, old, new, &r), expected, "{edition} {old:?} {new:?} {r:?}");
                     }
                 }
             }

@@ -23,7 +23,7 @@ pub enum Printer {
     Formatted,
 }
 
-/// The same program in plain Rust: old.csv and new.csv of the folder it is run in.
+/// The same program in plain Rust, in edition 1: old.csv and new.csv of the folder it is run in.
 pub fn plain_program(printer: Printer) {
     let mut charts = Vec::new();
     for (which, name) in ["old.csv", "new.csv"].iter().enumerate() {
@@ -40,7 +40,7 @@ pub fn plain_program(printer: Printer) {
         }
     }
     let mut b = Buffers { marks: vec![0; 4160], targets: vec![0; 8192], sets: vec![0; 4096], waiting: vec![0; 4096] };
-    let summary = plain_build::build::<true>(&charts[0], &charts[1], &mut b).unwrap();
+    let summary = plain_build::build::<true>(1, &charts[0], &charts[1], &mut b).unwrap();
     let out = io::stdout().lock();
     match printer {
         Printer::Digits => digits(&charts[1], summary, &b, out),
@@ -154,7 +154,7 @@ mod tests {
             for _ in 0..cases(if sort == Sort::Wide { 4 } else { 50 }) {
                 let (old, new) = drawn::pair(&mut random, sort);
                 let mut b = Buffers { marks: vec![0; 4160], targets: vec![0; 8192], sets: vec![0; 4096], waiting: vec![0; 4096] };
-                let [start, open, kept, covered] = plain_build::build::<true>(&old, &new, &mut b).unwrap();
+                let [start, open, kept, covered] = plain_build::build::<true>(1, &old, &new, &mut b).unwrap();
                 let expected = algorithms::printed(&new, start, [open, kept, covered], &b.marks, &b.targets).join("\r\n") + "\r\n";
                 let mut out = [Vec::new(), Vec::new()];
                 digits(&new, [start, open, kept, covered], &b, &mut out[0]).unwrap();
