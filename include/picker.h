@@ -54,10 +54,10 @@ extern "C" {
 #define PICKER_NEW 1
 
 /* Editions of the detector, as picker_build and picker_check take them: by which rules the old chart keeps up with the
- * new one. The second is the first with two more (docs/REFERENCE.md): where both charts write the same variable
- * otherwise, both move; and where the new alarm is met, the old one is looked for behind the old assignments that
- * follow. Mostly it keeps the same places or fewer, now and then more. A covered run says the same in both. A RECORD
- * DOES NOT TELL ITS EDITION, AND HAS TO BE CHECKED BY THE ONE THAT BUILT IT: the other may refuse it
+ * new one. Two rules of the second are others than in the first (docs/REFERENCE.md, section 9): where both charts write
+ * the same variable otherwise, both move; and where the new alarm is met without the old one, the old one is looked for
+ * behind the old assignments that follow. It can keep fewer places, and now and then more. A covered run says the same
+ * in both. A RECORD DOES NOT TELL ITS EDITION, AND HAS TO BE CHECKED BY THE ONE THAT BUILT IT: the other may refuse it
  * (PICKER_BAD_RECORD). One that either passes can be relied upon, whichever built it. */
 #define PICKER_FIRST_EDITION 1
 #define PICKER_SECOND_EDITION 2

@@ -21,8 +21,8 @@ use Rattle.chart.specs.Faultless.{FaultlessChart}
 use Rattle.align.specs.declared.spots.Spot.{Spot}
 use Rattle.sets.specs.Sets.{alone, joined, with, without, meets}
 use Rattle.align.specs.Reads.{readSet}
-use Rattle.align.specs.Steps.{find, isImplied, along, matching, matched, rewritten, rowsAt, atAlarm, writer, unequal, assigned, onward, follow, followed, counterpart, assumed, moved, fair, atBoth, rescued, arrived, step}
-use Rattle.align.proofs.Onto.{same→eq, Among, found, writer-writes}
+use Rattle.align.specs.Steps.{find, isImplied, along, matching, matched, rewritten, rowsAt, atAlarm, writingRow, unequal, assigned, onward, follow, followed, counterpart, assumed, moved, fair, atBoth, rescued, arrived, step}
+use Rattle.align.proofs.Onto.{same→eq, Among, found, writing-row-writes}
 use Rattle.chart.proofs.Parts.{row-to}
 use Rattle.chart.specs.Compared.{Compared, isSecond, headsOf}
 
@@ -70,22 +70,22 @@ matched-assumes rows o k t e = on-at _ (matching-assumes rows o t) (sym e) .fits
 
 -- ---- line 10
 module _ (X : Compared) (h : Spot) (a : ℕ) {s : ℕ} (z : s ≡ with (h .set) a) where
-  pub unequal-first : isSecond X ≡ false → record { place = h .place; set = s } ≡ unequal X h a (writer X (h .place) a)
-  unfolding unequal writer
+  pub unequal-first : isSecond X ≡ false → record { place = h .place; set = s } ≡ unequal X h a (writingRow X (h .place) a)
+  unfolding unequal writingRow
   unequal-first b = (λ j. record { place = h .place; set = z j }) ∙ ap (unequal X h a) (sym (pick-false (isSecond X) _ none b))
 
   -- footnote 6
   module _ {rows : List ℕ} {x : Option ℕ} (b : isSecond X ≡ true) (r : rows ≡ rowsAt X (h .place)) (e : x ≡ find rows (λ o. isAssignment o && eqb (o .a) a)) where
-    wrote : x ≡ writer X (h .place) a
-    unfolding writer
+    wrote : x ≡ writingRow X (h .place) a
+    unfolding writingRow
     wrote = e ∙ ap (λ (rows : List ℕ). find rows (λ o. isAssignment o && eqb (o .a) a)) r ∙ sym (pick-true (isSecond X) _ none b)
 
-    pub unequal-both : {k : ℕ} {t : OldPlace} → x ≡ some k → t .0 ≡ to rows k → record { place = t; set = s } ≡ unequal X h a (writer X (h .place) a)
+    pub unequal-both : {k : ℕ} {t : OldPlace} → x ≡ some k → t .0 ≡ to rows k → record { place = t; set = s } ≡ unequal X h a (writingRow X (h .place) a)
     unfolding unequal
     unequal-both {k} q p =
         (λ j. record { place = record { 0 = (p ∙ ap (λ (rows : List ℕ). to rows k) r) j }; set = z j }) ∙ ap (unequal X h a) (sym (sym wrote ∙ q))
 
-    pub unequal-alone : x ≡ none → record { place = h .place; set = s } ≡ unequal X h a (writer X (h .place) a)
+    pub unequal-alone : x ≡ none → record { place = h .place; set = s } ≡ unequal X h a (writingRow X (h .place) a)
     unfolding unequal
     unequal-alone q = (λ j. record { place = h .place; set = z j }) ∙ ap (unequal X h a) (sym (sym wrote ∙ q))
 
@@ -101,10 +101,10 @@ module _ (X : Compared) (h : Spot) (o : Operation) {rows : List ℕ} {x : Option
       (λ j. record { place = record { 0 = (p ∙ ap (λ (rows : List ℕ). to rows k) r) j }; set = (z ∙ ap (rewritten (h .set)) i) j })
       ∙ ap (assigned X h o) (sym (sym sought ∙ q))
 
-  pub assigned-unequal : {a : ℕ} {s : Spot} → x ≡ none → a ≡ o .a → s ≡ unequal X h a (writer X (h .place) a)
+  pub assigned-unequal : {a : ℕ} {s : Spot} → x ≡ none → a ≡ o .a → s ≡ unequal X h a (writingRow X (h .place) a)
       → s ≡ assigned X h o (find (rowsAt X (h .place)) (λ o′. same o′ o))
   unfolding assigned
-  assigned-unequal q i z = z ∙ ap (λ (a : ℕ). unequal X h a (writer X (h .place) a)) i ∙ ap (assigned X h o) (sym (sym sought ∙ q))
+  assigned-unequal q i z = z ∙ ap (λ (a : ℕ). unequal X h a (writingRow X (h .place) a)) i ∙ ap (assigned X h o) (sym (sym sought ∙ q))
 
 -- a place that a row of a faultless chart leads to is one of 64
 pub part-below : (C : Chart) → FaultlessChart C → (p k : ℕ) → k < size (leaving (C .table) p) → to (leaving (C .table) p) k < 64
@@ -153,7 +153,7 @@ module _ (X : Compared) (F : FaultlessChart (X .old)) where
 
   assigned-below : (h : Spot) (o : Operation) → Below h → (x : Option ℕ) → OnSome (Among (rowsAt X (h .place)) (λ o. Unit {0})) x → Below (assigned X h o x)
   unfolding assigned
-  assigned-below h o b none q = unequal-below h (o .a) b (writer X (h .place) (o .a)) (on-map _ _ (writer X (h .place) (o .a)) (λ k A. A .inside) (writer-writes X (h .place) (o .a)))
+  assigned-below h o b none q = unequal-below h (o .a) b (writingRow X (h .place) (o .a)) (on-map _ _ (writingRow X (h .place) (o .a)) (λ k A. A .inside) (writing-row-writes X (h .place) (o .a)))
   assigned-below h o b (some k) q = part-below (X .old) F (h .place .0) k (q .inside)
 
   pub moved-below : (h : Spot) (o : Operation) → Below h → OnSome Below (moved X h o)

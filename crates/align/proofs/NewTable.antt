@@ -14,7 +14,7 @@ use Rattle.chart.specs.Charts.{Chart, charted}
 use Rattle.chart.specs.Compared.{Compared, both, isSecond, headsOf}
 use Rattle.align.specs.declared.spots.Spot.{Spot}
 use Rattle.sets.specs.Sets.{alone, with, meets}
-use Rattle.align.specs.Steps.{find, rowsAt, writer, unequal, assigned, onward, follow, followed, counterpart, assumed, moved, fair, atBoth, rescued, arrived, step}
+use Rattle.align.specs.Steps.{find, rowsAt, writingRow, unequal, assigned, onward, follow, followed, counterpart, assumed, moved, fair, atBoth, rescued, arrived, step}
 
 module _ (edition : ℕ) (old : Chart) (new : Head) (t u : List ℕ) where
   abbrev X : Compared
@@ -24,8 +24,8 @@ module _ (edition : ℕ) (old : Chart) (new : Head) (t u : List ℕ) where
   Y = both edition old (charted new u)
 
   assigned-same : (h : Spot) (o : Operation) (x : Option ℕ) → assigned X h o x ≡ assigned Y h o x
-  unfolding assigned unequal writer
-  assigned-same h o none = unequal-same (writer X (h .place) (o .a))
+  unfolding assigned unequal writingRow
+  assigned-same h o none = unequal-same (writingRow X (h .place) (o .a))
     where
       unequal-same : (x : Option ℕ) → unequal X h (o .a) x ≡ unequal Y h (o .a) x
       unequal-same none = refl

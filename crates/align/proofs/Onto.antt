@@ -27,7 +27,7 @@ use Rattle.chart.specs.Runs.{lets, after}
 use Rattle.align.specs.declared.spots.Spot.{Spot}
 use Rattle.sets.specs.Sets.{alone, with, without, meets}
 use Rattle.align.specs.Reads.{readSet}
-use Rattle.align.specs.Steps.{find, isImplied, along, matching, matched, rewritten, rowsAt, atAlarm, writer, unequal, assigned, onward, follow, followed, counterpart, assumed, moved, fair, atBoth, rescued, arrived, step}
+use Rattle.align.specs.Steps.{find, isImplied, along, matching, matched, rewritten, rowsAt, atAlarm, writingRow, unequal, assigned, onward, follow, followed, counterpart, assumed, moved, fair, atBoth, rescued, arrived, step}
 use Rattle.sets.proofs.Sets.{with-here}
 use Rattle.chart.proofs.Conflicts.{operands}
 use Rattle.chart.proofs.Parts.{row-of, row-same}
@@ -77,9 +77,9 @@ module _ (X : Compared) where
   Writes a o = (isAssignment o ≡ true) × (o .a ≡ a)
 
   -- footnote 6: the old row that is found is one
-  pub writer-writes : (p : OldPlace) (a : ℕ) → OnSome (Among (rowsAt X p) (Writes a)) (writer X p a)
-  unfolding writer
-  writer-writes p a =
+  pub writing-row-writes : (p : OldPlace) (a : ℕ) → OnSome (Among (rowsAt X p) (Writes a)) (writingRow X p a)
+  unfolding writingRow
+  writing-row-writes p a =
       picked _ (isSecond X) _ none
       (λ t. found (rowsAt X p) (λ o. isAssignment o && eqb (o .a) a) (λ o e. let z = and-true (isAssignment o) _ e in (z .0, eqb-true (o .a) a (z .1))))
       (λ t. tt)
@@ -105,7 +105,7 @@ module _ (X : Compared) where
     assigned-onto : (h : Spot) (o : Operation) → isAssignment o ≡ true → o .a < 64 → (x : Option ℕ) → OnSome (Among (rowsAt X (h .place)) (λ o′. same o′ o ≡ true)) x
         → Onto (after o w) (assigned X h o x) → Onto w h
     unfolding assigned rewritten
-    assigned-onto h o t l none q K = unequal-onto h o t (writer X (h .place) (o .a)) (writer-writes (h .place) (o .a)) K
+    assigned-onto h o t l none q K = unequal-onto h o t (writingRow X (h .place) (o .a)) (writing-row-writes (h .place) (o .a)) K
     assigned-onto h o t l (some k) q K =
         record {
           leads = λ v A.

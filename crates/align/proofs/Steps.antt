@@ -16,10 +16,10 @@ use Rattle.chart.specs.Faultless.{FaultlessChart}
 use Rattle.align.specs.declared.spots.Spot.{Spot}
 use Rattle.sets.specs.Sets.{alone, with, without, meets}
 use Rattle.align.specs.Reads.{readSet}
-use Rattle.align.specs.Steps.{find, isImplied, along, matching, matched, rewritten, rowsAt, atAlarm, writer, unequal, assigned, onward, follow, followed, counterpart, assumed, moved, fair, atBoth, rescued, arrived, step}
+use Rattle.align.specs.Steps.{find, isImplied, along, matching, matched, rewritten, rowsAt, atAlarm, writingRow, unequal, assigned, onward, follow, followed, counterpart, assumed, moved, fair, atBoth, rescued, arrived, step}
 use Rattle.chart.proofs.Parts.{row-to, row-a}
 use Rattle.sets.proofs.Sets.{with-small, without-small}
-use Rattle.align.proofs.Onto.{writer-writes}
+use Rattle.align.proofs.Onto.{writing-row-writes}
 use Rattle.chart.specs.Compared.{Compared, isSecond, headsOf}
 
 -- the place is below b, and the set has 64 variables at most
@@ -51,7 +51,7 @@ module _ (X : Compared) (F : FaultlessChart (X .old)) (b : ℕ) (wide : X .old .
 
   assigned-fits : (h : Spot) (o : Operation) → o .a < 64 → (x : Option ℕ) → OnSome (λ k. k < size (rowsAt X (h .place))) x → Fits b h → Fits b (assigned X h o x)
   unfolding assigned
-  assigned-fits h o l none q f = unequal-fits h (o .a) l (writer X (h .place) (o .a)) (on-map _ _ (writer X (h .place) (o .a)) (λ k A. A .inside) (writer-writes X (h .place) (o .a))) f
+  assigned-fits h o l none q f = unequal-fits h (o .a) l (writingRow X (h .place) (o .a)) (on-map _ _ (writingRow X (h .place) (o .a)) (λ k A. A .inside) (writing-row-writes X (h .place) (o .a))) f
   assigned-fits h o l (some k) q f = record { place = to-fits (h .place) k q; set = rewritten-small (h .set) o l (f .set) }
 
   along-fits : (t : ℕ) (p : OldPlace) (x : Option ℕ) → OnSome (λ k. k < size (rowsAt X p)) x → t < 2 ^ 64 → OnSome (Fits b) (along t (rowsAt X p) x)

@@ -17,7 +17,7 @@ use Rattle.chart.specs.Compared.{Compared, isSecond, headsOf}
 use Rattle.align.specs.declared.spots.Spot.{Spot}
 use Rattle.sets.specs.Sets.{alone, with, meets}
 use Rattle.align.specs.Reads.{readSet}
-use Rattle.align.specs.Steps.{find, oldTo, along, matched, rowsAt, atAlarm, writer, unequal, assigned, onward, follow, followed, counterpart, assumed, moved, fair, atBoth, rescued, arrived, step}
+use Rattle.align.specs.Steps.{find, oldTo, along, matched, rowsAt, atAlarm, writingRow, unequal, assigned, onward, follow, followed, counterpart, assumed, moved, fair, atBoth, rescued, arrived, step}
 
 abbrev at : OldPlace → ℕ → Spot
 at p s = record { place = p; set = s }
@@ -69,7 +69,7 @@ module _ (X : Compared) where
 
   -- where lines 5 to 10 lead, with the equal row if there is one
   written : OldPlace → ℕ → Option ℕ → OldPlace
-  written p a none = beyond p (writer X p a)
+  written p a none = beyond p (writingRow X p a)
   written p a (some k) = oldTo (rowsAt X p) k
 
   -- lines 5 to 18
@@ -85,7 +85,7 @@ module _ (X : Compared) where
       unequal-place (some k) = refl
 
       assigned-place : (k : Option ℕ) → assigned X (at p s) o k .place ≡ written p (o .a) k
-      assigned-place none = unequal-place (writer X p (o .a))
+      assigned-place none = unequal-place (writingRow X p (o .a))
       assigned-place (some k) = refl
 
       on : {x y : Option Spot} → Like x y → OnSome (λ (h : Spot). h .place ≡ past p o y) (elim x [ none ↦ none | some h′ ↦ assumed X h′ o (counterpart X (h′ .place) o) ])

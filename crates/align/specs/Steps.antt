@@ -74,8 +74,8 @@ module _ (X : Compared) where
 
   -- ---- line 10, an assignment to variable a without an equal row in the old chart
   -- "where an old row at the pair writes the same variable", in edition 2 (document 02, #104; footnote 6)
-  unfoldable pub writer : OldPlace → ℕ → Option ℕ
-  writer p a =
+  unfoldable pub writingRow : OldPlace → ℕ → Option ℕ
+  writingRow p a =
       elim (isSecond X) [
         | true ↦ find (rowsAt p) (λ o. isAssignment o && eqb (o .a) a)
         | false ↦ none
@@ -91,7 +91,7 @@ module _ (X : Compared) where
   -- ---- lines 6 to 10, an assignment, with its equal row in the old chart if there is one
   unfoldable pub assigned : Spot → Operation → Option ℕ → Spot
   -- "Assignment, no such row" (line 10), "a new assignment without an equal old row" (document 02, #104)
-  assigned h o none = unequal h (o .a) (writer (h .place) (o .a))
+  assigned h o none = unequal h (o .a) (writingRow (h .place) (o .a))
   -- "Assignment, equal row p→p2 in the old chart: go to (p2, q2)." (lines 6 and 9)
   assigned h o (some k) = record { place = oldTo (rowsAt (h .place)) k; set = rewritten (h .set) o }
 

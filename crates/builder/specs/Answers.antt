@@ -26,8 +26,8 @@ abbrev pub lent : Buffers → Test
 lent g = eq (length (g .waiting)) 4096 and sized (graphIn g)
 
 module _ (X : Compared) (g : Buffers) where
-  -- the refusal that is due, if any: "21, a lent length differs from the stated one", and what the charts' authors can
-  -- cause
+  -- the refusal that is due, if any: "21, a lent length differs from the stated one", "Any other edition is 21"
+  -- (document 02, #104), and what the charts' authors can cause
   unfoldable pub refusal : Option Refusal
   refusal = judged (bool (lent g)) X
 

@@ -11,7 +11,7 @@ use Rattle.chart.specs.declared.charts.Heads.{Heads}
 use Rattle.chart.specs.Charts.{Chart, charted}
 
 -- "both charts": variables "are shared by number between both charts", places are not. "Callers of builder or checker
--- name edition 1 or 2" (document 02, #104): only the aligned step looks at it
+-- name edition 1 or 2" (document 02, #104): beside the refusal of any other, only the aligned step looks at it
 pub record Compared : Type 0 where
   pub edition : ℕ
   pub old : Chart

@@ -19,7 +19,7 @@ use Rattle.chart.specs.Faultless.{FaultlessChart}
 use Rattle.align.specs.declared.spots.Spot.{Spot}
 use Rattle.sets.specs.Sets.{alone, with, without, meets}
 use Rattle.align.specs.Reads.{readSet}
-use Rattle.align.specs.Steps.{find, oldTo, matching, matched, rewritten, rowsAt, atAlarm, writer, unequal, assigned, onward, follow, followed, counterpart, assumed, moved}
+use Rattle.align.specs.Steps.{find, oldTo, matching, matched, rewritten, rowsAt, atAlarm, writingRow, unequal, assigned, onward, follow, followed, counterpart, assumed, moved}
 use Rattle.sets.proofs.Sets.{In, alone-here, alone-only, with-here, with-old, with-only, meet-some, meet-none, alone-small, with-small}
 use Rattle.align.proofs.Onto.{same→eq}
 use Rattle.align.proofs.Moves.{follow-ends, follow-twice, follow-on, moved-assigned, moved-twice, moved-assumed}
@@ -194,12 +194,12 @@ module _ (X : Compared) (F : FaultlessChart (X .old)) (words : Words (X .old .ta
               ap₂ at (one-assignment X F words (L .edge) (row-edge X ℓ₁ k (r .0)) (L .assignment) .1) e
 
       -- line 10 and footnote 6: none
-      by-none : (h : Spot) → NoEqual X ℓ₁ Vδ o → ((x : Option ℕ) → writer X ℓ₁ (o .a) ≡ x → h ≡ unequal X (at ℓ₁ Vδ) (o .a) x) → some h ≡ moved X (at ℓ₁ Vδ) o
+      by-none : (h : Spot) → NoEqual X ℓ₁ Vδ o → ((x : Option ℕ) → writingRow X ℓ₁ (o .a) ≡ x → h ≡ unequal X (at ℓ₁ Vδ) (o .a) x) → some h ≡ moved X (at ℓ₁ Vδ) o
       unfolding assigned
       by-none h n e = moved-assigned X (at ℓ₁ Vδ) o (n .assignment) (go (find (rowsAt X ℓ₁) (λ o′. same o′ o)) refl)
         where
           go : (x : Option ℕ) → find (rowsAt X ℓ₁) (λ o′. same o′ o) ≡ x → h ≡ assigned X (at ℓ₁ Vδ) o x
-          go none f = e (writer X ℓ₁ (o .a)) refl
+          go none f = e (writingRow X ℓ₁ (o .a)) refl
           go (some k) f =
               let r = an-edge X ℓ₁ (λ o′. same o′ o) k f in
               absurd
@@ -207,13 +207,13 @@ module _ (X : Compared) (F : FaultlessChart (X .old)) (words : Words (X .old .ta
               (record { assignment = n .assignment; edge = subst (λ (o′ : Operation). InG X ℓ₁ o′ (oldTo (rowsAt X ℓ₁) k)) (same→eq (operation (rowsAt X ℓ₁) k) o (r .1)) (row-edge X ℓ₁ k (r .0)) }))
 
       -- line 10: and none that writes the same
-      by-unwritten : (W : ℕ) → W ≡ with Vδ (o .a) → ((op : Operation) (q : OldPlace) → Footnote6 X ℓ₁ Vδ o op q → ⊥) → (x : Option ℕ) → writer X ℓ₁ (o .a) ≡ x → at ℓ₁ W ≡ unequal X (at ℓ₁ Vδ) (o .a) x
+      by-unwritten : (W : ℕ) → W ≡ with Vδ (o .a) → ((op : Operation) (q : OldPlace) → Footnote6 X ℓ₁ Vδ o op q → ⊥) → (x : Option ℕ) → writingRow X ℓ₁ (o .a) ≡ x → at ℓ₁ W ≡ unequal X (at ℓ₁ Vδ) (o .a) x
       unfolding unequal
       by-unwritten W w n none e = ap (at ℓ₁) w
       by-unwritten W w n (some k) e = absurd (n (operation (rowsAt X ℓ₁) k) (oldTo (rowsAt X ℓ₁) k) (writing-edge X ℓ₁ Vδ o k e))
 
       -- footnote 6: one that does
-      by-written : (q : OldPlace) (W : ℕ) → W ≡ with Vδ (o .a) → (op : Operation) → Footnote6 X ℓ₁ Vδ o op q → (x : Option ℕ) → writer X ℓ₁ (o .a) ≡ x → at q W ≡ unequal X (at ℓ₁ Vδ) (o .a) x
+      by-written : (q : OldPlace) (W : ℕ) → W ≡ with Vδ (o .a) → (op : Operation) → Footnote6 X ℓ₁ Vδ o op q → (x : Option ℕ) → writingRow X ℓ₁ (o .a) ≡ x → at q W ≡ unequal X (at ℓ₁ Vδ) (o .a) x
       unfolding unequal
       by-written q W w op N none e = absurd (no-writing X ℓ₁ Vδ o e op q N)
       by-written q W w op N (some k) e = ap₂ at (one-assignment X F words (N .edge) (writing-edge X ℓ₁ Vδ o k e .edge) (N .assignment) .1) w

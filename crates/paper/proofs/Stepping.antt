@@ -36,7 +36,7 @@ use Rattle.chart.specs.Faultless.{FaultlessChart}
 use Rattle.align.specs.declared.spots.Spot.{Spot}
 use Rattle.sets.specs.Sets.{bit, alone, joined, with, without, meets}
 use Rattle.align.specs.Reads.{readSet}
-use Rattle.align.specs.Steps.{find, oldTo, isImplied, along, matching, matched, rewritten, rowsAt, atAlarm, writer, unequal, assigned, onward, follow, followed, counterpart, assumed, moved}
+use Rattle.align.specs.Steps.{find, oldTo, isImplied, along, matching, matched, rewritten, rowsAt, atAlarm, writingRow, unequal, assigned, onward, follow, followed, counterpart, assumed, moved}
 use Rattle.sets.proofs.Sets.{In, bit-none, alone-here, alone-only, with-here, with-old, with-only, without-in, without-kept, meet-some, meet-none, alone-small, with-small, without-small}
 use Rattle.align.proofs.Onto.{same→eq, found}
 use Rattle.align.proofs.Moves.{onward-below}
@@ -126,35 +126,35 @@ module _ (X : Compared) where
   abbrev pub writes : ℕ → Operation → Bool
   writes a o = isAssignment o && eqb (o .a) a
 
-  pub writer-some : (p : OldPlace) (a k : ℕ) → writer X p a ≡ some k → (X .edition ≡ 2) × (find (rowsAt X p) (writes a) ≡ some k)
-  unfolding writer
-  writer-some p a k e = go (isSecond X) refl e
+  pub writing-row-some : (p : OldPlace) (a k : ℕ) → writingRow X p a ≡ some k → (X .edition ≡ 2) × (find (rowsAt X p) (writes a) ≡ some k)
+  unfolding writingRow
+  writing-row-some p a k e = go (isSecond X) refl e
     where
       go : (b : Bool) → isSecond X ≡ b → _≡_ {A = Option ℕ} (elim b as (λ _. Option ℕ) [ true ↦ find (rowsAt X p) (writes a) | false ↦ none ]) (some k)
           → (X .edition ≡ 2) × (find (rowsAt X p) (writes a) ≡ some k)
       go true t e = (eqb-true (X .edition) 2 t, e)
       go false t e = absurd (Option·none-ne-some k e)
 
-  pub writer-none : (p : OldPlace) (a : ℕ) → writer X p a ≡ none → X .edition ≡ 2 → find (rowsAt X p) (writes a) ≡ none
-  unfolding writer
-  writer-none p a e t = sym (pick-true (isSecond X) (find (rowsAt X p) (writes a)) none (eq-eqb (X .edition) 2 t)) ∙ e
+  pub writing-row-none : (p : OldPlace) (a : ℕ) → writingRow X p a ≡ none → X .edition ≡ 2 → find (rowsAt X p) (writes a) ≡ none
+  unfolding writingRow
+  writing-row-none p a e t = sym (pick-true (isSecond X) (find (rowsAt X p) (writes a)) none (eq-eqb (X .edition) 2 t)) ∙ e
 
   -- the row is an edge that footnote 6 takes
-  pub writing-edge : (p : OldPlace) (s : ℕ) (o : Operation) (k : ℕ) → writer X p (o .a) ≡ some k → Footnote6 X p s o (operation (rowsAt X p) k) (oldTo (rowsAt X p) k)
+  pub writing-edge : (p : OldPlace) (s : ℕ) (o : Operation) (k : ℕ) → writingRow X p (o .a) ≡ some k → Footnote6 X p s o (operation (rowsAt X p) k) (oldTo (rowsAt X p) k)
   writing-edge p s o k e =
-      let w = writer-some p (o .a) k e in
+      let w = writing-row-some p (o .a) k e in
       let r = an-edge p (writes (o .a)) k (w .1) in
       let z = and-true (isAssignment (operation (rowsAt X p) k)) _ (r .1) in
       record { edition = w .0; edge = row-edge p k (r .0); assignment = z .0; same = eqb-true (operation (rowsAt X p) k .a) (o .a) (z .1) }
 
   -- where none was found it takes none
-  pub no-writing : (p : OldPlace) (s : ℕ) (o : Operation) → writer X p (o .a) ≡ none → (op : Operation) (q : OldPlace) → Footnote6 X p s o op q → ⊥
+  pub no-writing : (p : OldPlace) (s : ℕ) (o : Operation) → writingRow X p (o .a) ≡ none → (op : Operation) (q : OldPlace) → Footnote6 X p s o op q → ⊥
   no-writing p s o e op q W =
-      T-true (sym (no-edge p (writes (o .a)) (writer-none p (o .a) e (W .edition)) op q (W .edge)) ∙ rw (W .assignment, W .same, eq-eqb (o .a) (o .a) refl))
+      T-true (sym (no-edge p (writes (o .a)) (writing-row-none p (o .a) e (W .edition)) op q (W .edge)) ∙ rw (W .assignment, W .same, eq-eqb (o .a) (o .a) refl))
 
   -- ---- lines 5 to 10
   module _ (p : OldPlace) (s : ℕ) (o : Operation) (b : s < 2 ^ 64) (a : o .a < 64) (t : isAssignment o ≡ true) where
-    lines10 : NoEqual X p s o → (x : Option ℕ) → writer X p (o .a) ≡ x → Lines5to18 X p s o (some (unequal X (record { place = p; set = s }) (o .a) x))
+    lines10 : NoEqual X p s o → (x : Option ℕ) → writingRow X p (o .a) ≡ x → Lines5to18 X p s o (some (unequal X (record { place = p; set = s }) (o .a) x))
     unfolding unequal
     lines10 n none e = line10 n (no-writing p s o e) (is-with s (o .a))
     lines10 n (some k) e = footnote6 n (writing-edge p s o k e) (is-with s (o .a))
@@ -163,7 +163,7 @@ module _ (X : Compared) where
     unfolding assigned rewritten
     lines5to10 none e =
         lines10 (record { assignment = t; none = λ q E. T-true (sym (no-edge p (λ o′. same o′ o) e o q (E .edge)) ∙ same-self o) })
-        (writer X p (o .a)) refl
+        (writingRow X p (o .a)) refl
     lines5to10 (some k) e = go (meets s (readSet o)) refl
       where
         edge : InG X p o (oldTo (rowsAt X p) k)

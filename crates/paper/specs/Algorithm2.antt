@@ -117,7 +117,8 @@ module _ (X : Compared) where
 
   -- footnote 8, in edition 2: the implementation "first searches for an error location of the original program in its
   -- follow-up sequence of assignments": the loop of lines 12 to 14 comes from ℓ to ℓ_err, and V_diff gains what is
-  -- written. "a place met twice ends the search" (document 02, #104): from there the loop does not come to ℓ_err
+  -- written. "a place met twice ends the search" (document 02, #104): in a faultless chart the loop does not come to
+  -- ℓ_err from there (`search-rescues`, proofs/Process.antt)
   pub record Footnote8 (ℓ : OldPlace) (Vdiff Vdiff′ : ℕ) : Type 0 where
     pub edition : X .edition ≡ 2
     pub been : SetOf OldPlace
@@ -146,7 +147,8 @@ module _ (X : Compared) where
   abbrev pub ℓ₂′ : NewPlace → ℕ → NewPlace
   ℓ₂′ q r = record { 0 = to (edges q) r }
 
-  -- the calls of PROCESS in line 16; and in lines 9, 10, 17 and 18: from a state to the one that the call leaves
+  -- the calls of PROCESS in line 16, or where lines 12 to 14 are cut; and in lines 9, 10 (and its footnote 6), 17 and
+  -- 18: from a state to the one that the call leaves
   abbrev pub Called : State → Pair → ℕ → Option Spot → State → Type 0
   Called s n r none t = Process s n r (indicator (ℓ₂′ (n .new) r)) 0 t
   Called s n r (some h) t = Process s n r (aligned (pair (h .place) (ℓ₂′ (n .new) r))) (h .set) t

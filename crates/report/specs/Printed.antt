@@ -58,7 +58,7 @@ abbrev pub orRefusal : Answer (List ℕ) → List ℕ
 orRefusal (given bytes) = bytes
 orRefusal (refused r) = refusalLine r
 
--- what is printed of the condition that an edition builds, by the bytes of both files
+-- what is printed of the condition that edition 1 or 2 builds, by the bytes of both files
 unfoldable pub printedIn : ℕ → List ℕ → List ℕ → List ℕ
 printedIn edition old new = orRefusal (mapped conditionOf (bothRead edition old new))
 

@@ -49,7 +49,7 @@ pub R : Record
 R = recordOf 0 (set (set (set (replicate 4160 0) 0 1) 65 3) 130 4) (set (set (replicate 8192 65535) 0 65) 130 130) (replicate 4096 0)
 
 pub is-built : recorded X ≡ R
-unfolding R base-options.firstOf base-repeat.repeated base-walks.pass base-walks.firstFrom chart-charts.canBeTaken chart-charts.rowsWhere chart-charts.leaving operations-operations.kind operations-operations.operandB operations-operations.assignedC operations-operations.operandC operations-operations.reads operations-operations.same operations-trials.neverHolds sets-sets.alone sets-sets.joined sets-sets.with sets-sets.without sets-sets.meets sets-sets.holdsAll sets-sets.setOf align-reads.readSet align-steps.find align-steps.along align-steps.matching align-steps.matched align-steps.rewritten align-steps.writer align-steps.unequal align-steps.assigned align-steps.onward align-steps.follow align-steps.followed align-steps.counterpart align-steps.assumed align-steps.moved align-steps.atBoth align-steps.rescued align-steps.arrived align-steps.step graph-buffers.marked graph-buffers.gone graph-buffers.cleared graph-buffers.untargeted graph-buffers.keep graph-buffers.aim graph-buffers.due graph-buffers.waits graph-buffers.join graph-buffers.unwait detector-turns.lowest detector-turns.next detector-turns.setNow detector-turns.begun detector-turns.stepOf detector-turns.arrived detector-turns.processed detector-turns.rowDone detector-turns.secondDone detector-turns.taken detector-turns.explored marker-marks.plainMark marker-marks.plainMarks marker-marks.inQ marker-marks.opening marker-marks.nextOpening marker-marks.allOpened marker-marks.transitions marker-marks.cover marker-marks.covered marker-marks.allCovered marker-marks.finalMarks condition-builds.redirected condition-builds.finalTargets condition-builds.alone condition-builds.lone condition-builds.finished condition-builds.built condition-builds.startOf condition-builds.recorded
+unfolding R base-options.firstOf base-repeat.repeated base-walks.pass base-walks.firstFrom chart-charts.canBeTaken chart-charts.rowsWhere chart-charts.leaving operations-operations.kind operations-operations.operandB operations-operations.assignedC operations-operations.operandC operations-operations.reads operations-operations.same operations-trials.neverHolds sets-sets.alone sets-sets.joined sets-sets.with sets-sets.without sets-sets.meets sets-sets.holdsAll sets-sets.setOf align-reads.readSet align-steps.find align-steps.along align-steps.matching align-steps.matched align-steps.rewritten align-steps.writingRow align-steps.unequal align-steps.assigned align-steps.onward align-steps.follow align-steps.followed align-steps.counterpart align-steps.assumed align-steps.moved align-steps.atBoth align-steps.rescued align-steps.arrived align-steps.step graph-buffers.marked graph-buffers.gone graph-buffers.cleared graph-buffers.untargeted graph-buffers.keep graph-buffers.aim graph-buffers.due graph-buffers.waits graph-buffers.join graph-buffers.unwait detector-turns.lowest detector-turns.next detector-turns.setNow detector-turns.begun detector-turns.stepOf detector-turns.arrived detector-turns.processed detector-turns.rowDone detector-turns.secondDone detector-turns.taken detector-turns.explored marker-marks.plainMark marker-marks.plainMarks marker-marks.inQ marker-marks.opening marker-marks.nextOpening marker-marks.allOpened marker-marks.transitions marker-marks.cover marker-marks.covered marker-marks.allCovered marker-marks.finalMarks condition-builds.redirected condition-builds.finalTargets condition-builds.alone condition-builds.lone condition-builds.finished condition-builds.built condition-builds.startOf condition-builds.recorded
 is-built = refl
 
 -- ---- it passes, as all that is built does

@@ -121,7 +121,7 @@ all-show (c ∷ l) t = let (h, r) = T-and (test c) (tests l) t in one (shows c h
 
 -- every test passes, by computing with the definitions
 computed : tests worked ≡ true
-unfolding worked tests test same is fit bytes base-options.firstOf base-repeat.repeated base-walks.pass base-walks.firstFrom base-walks.count base-tests.someBelow chart-charts.canBeTaken chart-charts.rowsWhere chart-charts.leaving chart-faults.countFault chart-faults.alarmFault chart-faults.rowFault chart-faults.clash chart-faults.conflictFault chart-faults.rowsFault chart-faults.fault operations-operations.kind operations-operations.operandB operations-operations.assignedC operations-operations.operandC operations-operations.operandsFit operations-operations.reads operations-operations.same operations-operations.value operations-operations.related operations-operations.holds operations-trials.seats operations-trials.trial operations-trials.shown operations-trials.together operations-trials.neverHolds text-fields.digitOf text-fields.digits text-fields.value text-fields.kind text-fields.judged text-fields.bounded text-fields.ended text-fields.numberOf text-fields.numberAt text-fields.followed text-fields.fieldAt text-fields.lineEnd text-fields.closed text-fields.missing text-fields.itemAt text-spans.fieldsAt text-texts.whole text-texts.rowsAt text-texts.parsed text-texts.readText text-written.digitsIn text-written.digitsOf text-written.decimal text-written.closing text-written.fieldsText sets-sets.alone sets-sets.joined sets-sets.with sets-sets.without sets-sets.meets sets-sets.holdsAll sets-sets.setOf align-reads.readSet align-steps.find align-steps.along align-steps.matching align-steps.matched align-steps.rewritten align-steps.writer align-steps.unequal align-steps.assigned align-steps.onward align-steps.follow align-steps.followed align-steps.counterpart align-steps.assumed align-steps.moved align-steps.atBoth align-steps.rescued align-steps.arrived align-steps.step graph-buffers.marked graph-buffers.gone graph-buffers.cleared graph-buffers.untargeted graph-buffers.keep graph-buffers.aim graph-buffers.due graph-buffers.waits graph-buffers.join graph-buffers.unwait detector-turns.lowest detector-turns.next detector-turns.setNow detector-turns.begun detector-turns.stepOf detector-turns.arrived detector-turns.processed detector-turns.rowDone detector-turns.secondDone detector-turns.taken detector-turns.explored marker-marks.plainMark marker-marks.plainMarks marker-marks.inQ marker-marks.opening marker-marks.nextOpening marker-marks.allOpened marker-marks.transitions marker-marks.cover marker-marks.covered marker-marks.allCovered marker-marks.finalMarks condition-builds.redirected condition-builds.finalTargets condition-builds.alone condition-builds.lone condition-builds.finished condition-builds.built condition-builds.startOf condition-builds.recorded condition-builds.summary records-records.readTarget report-lines.line report-lines.refusalLine report-transitions.rowsBelow report-transitions.firstRow report-transitions.transition report-transitions.ofPair report-transitions.ofPairs report-transitions.remaining report-printed.bothOf report-printed.bothRead report-printed.summaryLine report-printed.transitions report-printed.condition report-printed.conditionOf report-printed.printedIn report-printed.printed
+unfolding worked tests test same is fit bytes base-options.firstOf base-repeat.repeated base-walks.pass base-walks.firstFrom base-walks.count base-tests.someBelow chart-charts.canBeTaken chart-charts.rowsWhere chart-charts.leaving chart-faults.countFault chart-faults.alarmFault chart-faults.rowFault chart-faults.clash chart-faults.conflictFault chart-faults.rowsFault chart-faults.fault operations-operations.kind operations-operations.operandB operations-operations.assignedC operations-operations.operandC operations-operations.operandsFit operations-operations.reads operations-operations.same operations-operations.value operations-operations.related operations-operations.holds operations-trials.seats operations-trials.trial operations-trials.shown operations-trials.together operations-trials.neverHolds text-fields.digitOf text-fields.digits text-fields.value text-fields.kind text-fields.judged text-fields.bounded text-fields.ended text-fields.numberOf text-fields.numberAt text-fields.followed text-fields.fieldAt text-fields.lineEnd text-fields.closed text-fields.missing text-fields.itemAt text-spans.fieldsAt text-texts.whole text-texts.rowsAt text-texts.parsed text-texts.readText text-written.digitsIn text-written.digitsOf text-written.decimal text-written.closing text-written.fieldsText sets-sets.alone sets-sets.joined sets-sets.with sets-sets.without sets-sets.meets sets-sets.holdsAll sets-sets.setOf align-reads.readSet align-steps.find align-steps.along align-steps.matching align-steps.matched align-steps.rewritten align-steps.writingRow align-steps.unequal align-steps.assigned align-steps.onward align-steps.follow align-steps.followed align-steps.counterpart align-steps.assumed align-steps.moved align-steps.atBoth align-steps.rescued align-steps.arrived align-steps.step graph-buffers.marked graph-buffers.gone graph-buffers.cleared graph-buffers.untargeted graph-buffers.keep graph-buffers.aim graph-buffers.due graph-buffers.waits graph-buffers.join graph-buffers.unwait detector-turns.lowest detector-turns.next detector-turns.setNow detector-turns.begun detector-turns.stepOf detector-turns.arrived detector-turns.processed detector-turns.rowDone detector-turns.secondDone detector-turns.taken detector-turns.explored marker-marks.plainMark marker-marks.plainMarks marker-marks.inQ marker-marks.opening marker-marks.nextOpening marker-marks.allOpened marker-marks.transitions marker-marks.cover marker-marks.covered marker-marks.allCovered marker-marks.finalMarks condition-builds.redirected condition-builds.finalTargets condition-builds.alone condition-builds.lone condition-builds.finished condition-builds.built condition-builds.startOf condition-builds.recorded condition-builds.summary records-records.readTarget report-lines.line report-lines.refusalLine report-transitions.rowsBelow report-transitions.firstRow report-transitions.transition report-transitions.ofPair report-transitions.ofPairs report-transitions.remaining report-printed.bothOf report-printed.bothRead report-printed.summaryLine report-printed.transitions report-printed.condition report-printed.conditionOf report-printed.printedIn report-printed.printed
 computed = refl
 
 pub worked-cases : Every worked

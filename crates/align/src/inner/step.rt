@@ -8,7 +8,7 @@ ghost use Rattle.operations.specs.Operations.{isKnown, isAssignment, isAssumpti
 ghost use Rattle.chart.specs.Charts.{size, to, operation};
 ghost use Rattle.chart.specs.Compared.{compared};
 ghost use Rattle.chart.specs.inner.Prepared.{Prepared};
-ghost use Rattle.align.specs.Steps.{find, rewritten, writer, unequal, assigned, matched, counterpart, assumed, moved, fair, rescued, arrived, rowsAt, step};
+ghost use Rattle.align.specs.Steps.{find, rewritten, writingRow, unequal, assigned, matched, counterpart, assumed, moved, fair, rescued, arrived, rowsAt, step};
 ghost use Rattle.align.specs.declared.spots.Spot.{Spot};
 ghost use Rattle.align.specs.inner.Told.{told};
 use crate::inner::follow::follow;
@@ -58,7 +58,7 @@ fn unequal<'a>(
     requires { ⌜ h .place .0 < 64 ⌝ }
     requires { ⌜ a < 64 ⌝ }
     ensures { λ r. ⌜ r ≡ unequal (compared heads (now («old_rows» .entry)) (now («new_rows» .entry))) h a
-        (writer (compared heads (now («old_rows» .entry)) (now («new_rows» .entry))) (h .place) a) ⌝ }
+        (writingRow (compared heads (now («old_rows» .entry)) (now («new_rows» .entry))) (h .place) a) ⌝ }
 {
     let p = h.place;
     let set = bits::with(h.set, a);
@@ -244,8 +244,8 @@ fn arrived<'a>(
 }
 
 // The aligned step from an old place and its set by row j of the part. Edition, both heads, the place and the set come
-// apart, each in a register: heads together would be written to memory for each step, and place and set as a spot would
-// be written narrow and read back wide, which stalls.
+// apart: heads together would be gathered in memory for each step, and place and set as a spot would be written narrow
+// and read back wide, which stalls.
 pub fn step<'a>(
     edition: u32,
     old: OldHead,
