@@ -68,6 +68,10 @@ matching-assumes rows o t =
 pub matched-assumes : (rows : List ℕ) (o : Operation) (k : ℕ) → isAssumption o ≡ true → some k ≡ matching rows o → isAssumption (operation rows k) ≡ true
 matched-assumes rows o k t e = on-at _ (matching-assumes rows o t) (sym e) .fits
 
+-- a row that is found by its operation has that operation
+pub same-found : (rows : List ℕ) (o : Operation) (k : ℕ) → some k ≡ find rows (λ o′. same o′ o) → operation rows k ≡ o
+same-found rows o k e = on-at _ (found rows (λ o′. same o′ o) {P = λ o′. o′ ≡ o} (λ o′ t. same→eq o′ o t)) (sym e) .fits
+
 -- ---- line 10
 module _ (X : Compared) (h : Spot) (a : ℕ) {s : ℕ} (z : s ≡ with (h .set) a) where
   pub unequal-first : isSecond X ≡ false → record { place = h .place; set = s } ≡ unequal X h a (writingRow X (h .place) a)

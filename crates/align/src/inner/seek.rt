@@ -6,7 +6,7 @@ ghost use lib.Dec.{eqb};
 ghost use Rattle.operations.specs.Operations.{same, isAssignment, isAssumption};
 ghost use Rattle.operations.specs.Trials.{never, implication};
 ghost use Rattle.chart.specs.Charts.{size, operation};
-ghost use Rattle.align.specs.Steps.{find, isImplied, matching};
+ghost use Rattle.align.specs.Steps.{find, isImplied};
 ghost use Rattle.base.specs.inner.Found.{toldFound};
 use base::Found;
 use chart::inner::rows::a_at;
@@ -72,7 +72,7 @@ fn implies(o: Operation, o2: Operation) -> bool
 }
 
 // The assumption that o implies. Whether some values meet o is asked once, for all rows.
-fn implied(rows: &[u32], o: Operation) -> Found
+pub fn implied(rows: &[u32], o: Operation) -> Found
     ensures { λ r. ⌜ toldFound r ≡ find (now (rows .entry)) (λ o2. isAssumption o2 && isImplied (implication o o2)) ⌝ }
 {
     if assumptions::never(o) {
@@ -86,15 +86,4 @@ fn implied(rows: &[u32], o: Operation) -> Found
         k += 1;
     }
     Found::Nothing
-}
-
-// The row that an assumption, row j of another part, is matched with: the equal one, else the one that it implies.
-pub fn matching(rows: &[u32], part: &[u32], j: usize) -> Found
-    requires { ⌜ j < size (now part) ⌝ }
-    ensures { λ r. ⌜ toldFound r ≡ matching (now (rows .entry)) (operation (now (part .entry)) j) ⌝ }
-{
-    match same(rows, part, j) {
-        Found::At(k) => Found::At(k),
-        Found::Nothing => implied(rows, operation_at(part, j)),
-    }
 }

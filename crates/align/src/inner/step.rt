@@ -124,6 +124,21 @@ fn matched(set: u64, rows: &[u32], k: usize, o: Operation) -> Aligned
     })
 }
 
+// By an assumption whose operation is that of row `equal`: what either row reads is asked for once.
+fn matched_same(set: u64, rows: &[u32], equal: usize) -> Aligned
+    requires { ⌜ (equal < size (now rows)) × (isAssumption (operation (now rows) equal) ≡ true)
+        × (operandsFit (operation (now rows) equal) ≡ true) ⌝ }
+    ensures { λ r. ⌜ told r ≡ matched set (now (rows .entry)) equal (operation (now (rows .entry)) equal) ⌝ }
+{
+    if reads::meets_compared(set, operation_at(rows, equal)) {
+        return Aligned::Failed;
+    }
+    Aligned::To(Spot {
+        place: old_to(rows, equal),
+        set,
+    })
+}
+
 // By a new assumption, once old assignments have been followed.
 fn assumed<'a>(
     heads: Heads,
@@ -148,9 +163,12 @@ fn assumed<'a>(
         return Aligned::To(h);
     }
     let rows = rows_of(old_rows, new_rows, index, Place::Old(p));
-    match seek::matching(rows, part, j) {
-        Found::At(k) => matched(h.set, rows, k, operation_at(part, j)),
-        Found::Nothing => Aligned::To(h),
+    match seek::same(rows, part, j) {
+        Found::At(k) => matched_same(h.set, rows, k),
+        Found::Nothing => match seek::implied(rows, operation_at(part, j)) {
+            Found::At(k) => matched(h.set, rows, k, operation_at(part, j)),
+            Found::Nothing => Aligned::To(h),
+        },
     }
 }
 
@@ -243,20 +261,20 @@ fn arrived<'a>(
     }
 }
 
-// The aligned step from an old place and its set by row j of the part. Edition, both heads, the place and the set come
-// apart: heads together would be gathered in memory for each step, and place and set as a spot would be written narrow
-// and read back wide, which stalls.
+// The aligned step from an old place and its set by row j of the part. Both heads, the place and the set come apart:
+// heads together would be gathered in memory for each step, and place and set as a spot would be written narrow and
+// read back wide, which stalls. What few steps look at comes last, so that registers are left for what all do.
 pub fn step<'a>(
-    edition: u32,
-    old: OldHead,
-    new: NewHead,
-    old_rows: &'a [u32],
-    new_rows: &'a [u32],
-    index: &[u8; 130],
     p: OldPlace,
     set: u64,
+    old: OldHead,
+    old_rows: &'a [u32],
+    new_rows: &'a [u32],
     part: &'a [u32],
     j: usize,
+    index: &[u8; 130],
+    new: NewHead,
+    edition: u32,
 ) -> Aligned
     requires { ⌜ Prepared (compared (record { edition = edition; old = old; new = new }) (now «old_rows»)
         (now «new_rows»)) (now index) ⌝ }

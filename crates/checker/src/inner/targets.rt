@@ -117,16 +117,16 @@ fn joins_step<'a>(
         (operation (now (rows .entry)) k) (record { 0 = to (now (rows .entry)) k })) ⌝ }
 {
     match step(
-        heads.edition,
-        heads.old,
-        heads.new,
-        old_rows,
-        new_rows,
-        index,
         old_of(m),
         sets[m],
+        heads.old,
+        old_rows,
+        new_rows,
         rows,
         k,
+        index,
+        heads.new,
+        heads.edition,
     ) {
         Aligned::To(h) => joins(marks, sets, new_to(rows, k), t, h),
         Aligned::Failed => false,

@@ -231,16 +231,16 @@ fn row<'a>(
     let part = rows_of(old_rows, new_rows, index, Place::New(new_of(n)));
     if (r < part.len() / 6) & !skip {
         let came = step(
-            heads.edition,
-            heads.old,
-            heads.new,
-            old_rows,
-            new_rows,
-            index,
             old_of(n),
             v,
+            heads.old,
+            old_rows,
+            new_rows,
             part,
             r,
+            index,
+            heads.new,
+            heads.edition,
         );
         process(
             heads.old.alarm,
