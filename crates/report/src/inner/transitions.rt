@@ -6,12 +6,14 @@ ghost use lib.ListN.{length, getD};
 ghost use Rattle.text.specs.inner.Puts.{Put};
 ghost use Rattle.operations.specs.Trials.{neverHolds};
 ghost use Rattle.chart.specs.Charts.{operation, leaving};
+ghost use Rattle.chart.specs.inner.NoneNever.{NoneNever};
 ghost use Rattle.records.specs.Records.{graphOf, readTarget};
 ghost use Rattle.report.specs.Transitions.{firstRow, transition, ofPair};
 ghost use Rattle.report.specs.Portions.{Portioned};
 use crate::inner::lines::put_line;
 use chart::inner::rows::from_at;
 use chart::inner::rows::operation_at;
+use chart::inner::rows::some_never;
 use operations::assumptions::never_holds;
 
 // How far a portion goes: the pair that the next one begins with, and the count of its bytes.
@@ -58,13 +60,14 @@ fn never_row(table: &[u32], place: u32, k: usize) -> bool
 }
 
 // The target, at a pair, of row k of its new place, as a reader takes it: none where the row never holds. Where there
-// is none anyway, the table need not be looked at.
-fn read_target(table: &[u32], targets: &[u16], pair: usize, k: usize) -> u16
+// is none anyway, or the table has no row that never holds, as `some` says, the row is not looked for.
+fn read_target(table: &[u32], targets: &[u16], pair: usize, k: usize, some: bool) -> u16
     requires { ⌜ (pair < 4096) × (k < 2) × (length (now targets) ≡ 8192) ⌝ }
+    requires { ⌜ NoneNever some (now table) ⌝ }
     ensures { λ r. ⌜ r ≡ readTarget (now (table .entry)) (graphOf [] (now (targets .entry)) []) pair k ⌝ }
 {
     let entry = targets[2 * pair + k];
-    if entry == 65535 {
+    if (entry == 65535) | !some {
         return entry;
     }
     if never_row(table, (pair % 64) as u32, k) {
@@ -119,9 +122,10 @@ pub fn put_pair(
     marks: &[u8],
     targets: &[u16],
     pair: usize,
+    some: bool,
 ) -> usize
     requires { ⌜ at + 90 ≤ length (now bytes) ⌝ }
-    requires { ⌜ (pair < 4096) × (length (now table) ≤ 768) ⌝ }
+    requires { ⌜ (pair < 4096) × (length (now table) ≤ 768) × NoneNever some (now table) ⌝ }
     requires { ⌜ (length (now marks) ≡ 4160) × (length (now targets) ≡ 8192) ⌝ }
     ensures { λ r. ⌜ (Put (now (bytes .entry)) at (ofPair (now (table .entry))
         (graphOf (now (marks .entry)) (now (targets .entry)) []) pair (getD (now (marks .entry)) pair 0))
@@ -132,13 +136,14 @@ pub fn put_pair(
         return at;
     }
     let row = first_row(table, (pair % 64) as u32);
-    let one = read_target(table, targets, pair, 0);
+    let one = read_target(table, targets, pair, 0, some);
     let p = put_transition(bytes, at, marks, pair, row, one);
-    let two = read_target(table, targets, pair, 1);
+    let two = read_target(table, targets, pair, 1, some);
     put_transition(bytes, p, marks, pair, row + 1, two)
 }
 
-// The transitions of some pairs from this one on, as far as the bytes have room.
+// The transitions of some pairs from this one on, as far as the bytes have room. Whether some row never holds is asked
+// once, before all pairs: where none does, no pair has to ask it of its rows.
 pub fn put_pairs(
     table: &[u32],
     marks: &[u8],
@@ -151,13 +156,14 @@ pub fn put_pairs(
     ensures { λ r. ⌜ Portioned (now (table .entry)) (graphOf (now (marks .entry)) (now (targets .entry)) [])
         pair (now (bytes .entry)) (now (bytes .exit)) (r .next) (r .count) ⌝ }
 {
+    let some = some_never(table);
     let mut n = pair;
     let mut at = 0;
     while n < 4096 {
         if 934 < at {
             return Extent { next: n, count: at };
         }
-        at = put_pair(bytes, at, table, marks, targets, n);
+        at = put_pair(bytes, at, table, marks, targets, n, some);
         n += 1;
     }
     Extent { next: n, count: at }

@@ -1,6 +1,7 @@
--- 65535 where the row never holds, else the target as it stands. Assumes nothing.
+-- 65535 where the row never holds, else the target as it stands: at once where the table has no row that never holds.
+-- Assumes nothing.
 use mathlib.Core.Path.{refl}
-use Rattle.report.proofs.Rows.{taken-none, taken-never, taken-other}
+use Rattle.report.proofs.Rows.{taken-alike, taken-never, taken-other}
 use borrow.Author.Needs.{needs}
 use Rattle.report.proofs.inner.transitions.read_target.Statement.{statement}
 use Rattle.report.proofs.inner.transitions.read_target.Tie as tie
@@ -18,7 +19,7 @@ shared-slice-read-entry : tie.Need-shared-slice-read-entry
 shared-slice-read-entry c = search needs
 
 returns : tie.Need-returns
-returns c = taken-none _ _ _ _ _ refl (c .if1 .taken)
+returns c = taken-alike _ _ _ _ _ refl (c .before .before .before .before .pre .1) (c .if1 .taken)
 
 cast-never-row : tie.Need-cast-never-row
 cast-never-row c = search needs
