@@ -22,6 +22,19 @@ fn last_digit(x: u32) -> u8
 }
 
 // The digits of a number, and the offset after them.
+fn put_digits(bytes: &mut [u8], at: usize, x: u32) -> usize
+    requires { ⌜ at + length (decimal x) ≤ length (now bytes) ⌝ }
+    ensures { λ r. ⌜ Put (now (bytes .entry)) at (decimal x) (now (bytes .exit)) r ⌝ }
+{
+    if x < 10 {
+        return put_byte(bytes, at, last_digit(x));
+    }
+    let p = put_digits(bytes, at, x / 10);
+    put_byte(bytes, p, last_digit(x))
+}
+
+// The same, with the last digit in place: the compiler has this function where it is called, so that a number of one
+// digit, as most are, takes no call.
 fn put_number(bytes: &mut [u8], at: usize, x: u32) -> usize
     requires { ⌜ at + length (decimal x) ≤ length (now bytes) ⌝ }
     ensures { λ r. ⌜ Put (now (bytes .entry)) at (decimal x) (now (bytes .exit)) r ⌝ }
@@ -29,7 +42,7 @@ fn put_number(bytes: &mut [u8], at: usize, x: u32) -> usize
     if x < 10 {
         return put_byte(bytes, at, last_digit(x));
     }
-    let p = put_number(bytes, at, x / 10);
+    let p = put_digits(bytes, at, x / 10);
     put_byte(bytes, p, last_digit(x))
 }
 
