@@ -258,8 +258,15 @@ fn step<const EDITION: u32>(
         let here;
         (p, set, here) = followed(old, p, set)?;
         if p != old.alarm {
-            if let Some(e) = here.clone().find(|e| e[2..] == row[2..]).or_else(|| here.clone().find(|e| implied(row, e))) {
-                if set & (read_by(row) | read_by(e)) != 0 {
+            let read = read_by(row);
+            if let Some(e) = here.clone().find(|e| e[2..] == row[2..]) {
+                // Equal operations read the same.
+                if set & read != 0 {
+                    return None;
+                }
+                p = e[1] as usize;
+            } else if let Some(e) = here.clone().find(|e| implied(row, e)) {
+                if set & (read | read_by(e)) != 0 {
                     return None;
                 }
                 p = e[1] as usize;
