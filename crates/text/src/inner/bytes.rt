@@ -33,8 +33,8 @@ fn put_digits(bytes: &mut [u8], at: usize, x: u32) -> usize
     put_byte(bytes, p, last_digit(x))
 }
 
-// The same, with the last digit in place: the compiler has this function where it is called, so that a number of one
-// digit, as most are, takes no call.
+// A number, its last digit put here and those before it by `put_digits`: the compiler has this function where it is
+// called, so that a number of one digit takes no call.
 fn put_number(bytes: &mut [u8], at: usize, x: u32) -> usize
     requires { ⌜ at + length (decimal x) ≤ length (now bytes) ⌝ }
     ensures { λ r. ⌜ Put (now (bytes .entry)) at (decimal x) (now (bytes .exit)) r ⌝ }
