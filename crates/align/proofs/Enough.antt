@@ -13,7 +13,7 @@ use Rattle.chart.specs.Compared.{Compared}
 use Rattle.align.specs.declared.spots.Spot.{Spot}
 use Rattle.sets.specs.Sets.{bit, alone, joined, with, meets}
 use Rattle.align.specs.Steps.{onward, follow, followed}
-use Rattle.sets.proofs.Sets.{In, bit-none, bit_or, bit-pow_other, alone-here, with-here, meet_none}
+use Rattle.sets.proofs.Sets.{In, bit-none, bit_or_lem, bit-pow_other, alone-here, with-here, meet_none}
 use Rattle.align.proofs.Moves.{follow-ends, follow_twice, follow_on, onward-below}
 
 -- how many of the first k places have not been come to
@@ -29,7 +29,7 @@ unmet_none (suc k) = omega (arith, unmet_none k, bit-none k)
 -- a place more leaves the others as they were
 other_bit : (met v i : ℕ) → (i ≡ v → ⊥) → bit (with met v) i ≡ bit met i
 unfolding with joined alone
-other_bit met v i n = omega (arith, bit_or met (2 ^ v) i, bit-pow_other v i n)
+other_bit met v i n = omega (arith, bit_or_lem met (2 ^ v) i, bit-pow_other v i n)
 
 unmet_same : (k met v : ℕ) → k ≤ v → unmet k (with met v) ≡ unmet k met
 unfolding unmet

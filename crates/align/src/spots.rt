@@ -2,14 +2,14 @@
 use chart::places::OldPlace;
 
 // A place of the old chart, and the set of the variables that may differ from the new chart's.
-#[derive(Drop)]
+#[derive(Clone, Copy)]
 pub struct Spot {
     pub place: OldPlace,
     pub set: u64,
 }
 
 // What following one old assignment comes to.
-#[derive(Drop)]
+#[derive(Clone, Copy)]
 pub enum Onward {
     To(Spot),
     // At the old alarm, or no assignment leaves the place.
@@ -17,7 +17,7 @@ pub enum Onward {
 }
 
 // Where following old assignments ends.
-#[derive(Drop)]
+#[derive(Clone, Copy)]
 pub enum Followed {
     At(Spot),
     // A place was come to twice.
@@ -25,7 +25,7 @@ pub enum Followed {
 }
 
 // What one aligned step comes to.
-#[derive(Drop)]
+#[derive(Clone, Copy)]
 pub enum Aligned {
     To(Spot),
     Failed,

@@ -2,7 +2,7 @@
 use base::Refusal;
 use condition::Summary;
 
-#[derive(Drop)]
+#[derive(Clone, Copy)]
 pub enum Built {
     Done(Summary),
     Refused(Refusal),

@@ -1,5 +1,7 @@
 // The builder: the condition of Algorithms 2 and 1, over four lent buffers. Here stands the entry point, which refuses
 // bad input itself.
+#![tactic(auto)]
+
 ghost use Rattle.std.specs.Prelude.{◌≡◌};
 ghost use Rattle.std.proofs.Math.Option.{none};
 ghost use Rattle.base.specs.Says.{bool};

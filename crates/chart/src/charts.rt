@@ -6,28 +6,28 @@ use crate::places::{NewPlace, OldPlace};
 use base::Refusal;
 
 // What a chart is beside its rows, whichever chart it is.
-#[derive(Drop)]
+#[derive(Clone, Copy)]
 pub struct Head {
     pub places: u32,
     pub alarm: u32,
 }
 
 // What the old chart is beside its rows: its alarm is one of its own places.
-#[derive(Drop)]
+#[derive(Clone, Copy)]
 pub struct OldHead {
     pub places: u32,
     pub alarm: OldPlace,
 }
 
 // What the new chart is beside its rows: its alarm is one of its own places.
-#[derive(Drop)]
+#[derive(Clone, Copy)]
 pub struct NewHead {
     pub places: u32,
     pub alarm: NewPlace,
 }
 
 // What is compared, beside the two tables, and by which edition of the detector: it is passed on whole.
-#[derive(Drop)]
+#[derive(Clone, Copy)]
 pub struct Heads {
     pub edition: u32,
     pub old: OldHead,
@@ -36,7 +36,7 @@ pub struct Heads {
 
 // What judging a chart finds: no refusal is due, or the first that is. A table that is not whole rows is the caller's
 // mistake, 21.
-#[derive(Drop)]
+#[derive(Clone, Copy)]
 pub enum Judged {
     Faultless,
     Refused(Refusal),

@@ -1,5 +1,7 @@
 // Charts: what a chart is, and when it is faulty. Here stand the entry points, which refuse bad input themselves;
 // `inner` is what the crates above may call once a chart is known to be faultless.
+#![tactic(auto)]
+
 ghost use Rattle.std.specs.Prelude.{◌≡◌, cond, eqb, [], ◌<◌};
 ghost use Rattle.std.proofs.Math.Option.{some};
 ghost use Rattle.chart.specs.Charts.{charted, size, leaving};

@@ -3,15 +3,15 @@
 ghost use Rattle.std.specs.Prelude.{◌≡◌, eqb};
 
 // A place of the old chart (L in the source).
-#[derive(Drop)]
+#[derive(Clone, Copy)]
 pub struct OldPlace(pub u32);
 
 // A place of the new chart (L' in the source).
-#[derive(Drop)]
+#[derive(Clone, Copy)]
 pub struct NewPlace(pub u32);
 
 // A place of whichever chart is named.
-#[derive(Drop)]
+#[derive(Clone, Copy)]
 pub enum Place {
     Old(OldPlace),
     New(NewPlace),

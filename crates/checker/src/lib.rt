@@ -1,6 +1,8 @@
 // The check of a record against two charts, and what a record that passes it promises. Here stands the entry point,
 // which refuses bad input itself; `inner` is what the crates above may call once charts and lengths are known to be
 // right.
+#![tactic(auto)]
+
 ghost use Rattle.std.specs.Prelude.{◌≡◌};
 ghost use Rattle.std.proofs.Math.Option.{none, some};
 ghost use Rattle.base.specs.Refusals.{sole};

@@ -9,7 +9,7 @@ use crate::inner::trials::{follows, independent, possible, sought};
 use crate::{Operation, is_assumption_code};
 
 // What the test of two assumptions answers.
-#[derive(Drop)]
+#[derive(Clone, Copy)]
 pub enum Implication {
     // No values meet the first.
     Never,

@@ -1,6 +1,8 @@
 // Operations: their kinds and operands. `values` has the entry points that evaluate one and refuse bad input
 // themselves, `assumptions` those of the test of two assumptions; `inner` is what the crates above may call once an
 // operation is known to be right. All of these use this file, and it uses none of them.
+#![tactic(auto)]
+
 ghost use Rattle.std.specs.Prelude.{◌≡◌, ℕ, ◌^◌, ◌<◌, ◌&&◌, nat_lt};
 ghost use Rattle.operations.specs.Operations.{kind, is_known, is_assignment, is_assumption, with_constant, order, operand_b, assigned_c, operand_c, fits, operands_fit};
 
@@ -9,7 +11,7 @@ pub mod inner; // inner.rt: for the crates above
 pub mod values; // values.rt: one operation on 64 lent values
 
 // The operation of a row: its code "op" and the operands.
-#[derive(Drop)]
+#[derive(Clone, Copy)]
 pub struct Operation {
     pub code: u32,
     pub a: u32,
@@ -17,7 +19,7 @@ pub struct Operation {
     pub c: u32,
 }
 
-#[derive(Drop)]
+#[derive(Clone, Copy)]
 pub enum Kind {
     Assignment,
     ConstantComparison,
@@ -26,7 +28,7 @@ pub enum Kind {
 }
 
 // What an operand is to its operation.
-#[derive(Drop)]
+#[derive(Clone, Copy)]
 pub enum Operand {
     Variable,
     Constant,

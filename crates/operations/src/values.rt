@@ -7,14 +7,14 @@ use crate::{Operation, is_assignment, is_assumption, operands_fit};
 use base::{Refusal, sole};
 
 // The value that an assignment writes, or a refusal.
-#[derive(Drop)]
+#[derive(Clone, Copy)]
 pub enum Written {
     Value(u32),
     Refused(Refusal),
 }
 
 // Whether the values meet an assumption, or a refusal.
-#[derive(Drop)]
+#[derive(Clone, Copy)]
 pub enum Met {
     Yes,
     No,

@@ -1,5 +1,7 @@
 // The program: reads old.csv and new.csv, and prints the condition of the two charts, or a refusal. It opens, reads and
 // writes; what it prints is made by the crate report, in portions that together are `printed` of that crate's specs.
+#![tactic(auto)]
+
 ghost use Rattle.std.specs.Prelude.{◌^◌, ◌<◌};
 ghost use Rattle.io.specs.Counts.{IsPrefixLen};
 ghost use Rattle.text.specs.Texts.{read_into};
@@ -16,7 +18,7 @@ use libc::STDOUT_FILENO;
 use text::answers::Read;
 
 // What reading the texts of both files answers.
-#[derive(Drop)]
+#[derive(Clone, Copy)]
 pub enum Both {
     // Both heads, and the row counts of the old and of the new chart; the rows stand at the front of the tables.
     Charts(Heads, usize, usize),

@@ -1,5 +1,7 @@
 // The C interface (include/picker.h): numbers and lent memory in, one number out. Every function calls one entry point,
 // the lookup copies besides, and none has a `requires`.
+#![tactic(auto)]
+
 ghost use Rattle.std.specs.Prelude.{◌≡◌, ◌%◌, ◌^◌, ◌<◌, length};
 ghost use Rattle.std.proofs.Math.Option.{none};
 ghost use Rattle.base.specs.Chains.{mapped};
@@ -27,7 +29,7 @@ use text::answers::{Read, Wrote};
 use text::inner::table::copy;
 
 // Up to four numbers that a call gives.
-#[derive(Drop)]
+#[derive(Clone, Copy)]
 struct Four {
     a: u64,
     b: u64,
@@ -36,7 +38,7 @@ struct Four {
 }
 
 // What a call answers, whichever it is.
-#[derive(Drop)]
+#[derive(Clone, Copy)]
 enum Answer {
     Given(Four),
     Refused(Refusal),

@@ -1,3 +1,5 @@
 // Records: marks, targets and sets, as builder and checker have them. No entry point stands here: what the crates above
 // may call is in `inner`.
+#![tactic(auto)]
+
 pub mod inner; // inner.rt: for the crates above

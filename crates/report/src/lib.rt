@@ -1,4 +1,6 @@
 // What the program prints, in portions of at most 1,024 bytes. Together they are `printed` of specs/Printed.antt.
+#![tactic(auto)]
+
 ghost use Rattle.std.specs.Prelude.{[], take};
 ghost use Rattle.records.specs.Records.{graph_of};
 ghost use Rattle.report.specs.Lines.{refusal_line};

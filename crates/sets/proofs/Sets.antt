@@ -31,11 +31,11 @@ bit-suc s i = ap (λ (n : ℕ). s / 2 ^ n % 2) (sym (one-add i)) ∙ ap (λ (n :
 pub bit-none : (i : ℕ) → bit 0 i ≡ 0
 bit-none i = ap (λ (n : ℕ). n % 2) (zero-div (2 ^ i))
 
-pub bit_or : (a b i : ℕ) → bit (bit_or a b) i ≡ max (bit a i) (bit b i)
-bit_or a b i = rw (or_shr, or_step) (digits_mod _ (omega arith))
+pub bit_or_lem : (a b i : ℕ) → bit (bit_or a b) i ≡ max (bit a i) (bit b i)
+bit_or_lem a b i = rw (or_shr, or_step) (digits_mod _ (omega arith))
 
-pub bit_and : (a b i : ℕ) → bit (bit_and a b) i ≡ min (bit a i) (bit b i)
-bit_and a b i = rw (and_shr, and_step) (digits_mod _ (omega arith))
+pub bit_and_lem : (a b i : ℕ) → bit (bit_and a b) i ≡ min (bit a i) (bit b i)
+bit_and_lem a b i = rw (and_shr, and_step) (digits_mod _ (omega arith))
 
 pow_half : (v : ℕ) → 2 ^ suc v / 2 ≡ 2 ^ v
 pow_half v = rw pow-suc (omega arith)
@@ -64,15 +64,15 @@ bit_not (suc w) (suc i) x l h =
 module _ (i s t : ℕ) where
   pub joined-left : In i s → In i (joined s t)
   unfolding joined
-  joined-left h = rw bit_or (omega arith)
+  joined-left h = rw bit_or_lem (omega arith)
 
   pub joined-right : In i t → In i (joined s t)
   unfolding joined
-  joined-right h = rw bit_or (omega arith)
+  joined-right h = rw bit_or_lem (omega arith)
 
   pub joined_in : In i (joined s t) → In i s ⊎ In i t
   unfolding joined
-  joined_in h = dite (ℕ_discrete (bit s i) 1) inl (λ n. inr (let e = bit_or s t i in omega arith))
+  joined_in h = dite (ℕ_discrete (bit s i) 1) inl (λ n. inr (let e = bit_or_lem s t i in omega arith))
 
 pub alone-here : (v : ℕ) → In v (alone v)
 unfolding alone
@@ -98,7 +98,7 @@ module _ (i s v : ℕ) where
 module _ (i s v : ℕ) (l : i < 64) (k : v < 64) where
   without-bit : bit (without s v) i ≡ min (bit s i) (1 - bit (alone v) i)
   unfolding without alone
-  without-bit = rw (bit_and, bit_not 64 i (2 ^ v) l (pow-lt k))
+  without-bit = rw (bit_and_lem, bit_not 64 i (2 ^ v) l (pow-lt k))
 
   pub without_in : In i (without s v) → (i ≡ v → ⊥) × In i s
   without_in h =
@@ -122,13 +122,13 @@ pub meet_some : (s t : ℕ) → s < 2 ^ 64 → meets s t ≡ true → (i : ℕ) 
 unfolding meets
 meet_some s t h m =
     let r = some-bit 64 (bit_and s t) (lt_of_le_of_lt (and_le_l s t) h) (eqb-false (bit_and s t) 0 (not-true _ m)) in
-    let e = bit_and s t r.0 in
+    let e = bit_and_lem s t r.0 in
     (r.0, r.1, omega (arith, r.2), omega (arith, r.2))
 
 pub meet_none : (s t i : ℕ) → meets s t ≡ false → In i s → In i t → ⊥
 unfolding meets
 meet_none s t i m p q =
-    let e = bit_and s t i in
+    let e = bit_and_lem s t i in
     let z : bit (bit_and s t) i ≡ 0 = rw (eqb-true (bit_and s t) 0 (not-false _ m)) (bit-none i) in
     omega arith
 
@@ -150,7 +150,7 @@ pub holds_all_lem : (s t : ℕ) → s < 2 ^ 64 → t < 2 ^ 64 → ((i : ℕ) →
 unfolding holds_all
 holds_all_lem s t hs ht f =
     eq-eqb (bit_or s t) s (same_set 64 (bit_or s t) s (or_lt 64 s t hs ht) hs
-    (λ i l. let e = bit_or s t i in dite (ℕ_discrete (bit t i) 1) (λ p. let q = f i l p in omega arith) (λ n. omega arith)))
+    (λ i l. let e = bit_or_lem s t i in dite (ℕ_discrete (bit t i) 1) (λ p. let q = f i l p in omega arith) (λ n. omega arith)))
 
 -- ---- the set of a list of variables has those of the list
 pub set_of_in : (l : List ℕ) (i : ℕ) → T (among l i) → In i (set_of l)

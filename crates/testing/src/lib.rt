@@ -1,4 +1,6 @@
 // What the tests outside Rattle call of the crates `operations` and `chart`: numbers and slices in, one number out.
+#![tactic(auto)]
+
 ghost use Rattle.std.specs.Prelude.{◌≡◌};
 ghost use Rattle.operations.specs.Answers.{written_by, met_by};
 ghost use Rattle.operations.specs.Trials.{implication, exclusive};

@@ -2,14 +2,14 @@
 use base::Refusal;
 use chart::charts::Head;
 
-#[derive(Drop)]
+#[derive(Clone, Copy)]
 pub enum Read {
     // The chart's head and row count; the rows stand at the front of the table.
     Chart(Head, usize),
     Refused(Refusal),
 }
 
-#[derive(Drop)]
+#[derive(Clone, Copy)]
 pub enum Wrote {
     // The count of bytes.
     Bytes(usize),

@@ -1,5 +1,5 @@
 // Why a text does not fit: the causes of a refusal, by name. Their numbers are the entry point's to tell.
-#[derive(Drop)]
+#[derive(Clone, Copy)]
 pub enum Cause {
     NoBytes,
     // A byte that does not fit, or an end within a record.

@@ -6,7 +6,7 @@ ghost use Rattle.text.specs.inner.Digits.{TellsDigit};
 use crate::causes::Cause;
 
 // What a field may hold: any number, the row count, or a spare of the first record.
-#[derive(Drop)]
+#[derive(Clone, Copy)]
 pub enum Kind {
     Plain,
     Count,
@@ -14,7 +14,7 @@ pub enum Kind {
 }
 
 // Each answer below the entry points is a success or `Unfit`, where the text does not fit: the cause, and the offset.
-#[derive(Drop)]
+#[derive(Clone, Copy)]
 pub enum Field {
     // A number and the offset after it.
     Number(u32, usize),

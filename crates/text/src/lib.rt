@@ -1,4 +1,6 @@
 // Chart texts: the reader and the writer. Here stand the entry points, which refuse bad input themselves.
+#![tactic(auto)]
+
 ghost use Rattle.std.specs.Prelude.{◌≡◌, ℕ, ◌↔◌, length, take};
 ghost use Rattle.std.proofs.Math.Option.{some};
 ghost use Rattle.base.specs.Answers.{given};

@@ -31,7 +31,7 @@ use sets::inner::bits::without;
 use words::inner::members;
 
 // Which rows of a pair never hold, of those that are there.
-#[derive(Drop)]
+#[derive(Clone, Copy)]
 pub struct Skips {
     pub first: bool,
     pub second: bool,

@@ -192,7 +192,7 @@ fn open_all(marks: &mut [u8], targets: &[u16], seen: &[u64])
 }
 
 // How many pairs are open, and how many became covered.
-#[derive(Drop)]
+#[derive(Clone, Copy)]
 pub struct Counts {
     pub opened: usize,
     pub covered: usize,

@@ -11,7 +11,7 @@ use crate::{Operation, order_of, with_constant};
 
 // The variables to which a trial gives its two values, and what it gives to the others, where each of two assumptions
 // has a variable of its own.
-#[derive(Drop)]
+#[derive(Clone, Copy)]
 pub struct Seats {
     pub first: u32,
     pub second: u32,

@@ -13,7 +13,7 @@ use chart::inner::rows::{from_at, operation_at, some_never};
 use operations::assumptions::never_holds;
 
 // How far a portion goes: the pair that the next one begins with, and the count of its bytes.
-#[derive(Drop)]
+#[derive(Clone, Copy)]
 pub struct Extent {
     pub next: usize,
     pub count: usize,

@@ -6,7 +6,7 @@ use crate::causes::Cause;
 use crate::inner::table::{Reach, fields_into};
 use chart::charts::Head;
 
-#[derive(Drop)]
+#[derive(Clone, Copy)]
 pub enum First {
     // The chart's head, its row count and the offset after the record.
     Record(Head, u32, usize),

@@ -7,7 +7,7 @@ use crate::inner::first::First;
 use crate::inner::table::Reach;
 use chart::charts::Head;
 
-#[derive(Drop)]
+#[derive(Clone, Copy)]
 pub enum Parsed {
     // The chart's head and row count, before its faults are judged.
     Chart(Head, usize),

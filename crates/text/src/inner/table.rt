@@ -5,7 +5,7 @@ ghost use Rattle.text.specs.inner.Walk.{numbers_at, laid, reach_at, reached};
 use crate::causes::Cause;
 use crate::fields::{Field, item_at};
 
-#[derive(Drop)]
+#[derive(Clone, Copy)]
 pub enum Reach {
     // The offset after the fields read.
     Past(usize),

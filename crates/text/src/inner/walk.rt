@@ -10,7 +10,7 @@ use crate::inner::first::{First, after_first, entries, first_at};
 use crate::inner::reader::{Parsed, judge};
 use crate::inner::table::{Reach, after_fields, fields_into};
 
-#[derive(Drop)]
+#[derive(Clone, Copy)]
 pub struct Reader<'a> {
     pub text: &'a [u8],
     pub at: usize,

@@ -1,0 +1,18 @@
+-- `chart::inner::rows::carry` meets its contract. The invariant: the entries of the places passed are there. Assumes nothing.
+use mathlib.Core.Path.{◌≡◌, refl}
+use Prim.Native.Nat.{◌-◌, ◌≤◌}
+use Rattle.chart.specs.inner.Index.{last_of, Carried}
+use Rattle.chart.proofs.Rows.{carried_none, last_more, carried_more}
+use borrow.Author.Rules.{rules}
+use native.Mathlib.Omega.{arith}
+use Rattle.chart.proofs.inner.rows.carry.Goals as goal
+
+pub loop-p-init : goal.loop-p-init
+unfolding last_of
+loop-p-init c = (carried_none _ _ c.requires.0, refl, omega arith)
+
+pub loop-p-preserved : goal.loop-p-preserved
+loop-p-preserved c = let I = c.loop-p.invariant in let q = last_more _ _ _ _ I.0 I.1 c.later-last.ensures in (carried_more _ _ _ _ I.0 q (omega arith), q, omega arith)
+
+pub returns : goal.returns
+returns c = let e : c.loop-p.p ≡ 65 = omega arith in rw e at c.loop-p.invariant.0

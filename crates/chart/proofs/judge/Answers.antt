@@ -1,0 +1,13 @@
+-- `chart::judge` meets its contract: a table of whole rows has the faults of its chart. Assumes nothing.
+use Rattle.std.proofs.Common.{ap, not}
+use Rattle.chart.specs.Faults.{refusal}
+use borrow.Author.Rules.{rules}
+use Rattle.chart.proofs.judge.Goals as goal
+
+pub returns-then-not-whole : goal.returns-then-not-whole
+unfolding refusal
+returns-then-not-whole c = rw (← c.whole.ensures, (ap not c.if-not-whole.true)) c.refused.ensures
+
+pub returns : goal.returns
+unfolding refusal
+returns c = rw (← c.whole.ensures, (ap not c.if-not-whole.false)) c.fault.ensures

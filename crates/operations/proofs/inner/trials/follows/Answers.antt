@@ -1,0 +1,13 @@
+-- `operations::inner::trials::follows` meets its contract: by what g can make of values where f has nothing to do with it, else by a search. Assumes nothing.
+use Rattle.std.proofs.Common.{not, sym, ap, ◌∙◌, arith, rules}
+use Rattle.operations.proofs.Independent.{apart-implies}
+use Rattle.operations.proofs.inner.trials.follows.Goals as goal
+
+pub returns-then-independent : goal.returns-then-independent
+returns-then-independent c = let a = c.args in λ n. ap not c.possible.ensures ∙ apart-implies a.f a.g (omega arith) (omega arith) (sym c.independent.ensures ∙ c.if-independent.true) n
+
+pub sought-requires : goal.sought-requires
+sought-requires c = sym c.independent.ensures ∙ c.if-independent.false
+
+pub returns : goal.returns
+returns c = λ n. ap not c.sought.ensures

@@ -1,0 +1,6 @@
+-- `operations::inner::trials::paired` meets its contract: by its three tests. Assumes nothing.
+use Rattle.std.proofs.Common.{rules}
+use Rattle.operations.proofs.inner.trials.paired.Goals as goal
+
+pub returns : goal.returns
+returns c = rw (c.inside.ensures, c.with_constant-2.ensures, c.with_constant.ensures)

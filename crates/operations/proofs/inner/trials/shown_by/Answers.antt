@@ -1,0 +1,17 @@
+-- `operations::inner::trials::shown_by` meets its contract: no earlier point shows it. Assumes nothing.
+use Rattle.std.proofs.Common.{◌-◌, length, refl, arith, rules}
+use Rattle.operations.specs.Trials.{shown}
+use Rattle.base.proofs.Lists.{NoneYet, some-here, none_here, none_at_all}
+use Rattle.operations.proofs.inner.trials.shown_by.Goals as goal
+
+pub loop-i-init : goal.loop-i-init
+loop-i-init c = record { within = omega arith; rest = refl }
+
+pub returns-then-shown : goal.returns-then-shown
+returns-then-shown c = some-here _ _ _ c.loop-i.invariant c.loop-i-test.true c.shown.ensures c.if-shown.true
+
+pub loop-i-preserved : goal.loop-i-preserved
+loop-i-preserved c = none_here _ _ _ c.loop-i.invariant c.loop-i-test.true c.shown.ensures c.if-shown.false
+
+pub returns : goal.returns
+returns c = none_at_all _ _ _ c.loop-i.invariant c.loop-i-test.false

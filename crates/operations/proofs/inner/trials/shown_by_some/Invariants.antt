@@ -1,0 +1,11 @@
+-- `operations::inner::trials::shown_by_some` meets its contract: no earlier point shows it with any second. Assumes nothing.
+use Rattle.std.proofs.Common.{◌-◌, length, refl, arith, rules}
+use Rattle.operations.specs.Trials.{shown_by}
+use Rattle.base.proofs.Lists.{NoneYet, some-here, none_here, none_at_all}
+use Rattle.operations.proofs.inner.trials.shown_by_some.Given as goal
+
+abbrev pub invariant-loop-i : goal.invariant-loop-i
+invariant-loop-i l = NoneYet (shown_by l.s l.f l.p l.g l.q l.l) l.l l.i
+
+abbrev pub decreases-loop-i : goal.decreases-loop-i
+decreases-loop-i l = length l.l - l.i

@@ -1,0 +1,15 @@
+-- `operations::is_assignment_code` meets its contract: kind by kind. Assumes nothing.
+use Rattle.std.proofs.Common.{sym, ◌∙◌, rules}
+use Rattle.operations.proofs.is_assignment_code.Goals as goal
+
+pub returns-in-Assignment : goal.returns-in-Assignment
+returns-in-Assignment c o e = rw (e, ← (sym c.in-Assignment.is ∙ c.kind_of.ensures))
+
+pub returns-in-ConstantComparison : goal.returns-in-ConstantComparison
+returns-in-ConstantComparison c o e = rw (e, ← (sym c.in-ConstantComparison.is ∙ c.kind_of.ensures))
+
+pub returns-in-VariableComparison : goal.returns-in-VariableComparison
+returns-in-VariableComparison c o e = rw (e, ← (sym c.in-VariableComparison.is ∙ c.kind_of.ensures))
+
+pub returns-in-Unknown : goal.returns-in-Unknown
+returns-in-Unknown c o e = rw (e, ← (sym c.in-Unknown.is ∙ c.kind_of.ensures))

@@ -1,0 +1,9 @@
+-- `sets::inner::bits::with` meets its contract: from its parts. Assumes nothing.
+use mathlib.Core.Path.{ap, ◌∙◌}
+use Rattle.sets.specs.Sets.{alone, joined, with}
+use borrow.Author.Rules.{rules}
+use Rattle.sets.proofs.inner.bits.with.Goals as goal
+
+pub returns : goal.returns
+unfolding with
+returns c = c.joined.ensures ∙ ap (joined c.args.s) c.alone.ensures
