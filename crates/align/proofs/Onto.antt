@@ -1,6 +1,6 @@
 -- The aligned step simulates: where old values lead from its end to the old alarm, they do so from its beginning. Assumes nothing.
 use mathlib.Core.Path.{◌≡◌, refl, sym, ap, subst, ◌∙◌}
-use mathlib.Core.Bool.{Bool, true, false, ◌&&◌, ◌||◌, not, or_true}
+use mathlib.Core.Bool.{Bool, true, false, ◌&&◌, ◌||◌, not, or-true}
 use mathlib.Core.List.{List}
 use mathlib.Core.Option.{Option, none, some}
 use Prim.Native.Nat.{ℕ, zero, suc, ◌^◌, ◌<◌}
@@ -153,7 +153,7 @@ module _ (X : Compared) where
         picked _ (is_second X) _ none (λ t. go (follow X 64 (alone h.place.0) h) (follow_onto 64 (alone h.place.0) h)) (λ t. tt)
       where
         both : (p : OldPlace) → T (at_alarm X p) → Says (fair (heads_of X) p q)
-        both p t = says (fair (heads_of X) p q) (T_true {b = bool (fair (heads_of X) p q)} (rw (is_true (at_alarm X p) t) (or_true (not (eqb q.0 X.new.head.alarm)))))
+        both p t = says (fair (heads_of X) p q) (T_true {b = bool (fair (heads_of X) p q)} (rw (is_true (at_alarm X p) t) (or-true (not (eqb q.0 X.new.head.alarm)))))
 
         go : (x : Option Spot) → OnSome (λ h'. Onto w h' → Onto w h) x → OnSome (λ h'. (Onto w h' → Onto w h) × Says (fair (heads_of X) h'.place q)) (at_both X x)
         go none f = tt

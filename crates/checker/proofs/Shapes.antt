@@ -1,6 +1,6 @@
 -- The shape of a record, test by test, as the code comes upon it. Assumes nothing.
 use Rattle.std.proofs.Common.{◌≡◌, ℕ, zero, suc, ◌+◌, ◌-◌, ◌*◌, ◌/◌, ◌%◌, ◌<◌, ◌≤◌, Bool, true, false, not, ◌&&◌, ◌||◌, eqb, ltb, leb, List, get_or, sym, refl, ap, ◌∙◌, add-zero, add_assoc, add-suc, arith, eqb→eq, le-ltb, lt-ltb, eq-eqb, ne_eqb, le-leb}
-use mathlib.Core.Bool.{and_true, and_assoc}
+use mathlib.Core.Bool.{and-true, and_assoc}
 use mathlib.Core.Logic.{dite}
 use native.Mathlib.Decide.{ℕ_discrete, dec_le, dec_lt}
 use borrow.Author.Tests.{lt-leb}
@@ -35,7 +35,7 @@ first_larger a b l k = go (dec_le a k)
 module _ (f : ℕ → Bool) where
   all_parts : (m n : ℕ) → every (m + n) f ≡ every m f && every n (λ j. f (m + j))
   unfolding every
-  all_parts m zero = rw add-zero (sym (and_true (every m f)))
+  all_parts m zero = rw add-zero (sym (and-true (every m f)))
   all_parts m (suc n) = rw (add-suc, all_parts m n) (and_assoc (every m f) (every n (λ j. f (m + j))) (f (m + n)))
 
   all_same : (g : ℕ → Bool) (n : ℕ) → ((j : ℕ) → j < n → f j ≡ g j) → every n f ≡ every n g

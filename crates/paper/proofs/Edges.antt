@@ -1,7 +1,7 @@
 -- The targets between turns, read as the source's E_l; and what each part of a turn does to both. E_l keeps every edge
 -- that it ever had, and the targets only the last one of a pair of the graph by each row. Assumes nothing.
 use mathlib.Core.Path.{◌≡◌, sym, ap₂, subst, ◌∙◌}
-use mathlib.Core.Bool.{false, ◌||◌, or_true}
+use mathlib.Core.Bool.{false, ◌||◌, or-true}
 use mathlib.Core.Logic.{◌⊎◌, inl, inr, ⊎_elim, dite}
 use mathlib.Core.List.{List}
 use Prim.Native.Nat.{ℕ, ◌%◌, ◌<◌}
@@ -145,4 +145,4 @@ module _ (X : Compared) where
 
     -- the new edge
     pub added : edge (pair_of n) r x is_in more
-    added = rw (the_edge (edge (pair_of n) r x)) (or_true (E (edge (pair_of n) r x)))
+    added = rw (the_edge (edge (pair_of n) r x)) (or-true (E (edge (pair_of n) r x)))

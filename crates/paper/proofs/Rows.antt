@@ -1,7 +1,7 @@
 -- One edge of the pair in hand: what a row of a turn does to the buffers, lines 5 to 18 and PROCESS do to the source's
 -- variables. Assumes nothing.
 use mathlib.Core.Path.{◌≡◌, refl, sym, ap, ap₂, subst, ◌∙◌}
-use mathlib.Core.Bool.{Bool, true, false, ◌&&◌, ◌||◌, not, or_true}
+use mathlib.Core.Bool.{Bool, true, false, ◌&&◌, ◌||◌, not, or-true}
 use mathlib.Core.Logic.{inl, inr, dite}
 use mathlib.Core.Option.{Option, none, some, none-ne-some, some-injective}
 use Prim.Native.Nat.{ℕ, ◌%◌, ◌^◌, ◌<◌}
@@ -119,7 +119,7 @@ module _ (X : Compared) (F : FaultlessChart X.old) (G : FaultlessChart X.new) wh
         let K = keep-sets X s g (pair_of n) r q S.sized q_below R.sets in
         let there : new_of n is_not_in (s.Δ plus only_place q) → 0 < mark_at (keep g q) n =
         λ e. hand_kept.there (not_marked (keep g q).marks (kept_number (new_of n)) (sym (K.Δ (new_of n) (omega arith)) ∙ e)) in
-        let fits : Sound X (s.Δ plus only_place q) (edge (pair_of n) r (indicator q)) = record { row = a.row; onto = (refl, rw (the_place q) (or_true (s.Δ q))) } in
+        let fits : Sound X (s.Δ plus only_place q) (edge (pair_of n) r (indicator q)) = record { row = a.row; onto = (refl, rw (the_place q) (or-true (s.Δ q))) } in
         let K' = (keep-shaped g q S).sized in
         record {
           reads =

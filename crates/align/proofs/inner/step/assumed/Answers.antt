@@ -1,0 +1,52 @@
+-- `align::inner::step::assumed` meets its contract: at the alarm, equal, implied, or neither. Assumes nothing.
+use mathlib.Core.Path.{◌≡◌, refl, sym, ap, subst, ◌∙◌}
+use Rattle.align.proofs.Moves.{counterpart-none, counterpart_by, matching-same, matching-implied, matching-inside, matched_assumes, same_found, assumed_on, assumed_by}
+use Rattle.align.proofs.Seek.{found_inside}
+use Rattle.align.specs.Steps.{matched}
+use Rattle.base.specs.inner.Found.{told_found}
+use Rattle.chart.proofs.Parts.{part_right}
+use Rattle.operations.specs.declared.Operation.{Operation}
+use Rattle.operations.specs.Operations.{is_assumption, operands_fit}
+use Rattle.chart.specs.Charts.{size, operation}
+use mathlib.Core.Bool.{true}
+use mathlib.Core.List.{List}
+use Prim.Native.Nat.{ℕ, ◌<◌}
+use Rattle.chart.proofs.Faultless.{ascends}
+use borrow.Author.Rules.{rules}
+use Rattle.align.proofs.inner.step.assumed.Goals as goal
+
+pub returns-then-is : goal.returns-then-is
+returns-then-is c = assumed_on _ _ _ (counterpart-none _ _ _ (sym c.is.ensures ∙ c.if-is.true)) refl
+
+pub rows_of-rows-requires : goal.rows_of-rows-requires
+rows_of-rows-requires c = record { indexed = c.requires.prepared.indexed; ascending = (ascends _ c.requires.prepared.old-faultless, c.requires.place_bound) }
+
+pub matched_same-requires : goal.matched_same-requires
+matched_same-requires c =
+    let s = sym (ap told_found c.in-At.is) ∙ c.same.ensures in
+    let e = sym (same_found _ _ _ s) in
+    (found_inside _ _ _ s, subst (λ (o : Operation). is_assumption o ≡ true) e c.requires.j_bound.1, subst (λ (o : Operation). operands_fit o ≡ true) e c.requires.j_bound.2)
+
+pub matched-requires : goal.matched-requires
+matched-requires c = let m = sym (ap told_found c.in-At-implied.is) ∙ matching-implied _ _ c.same.ensures (ap told_found c.in-Nothing.is) c.operation_at.ensures c.implied.ensures in
+    let l = matching-inside _ _ _ m in
+    let e = c.rows_of-rows.ensures in
+    record { k_bound = (l, matched_assumes _ _ _ c.requires.j_bound.1 m, subst (λ (rows : List ℕ). operands_fit (operation rows c.in-At-implied.k) ≡ true) (sym e) (part_right _ _ _ c.requires.prepared.old-faultless (subst (λ (rows : List ℕ). c.in-At-implied.k < size rows) e l)).1); o_value = subst (λ (o : Operation). (is_assumption o ≡ true) × (operands_fit o ≡ true)) (sym c.operation_at-in-At-implied.ensures) (c.requires.j_bound.1, c.requires.j_bound.2) }
+
+pub returns-in-At : goal.returns-in-At
+returns-in-At c =
+    let f = ap told_found c.in-At.is in
+    let s = c.same.ensures in
+    let r = c.rows_of-rows.ensures in
+    assumed_by _ _ _ c.in-At.k (counterpart_by _ _ _ (sym c.is.ensures ∙ c.if-is.false) r (matching-same _ _ s f)) refl r (c.matched_same.ensures ∙ ap (matched _ _ _) (same_found _ _ _ (sym f ∙ s)))
+
+pub returns-in-At-implied : goal.returns-in-At-implied
+returns-in-At-implied c =
+    let m = matching-implied _ _ c.same.ensures (ap told_found c.in-Nothing.is) c.operation_at.ensures c.implied.ensures in
+    let r = c.rows_of-rows.ensures in
+    assumed_by _ _ _ c.in-At-implied.k (counterpart_by _ _ _ (sym c.is.ensures ∙ c.if-is.false) r m) (ap told_found c.in-At-implied.is) r (c.matched.ensures ∙ ap (matched _ _ _) c.operation_at-in-At-implied.ensures)
+
+pub returns-in-Nothing-implied : goal.returns-in-Nothing-implied
+returns-in-Nothing-implied c =
+    let m = matching-implied _ _ c.same.ensures (ap told_found c.in-Nothing.is) c.operation_at.ensures c.implied.ensures in
+    assumed_on _ _ _ (counterpart_by _ _ _ (sym c.is.ensures ∙ c.if-is.false) c.rows_of-rows.ensures m) (ap told_found c.in-Nothing-implied.is)

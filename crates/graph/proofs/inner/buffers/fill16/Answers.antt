@@ -1,0 +1,19 @@
+-- `graph::inner::buffers::fill16` meets its contract. Assumes nothing.
+use Prim.Native.Nat.{◌-◌}
+use lib.ListN.{length, length-set}
+use Rattle.base.proofs.Stores.{Filling, filling_none, filling_more, filled}
+use borrow.Author.Rules.{rules}
+use native.Mathlib.Omega.{arith}
+use Rattle.graph.proofs.inner.buffers.fill16.Goals as goal
+
+pub loop-i-init : goal.loop-i-init
+loop-i-init c = filling_none _ _
+
+pub loop-i-smaller : goal.loop-i-smaller
+loop-i-smaller c = simp length-set (omega arith)
+
+pub loop-i-preserved : goal.loop-i-preserved
+loop-i-preserved c = filling_more c.loop-i.invariant c.loop-i-test.true
+
+pub returns : goal.returns
+returns c = filled c.loop-i.invariant c.loop-i-test.false

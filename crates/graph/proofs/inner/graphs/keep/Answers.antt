@@ -1,0 +1,7 @@
+-- `graph::inner::graphs::keep` meets its contract. Assumes nothing.
+use Rattle.graph.proofs.Keeping.{keep-is}
+use borrow.Author.Rules.{rules}
+use Rattle.graph.proofs.inner.graphs.keep.Goals as goal
+
+pub returns : goal.returns
+returns c = keep-is _ _ _ _ _ c.leave_all.ensures c.kept.ensures c.put8.ensures

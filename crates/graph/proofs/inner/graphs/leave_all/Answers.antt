@@ -1,0 +1,27 @@
+-- `graph::inner::graphs::leave_all` meets its contract. Assumes nothing.
+use mathlib.Core.Logic.{⊎_elim}
+use Prim.Native.Nat.{◌-◌}
+use borrow.Author.Tests.{not-true}
+use Rattle.graph.specs.Buffers.{buffers}
+use Rattle.graph.proofs.Keeping.{Going, going_none, going_same, going_seen, going_unseen, left_all, left-none}
+use borrow.Author.Rules.{rules}
+use native.Mathlib.Omega.{arith}
+use Rattle.graph.proofs.inner.graphs.leave_all.Goals as goal
+use Rattle.graph.proofs.inner.graphs.leave_all.Goals.{then-has, else-has}
+
+pub returns-then-not-meets : goal.returns-then-not-meets
+returns-then-not-meets c = left-none c.requires.covers (omega arith) c.gathered.ensures c.alone.ensures c.meets.ensures (c.if-not-meets.true)
+
+pub loop-p-init : goal.loop-p-init
+loop-p-init c = going_none _ _
+
+pub loop-p-preserved : goal.loop-p-preserved
+loop-p-preserved c =
+    let I = c.loop-p.invariant in
+    elim c.if-has.branch [
+      then-has w ↦ going_same (going_seen I c.requires.sized c.requires.q_bound (search rules) (omega arith) w.leave.ensures) w.marks-is w.targets-is w.sets-is w.waiting-is |
+      else-has w ↦ going_same (going_unseen I c.requires.sized c.requires.q_bound (search rules) (omega arith) c.requires.covers c.has.ensures w.if-has.false) w.marks-is w.targets-is w.sets-is w.waiting-is
+    ]
+
+pub returns : goal.returns
+returns c = left_all (omega arith) c.loop-p.invariant (search rules)

@@ -1,0 +1,20 @@
+-- `records::inner::marks::blank` meets its contract. The invariant: what is joined is 0 exactly where each one passed is. Assumes nothing.
+use mathlib.Core.Path.{◌≡◌, refl}
+use Prim.Native.Nat.{◌+◌, ◌-◌, ◌≤◌}
+use lib.Dec.{eqb}
+use lib.ListN.{get_or}
+use Rattle.base.specs.Says.{every}
+use Rattle.records.proofs.Marks.{all_next, all_taken, joined_0}
+use borrow.Author.Rules.{rules}
+use native.Mathlib.Omega.{arith}
+use Rattle.records.proofs.inner.marks.blank.Goals as goal
+
+pub loop-j-init : goal.loop-j-init
+unfolding every
+loop-j-init c = (search rules, refl)
+
+pub loop-j-preserved : goal.loop-j-preserved
+loop-j-preserved c = (omega arith, all_next _ _ c.loop-j.invariant.1 refl (joined_0 c.loop-j.all (get_or c.args.marks.now (c.args.from + c.loop-j.j) 0)))
+
+pub returns : goal.returns
+returns c = all_taken _ _ _ c.loop-j.invariant.0 c.loop-j-test.false c.loop-j.invariant.1

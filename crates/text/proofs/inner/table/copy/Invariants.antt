@@ -1,0 +1,10 @@
+-- `text::inner::table::copy` meets its contract: the front of the table is copied up to the index (`Copying`). Assumes nothing.
+use Rattle.std.proofs.Common.{◌-◌, length, rules}
+use Rattle.base.proofs.Stores.{Copying, copying_start, copying_more, copying_done}
+use Rattle.text.proofs.inner.table.copy.Given as goal
+
+abbrev pub invariant-loop-i : goal.invariant-loop-i
+invariant-loop-i l = Copying l.numbers l.initial.table l.table l.i
+
+abbrev pub decreases-loop-i : goal.decreases-loop-i
+decreases-loop-i l = length l.numbers - l.i

@@ -1,0 +1,15 @@
+-- `words::inner::members::gathered` meets its contract. Assumes nothing.
+use Prim.Native.Nat.{◌-◌}
+use lib.ListN.{length}
+use Rattle.words.proofs.Words.{Gathering, gathering_none, gathering_more, gathering_all}
+use borrow.Author.Rules.{rules}
+use Rattle.words.proofs.inner.members.gathered.Goals as goal
+
+pub loop-p-init : goal.loop-p-init
+loop-p-init c = gathering_none _
+
+pub loop-p-preserved : goal.loop-p-preserved
+loop-p-preserved c = search gathering_more
+
+pub returns : goal.returns
+returns c = search gathering_all
