@@ -1,0 +1,18 @@
+-- `checker::inner::shape::targets_fit` meets its contract. The invariant: the largest is at most 4,160 exactly where each one passed fits.
+-- Assumes nothing.
+use Rattle.std.proofs.Common.{◌≡◌, ◌-◌, ◌≤◌, leb, get_or, refl, arith, rules}
+use Rattle.base.specs.Says.{bool, every}
+use Rattle.checker.specs.Rules.{target_fits, targets_fit}
+use Rattle.records.proofs.Marks.{all_next, all_taken}
+use Rattle.checker.proofs.inner.shape.targets_fit.Goals as goal
+
+pub loop-i-init : goal.loop-i-init
+unfolding every
+loop-i-init c = (search rules, refl)
+
+pub loop-i-preserved : goal.loop-i-preserved
+loop-i-preserved c = (omega arith, all_next _ _ c.loop-i.invariant.1 c.wrapped.ensures (c.larger_u16-w.ensures 4160))
+
+pub returns : goal.returns
+unfolding targets_fit
+returns c = all_taken _ _ _ c.loop-i.invariant.0 c.loop-i-test.false c.loop-i.invariant.1

@@ -1,0 +1,13 @@
+-- `checker::inner::targets::joins` meets its contract: test by test. Assumes nothing.
+use Rattle.checker.proofs.Targets.{joins_not, joins_absent, joins_holding}
+use Rattle.std.proofs.Common.{rules}
+use Rattle.checker.proofs.inner.targets.joins.Goals as goal
+
+pub returns-then-t-pair : goal.returns-then-t-pair
+returns-then-t-pair c = joins_not _ _ _ _ _ c.pair.ensures c.if-t-pair.true
+
+pub returns-then-marks-t-eq0 : goal.returns-then-marks-t-eq0
+returns-then-marks-t-eq0 c = joins_absent _ _ _ _ _ c.pair.ensures c.if-t-pair.false c.if-marks-t-eq0.true
+
+pub returns : goal.returns
+returns c = joins_holding _ _ _ _ _ c.pair.ensures c.if-t-pair.false c.if-marks-t-eq0.false c.holds_all.ensures

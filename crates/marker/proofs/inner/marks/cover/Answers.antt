@@ -1,0 +1,14 @@
+-- `marker::inner::marks::cover` meets its contract. Assumes nothing.
+use Rattle.marker.proofs.Covering.{covers_one, covers-none, covers_past}
+use native.Mathlib.Omega.{arith}
+use borrow.Author.Rules.{rules}
+use Rattle.marker.proofs.inner.marks.cover.Goals as goal
+
+pub returns-then-marks-at : goal.returns-then-marks-at
+returns-then-marks-at c = covers_past _ _ c.if-marks-at.true
+
+pub returns-then-marks-at-ne4 : goal.returns-then-marks-at-ne4
+returns-then-marks-at-ne4 c = covers-none _ _ c.if-marks-at-ne4.true
+
+pub returns : goal.returns
+returns c = covers_one _ _ (omega arith) c.if-marks-at-ne4.false

@@ -1,0 +1,19 @@
+-- `marker::inner::marks::cover_all` meets its contract. Assumes nothing.
+use Prim.Native.Nat.{◌-◌}
+use lib.ListN.{length}
+use Rattle.marker.proofs.Covering.{CoveringAll, all_start, all_few, all_more, all_end}
+use borrow.Author.Rules.{rules}
+use native.Mathlib.Omega.{arith}
+use Rattle.marker.proofs.inner.marks.cover_all.Goals as goal
+
+pub loop-p-init : goal.loop-p-init
+loop-p-init c = search all_start
+
+pub cover_word-c-requires : goal.cover_word-c-requires
+cover_word-c-requires c = record { marks_len = (search rules, search rules, search rules, search rules); opened_bound = all_few c.loop-p.invariant }
+
+pub loop-p-preserved : goal.loop-p-preserved
+loop-p-preserved c = search all_more
+
+pub returns : goal.returns
+returns c = all_end c.loop-p.invariant c.requires.1 (omega arith)

@@ -1,0 +1,7 @@
+-- `marker::inner::marks::cover_from` meets its contract. Assumes nothing.
+use Rattle.marker.proofs.Covering.{covers-both}
+use borrow.Author.Rules.{rules}
+use Rattle.marker.proofs.inner.marks.cover_from.Goals as goal
+
+pub returns : goal.returns
+returns c = covers-both _ _ _ c.requires.3 c.cover.ensures c.cover-2.ensures

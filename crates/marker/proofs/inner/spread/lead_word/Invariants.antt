@@ -1,0 +1,11 @@
+-- `marker::inner::spread::lead_word` meets its contract. Assumes nothing.
+use Rattle.words.proofs.Rests.{coming_less}
+use Rattle.marker.proofs.Leads.{Leading, lead_start, lead_more, lead_end}
+use borrow.Author.Rules.{rules}
+use Rattle.marker.proofs.inner.spread.lead_word.Given as goal
+
+abbrev pub invariant-loop-word : goal.invariant-loop-word
+invariant-loop-word l = Leading l.targets l.marks l.rest l.p l.initial.leads l.leads l.word
+
+abbrev pub decreases-loop-word : goal.decreases-loop-word
+decreases-loop-word l = l.word
