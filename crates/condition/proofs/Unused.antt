@@ -14,7 +14,7 @@ use Rattle.records.specs.Records.{index, target}
 use Rattle.detector.specs.Turns.{rows_of, explored}
 use Rattle.detector.proofs.Invariant.{explored_inv}
 use Rattle.condition.specs.Builds.{alone, recorded}
-use Rattle.condition.proofs.Left.{far, target_at, recorded-lone, recorded_joint}
+use Rattle.condition.proofs.Left.{far, target_at_lem, recorded-lone, recorded_joint}
 
 module _ (X : Compared) (F : FaultlessChart X.old) (H : FaultlessChart X.new) (i k : ℕ) (b : i < 4096) (c : k < 2) where
   -- where the start is the lone kept node all targets are; else none was stored, and redirecting leaves it
@@ -25,7 +25,7 @@ module _ (X : Compared) (F : FaultlessChart X.old) (H : FaultlessChart X.new) (i
       go true e = rw (recorded-lone X e) (same_at 8192 65535 (index i k) (omega arith))
       go false e =
           rw (recorded_joint X e)
-          (target_at X F H e i k b c ∙ rw ((explored_inv X F H).unused i k b c (inr u)) (far (explored X).marks 65535 (omega arith)))
+          (target_at_lem X F H e i k b c ∙ rw ((explored_inv X F H).unused i k b c (inr u)) (far (explored X).marks 65535 (omega arith)))
 
   pub unused_never : k < size (rows_of X.new i) → never_holds (operation (rows_of X.new i) k) ≡ true → target (recorded X).graph i k ≡ 65535
   unused_never l n = unused_row (by_test (rows_of X.new i) k l ∙ ap not n)

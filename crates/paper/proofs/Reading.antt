@@ -11,7 +11,7 @@ use borrow.Author.Tests.{eq-eqb, ne_eqb, eqb-true, eqb-false}
 use lib.Dec.{eqb}
 use lib.ListN.{get_or, set}
 use lib.Seq.{get_or-set_same, get_or-set_other}
-use Rattle.base.proofs.Tests.{and-true, and_false, or-false}
+use Rattle.base.proofs.Tests.{and_true, and_false, or_false}
 use Rattle.chart.specs.declared.places.NewPlace.{NewPlace}
 use Rattle.chart.specs.Compared.{Compared}
 use Rattle.chart.specs.Places.{kept_number, new_of}
@@ -58,13 +58,13 @@ module _ (X : Compared) where
     keep-sets =
         record {
           N = λ i b. leaves g.marks (keep g q).marks i (s.Nₗ (pair_of i)) (λ e. keep-mark g q S l i b e) (λ e. keep-mark_other g q S l i b e) (R.N i b);
-          N_numbered = λ n e. R.N_numbered n (and-true (s.Nₗ n) _ e).0;
+          N_numbered = λ n e. R.N_numbered n (and_true (s.Nₗ n) _ e).0;
           Δ = kept_now;
           Δ-numbered = λ p e. ⊎_elim (λ h. R.Δ-numbered p h) (λ h. rw (sym (eqb-true q.0 p.0 h)) l) (in_either (s.Δ p) _ e);
           waits = λ i b. leaves g.waiting (keep g q).waiting i (s.waitlist (pair_of i)) (λ e. keep_wait g q S l i b e) (λ e. keep_wait_other g q S l i b e) (R.waits i b);
-          waits_numbered = λ n e. R.waits_numbered n (and-true (s.waitlist n) _ e).0;
+          waits_numbered = λ n e. R.waits_numbered n (and_true (s.waitlist n) _ e).0;
           Vδ = λ i b e.
-              (let z = or-false (s.Δ (new_of i)) (eqb q.0 (i % 64)) e in
+              (let z = or_false (s.Δ (new_of i)) (eqb q.0 (i % 64)) e in
               R.Vδ i b z.0 ∙ sym (keep-set_other g q S l i b (λ h. eqb-false q.0 (i % 64) z.1 (sym h))));
         }
 
@@ -146,6 +146,6 @@ module _ (X : Compared) where
             dite (ℕ_discrete i n)
             (λ z. rw (same-pair n i z) (and_false (s.waitlist (pair_of i)) ∙ sym (marked_no (set g.waiting n 0) i (rw z (get_or-set_same g.waiting n 0 0 (omega (arith, S.waiting)))))))
             (λ z. rw (other_pair n i z) (and_yes (s.waitlist (pair_of i)) ∙ R.waits i b ∙ sym (marked-same (set g.waiting n 0) g.waiting i (get_or-set_other g.waiting n i 0 0 z))));
-        waits_numbered = λ m e. R.waits_numbered m (and-true (s.waitlist m) _ e).0;
+        waits_numbered = λ m e. R.waits_numbered m (and_true (s.waitlist m) _ e).0;
         Vδ = R.Vδ;
       }

@@ -1,0 +1,10 @@
+-- `condition::inner::finish::is_alone` meets its contract. Assumes nothing.
+use Rattle.condition.proofs.Finishing.{alone-kept, alone_not}
+use borrow.Author.Rules.{rules}
+use Rattle.condition.proofs.inner.finish.is_alone.Goals as goal
+
+pub returns-then-is_marked : goal.returns-then-is_marked
+returns-then-is_marked c = search alone-kept
+
+pub returns : goal.returns
+returns c = search alone_not

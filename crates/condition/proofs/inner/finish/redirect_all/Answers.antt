@@ -1,0 +1,20 @@
+-- `condition::inner::finish::redirect_all` meets its contract. Assumes nothing.
+use Prim.Native.Nat.{◌-◌}
+use lib.ListN.{length}
+use Rattle.condition.proofs.Finishing.{Through, all_start, all_asks, all_again, all_end}
+use borrow.Author.Rules.{rules}
+use native.Mathlib.Omega.{arith}
+use Rattle.condition.proofs.inner.finish.redirect_all.Goals as goal
+
+pub loop-p-init : goal.loop-p-init
+loop-p-init c = search all_start
+
+pub redirect_word-requires : goal.redirect_word-requires
+redirect_word-requires c = let T = c.loop-p.invariant in
+    record { marks_len = (search rules, T.long, search rules); by_index = all_asks _ _ T c.args.seen.now (omega arith) c.requires.by_index }
+
+pub loop-p-preserved : goal.loop-p-preserved
+loop-p-preserved c = all_again _ _ c.loop-p.invariant (omega arith) c.redirect_word.ensures
+
+pub returns : goal.returns
+returns c = all_end _ _ c.loop-p.invariant c.args.seen.now c.requires.by_index (omega arith)

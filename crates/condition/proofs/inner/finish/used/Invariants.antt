@@ -1,0 +1,10 @@
+-- `condition::inner::finish::used` meets its contract. Assumes nothing.
+use Rattle.condition.proofs.Finishing.{Ends, used_start, used_less, used_all}
+use borrow.Author.Rules.{rules}
+use Rattle.condition.proofs.inner.finish.used.Given as goal
+
+abbrev pub invariant-loop-n : goal.invariant-loop-n
+invariant-loop-n l = Ends l.seen l.n
+
+abbrev pub decreases-loop-n : goal.decreases-loop-n
+decreases-loop-n l = l.n
