@@ -29,7 +29,7 @@ use Rattle.condition.specs.Builds.{redirected, final_targets, alone, recorded}
 use Rattle.graph.proofs.Graphs.{target_at}
 use Rattle.detector.proofs.Invariant.{ToStep, explored_inv}
 use Rattle.marker.proofs.Marks.{rank-there, Final}
-use Rattle.condition.proofs.Left.{far, to-kept, not_kept, Keeps, Ends, starts, targets-length, target_at, marks as left_marks, left as left_graph, final as left_final, here, ends, steps, node_two, is-there, recorded-lone, recorded_joint}
+use Rattle.condition.proofs.Left.{far, to-kept, not_kept, Keeps, Ends, starts, targets-length, target_at_lem, marks as left_marks, left as left_graph, final as left_final, here, ends, steps, node_two, is-there, recorded-lone, recorded_joint}
 use Rattle.checker.proofs.Passes.{Rules, passes}
 
 -- ---- a build whose start is the start pair
@@ -108,7 +108,7 @@ module _ (X : Compared) (F : FaultlessChart X.old) (H : FaultlessChart X.new) (j
   target_said j b =
       let e : index (j / 2) (j % 2) ≡ j = omega arith in
       subst (λ (k : ℕ). Says (target_fits (get_or (final_targets (explored X)) k 0))) e
-      (rw (target_at X F H joint (j / 2) (j % 2) (omega arith) (omega arith)) (go (target_at (explored X) (j / 2) (j % 2)) ((explored_inv X F H).aims (j / 2) (j % 2) (omega arith) (omega arith))))
+      (rw (target_at_lem X F H joint (j / 2) (j % 2) (omega arith) (omega arith)) (go (target_at (explored X) (j / 2) (j % 2)) ((explored_inv X F H).aims (j / 2) (j % 2) (omega arith) (omega arith))))
     where
       go : (t : ℕ) → (t < 4160) ⊎ (t ≡ 65535) → Says (target_fits (redirected (explored X).marks t))
       go t d =

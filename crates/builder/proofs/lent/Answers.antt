@@ -1,0 +1,6 @@
+-- `builder::lent` meets its contract: by its tests. Assumes nothing.
+use borrow.Author.Rules.{rules}
+use Rattle.builder.proofs.lent.Goals as goal
+
+pub returns : goal.returns
+returns c = rw c.sized.ensures
