@@ -14,7 +14,10 @@ use builder::answers::Built;
 use builder::build;
 use chart::charts::{Heads, both_heads};
 use condition::Summary;
-use libc::STDOUT_FILENO;
+use std::fs::File;
+use std::io;
+use std::io::{Print, Write};
+use std::rt::Files;
 use text::answers::Read;
 
 // What reading the texts of both files answers.
@@ -26,36 +29,29 @@ pub enum Both {
 }
 
 // Reads to the end of the file, or as much as the text holds, and answers the count of bytes: none where a read fails.
-fn fill(fd: i32, text: &mut [u8]) -> usize
+fn fill<R: io::Read>(file: &mut R, text: &mut [u8]) -> usize
     ensures { IsPrefixLen result text.new }
 {
     let mut at = 0;
     while at < text.len() {
-        let got = libc::read(fd, &mut text[at..]);
-        if got < 0 {
-            return 0;
+        match file.read(&mut text[at..]) {
+            Err(_) => return 0,
+            Ok(0) => return at,
+            Ok(n) => at += n,
         }
-        let n = io::count(got, &text[at..]);
-        if n == 0 {
-            return at;
-        }
-        at += n;
     }
     at
 }
 
 // The bytes of a file, at the front of the text, and their count: a file that can't be read counts as one without
 // bytes.
-fn load(path: &[u8], text: &mut [u8]) -> usize
+fn load<R: Files>(rt: &R, path: &str, text: &mut [u8]) -> usize
     ensures { IsPrefixLen result text.new }
 {
-    let fd = os::open_read(path);
-    if fd < 0 {
-        return 0;
+    match File::open(rt, path) {
+        Err(_) => 0,
+        Ok(mut file) => fill(&mut file, text),
     }
-    let n = fill(fd, text);
-    libc::close(fd);
-    n
 }
 
 // The charts of two texts, the old one first: their rows go to the front of the tables, which have 768 entries each. A
@@ -80,47 +76,47 @@ fn read_both(old_text: &[u8], new_text: &[u8], old: &mut [u32], new: &mut [u32])
 }
 
 // Both charts. At most 16,384 bytes of a file are read: more do not change what is printed.
-fn charts(old: &mut [u32], new: &mut [u32]) -> Both
+fn charts<R: Files>(rt: &R, old: &mut [u32], new: &mut [u32]) -> Both
     ensures { Few result }
 {
     let mut old_text = [0u8; 16384];
     let mut new_text = [0u8; 16384];
-    let m = load(b"old.csv", &mut old_text);
-    let n = load(b"new.csv", &mut new_text);
+    let m = load(rt, "old.csv", &mut old_text);
+    let n = load(rt, "new.csv", &mut new_text);
     read_both(&old_text[..m], &new_text[..n], old, new)
 }
 
 // Writes the bytes to standard output, and answers whether it took them all. After a write that fails or takes nothing
 // no other is tried, here or by a caller, so that what was taken is a beginning of what is printed. No copy is made of
 // the bytes, so that what is live at once stays small.
-fn put(bytes: &[u8]) -> bool {
+fn put<P: Print>(rt: &P, bytes: &[u8]) -> bool {
+    let mut out = io::writer(rt);
     let mut at = 0;
     while at < bytes.len() {
-        let n = io::count(libc::write(STDOUT_FILENO, &bytes[at..]), &bytes[at..]);
-        if n == 0 {
-            return false;
+        match out.write(&bytes[at..]) {
+            Err(_) | Ok(0) => return false,
+            Ok(n) => at += n,
         }
-        at += n;
     }
     true
 }
 
-fn refuse(r: Refusal)
+fn refuse<P: Print>(rt: &P, r: Refusal)
     requires { r.position < 2 ^ 32 }
 {
     let mut bytes = [0u8; 1024];
     let n = report::refusal(r.number, r.chart, r.position as u32, &mut bytes);
-    put(&bytes[..n]);
+    put(rt, &bytes[..n]);
 }
 
 // The transitions, portion after portion, up to the first that standard output does not take whole.
-fn transitions(rows: &[u32], marks: &[u8; 4160], targets: &[u16; 8192]) {
+fn transitions<P: Print>(rt: &P, rows: &[u32], marks: &[u8; 4160], targets: &[u16; 8192]) {
     let mut bytes = [0u8; 1024];
     let mut pair = 0;
     while pair < 4096 {
         let extent = report::portion(rows, marks, targets, pair, &mut bytes);
         let n = extent.count;
-        if !put(&bytes[..n]) {
+        if !put(rt, &bytes[..n]) {
             return;
         }
         pair = extent.next;
@@ -128,7 +124,7 @@ fn transitions(rows: &[u32], marks: &[u8; 4160], targets: &[u16; 8192]) {
 }
 
 // The first record of a condition. Answers whether standard output took it whole.
-fn head(s: Summary) -> bool
+fn head<P: Print>(rt: &P, s: Summary) -> bool
     requires { Small s }
 {
     let mut bytes = [0u8; 1024];
@@ -139,11 +135,11 @@ fn head(s: Summary) -> bool
         s.covered as u32,
         &mut bytes,
     );
-    put(&bytes[..n])
+    put(rt, &bytes[..n])
 }
 
 // The condition of two charts, or as much of its beginning as standard output takes.
-fn show<'a>(heads: Heads, old_rows: &'a [u32], new_rows: &'a [u32]) {
+fn show<P: Print>(rt: &P, heads: Heads, old_rows: &[u32], new_rows: &[u32]) {
     let mut marks = [0u8; 4160];
     let mut targets = [0u16; 8192];
     let mut sets = [0u64; 4096];
@@ -157,24 +153,24 @@ fn show<'a>(heads: Heads, old_rows: &'a [u32], new_rows: &'a [u32]) {
         &mut sets,
         &mut waiting,
     ) {
-        Built::Refused(r) => refuse(r),
+        Built::Refused(r) => refuse(rt, r),
         Built::Done(s) => {
-            if head(s) {
-                transitions(new_rows, &marks, &targets);
+            if head(rt, s) {
+                transitions(rt, new_rows, &marks, &targets);
             }
         }
     }
 }
 
-fn main() {
+fn main(rt: HostRuntime) {
     let mut old = [0u32; 768];
     let mut new = [0u32; 768];
-    match charts(&mut old, &mut new) {
-        Both::Refused(r) => refuse(r),
+    match charts(&rt, &mut old, &mut new) {
+        Both::Refused(r) => refuse(&rt, r),
         Both::Charts(heads, rows, more) => {
             let m = 6 * rows;
             let n = 6 * more;
-            show(heads, &old[..m], &new[..n]);
+            show(&rt, heads, &old[..m], &new[..n]);
         }
     }
 }

@@ -8,11 +8,11 @@ ghost use Rattle.base.specs.Chains.{mapped};
 ghost use Rattle.base.specs.Refusals.{unless};
 ghost use Rattle.base.specs.inner.Fits.{FitsOr};
 ghost use Rattle.chart.specs.Compared.{both, both_heads};
-ghost use Rattle.chart.specs.Faults.{refusal as chart_refusal, told as toldJudged};
+ghost use Rattle.chart.specs.Faults.{refusal as chart_refusal, told as told_judged};
 ghost use Rattle.text.specs.Texts.{read_into, filled, told_read};
 ghost use Rattle.text.specs.Written.{writing, printed, told_wrote};
 ghost use Rattle.records.specs.Records.{record_of};
-ghost use Rattle.checker.specs.Checks.{refusal, told as toldChecked};
+ghost use Rattle.checker.specs.Checks.{refusal, told as told_checked};
 ghost use Rattle.checker.specs.Promise.{Promise};
 ghost use Rattle.graph.specs.Buffers.{buffers};
 ghost use Rattle.paper.specs.Returned.{Returned};
@@ -98,7 +98,7 @@ fn of_wrote(answer: Wrote) -> Answer
 
 // The judge's: 0, 0, 0, 0.
 fn of_judged(answer: Judged) -> Answer
-    ensures { told result ≡ unless (toldJudged answer) zeros }
+    ensures { told result ≡ unless (told_judged answer) zeros }
 {
     match answer {
         Judged::Faultless => Answer::Given(one(0)),
@@ -108,7 +108,7 @@ fn of_judged(answer: Judged) -> Answer
 
 // The check's: 0, 0, 0, 0.
 fn of_checked(answer: Checked) -> Answer
-    ensures { told result ≡ unless (toldChecked answer) zeros }
+    ensures { told result ≡ unless (told_checked answer) zeros }
 {
     match answer {
         Checked::Passed => Answer::Given(one(0)),
