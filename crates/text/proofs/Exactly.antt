@@ -8,7 +8,7 @@ use Rattle.base.proofs.OnSome.{OnGiven}
 use Rattle.chart.specs.Charts.{Chart, size}
 use Rattle.chart.specs.Faults.{fault, refusal}
 use Rattle.chart.proofs.Faultless.{faultless}
-use Rattle.text.specs.Texts.{whole, parsed, read_text}
+use Rattle.text.specs.Texts.{parsed, read_text}
 use Rattle.text.specs.Written.{numbers, written}
 use Rattle.text.specs.Files.{U32s, FileOf}
 use Rattle.text.proofs.Sequences.{Items, FitAll, items_fit}

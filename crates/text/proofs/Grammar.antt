@@ -2,7 +2,7 @@
 -- Assumes nothing.
 use Rattle.std.proofs.Common.{◌≡◌, ℕ, zero, suc, ◌+◌, ◌*◌, ◌%◌, ◌<◌, ◌≤◌, List, [], ◌∷◌, ◌++◌, map, length, take, drop, sym, refl, ap, ◌∙◌, subst, append_assoc, append-nil, arith, length-drop, take-append-drop, drop_of_length-le, length-take-le}
 use Rattle.text.specs.Written.{digits_of, decimal}
-use Rattle.text.specs.Rfc4180.{middle, high, NonEscaped, plain_end, plain, Within, inner_end, inner, inner_comma, inner_cr, inner_lf, inner_quotes, Field, escaped, non_escaped, Record, last_field, next_field, Records, last_record, next_record, File, unclosed, closed}
+use Rattle.text.specs.Rfc4180.{high, NonEscaped, plain_end, plain, Within, inner_end, inner, inner_comma, inner_cr, inner_lf, inner_quotes, Field, escaped, non_escaped, Record, last_field, next_field, Records, last_record, next_record, File, unclosed, closed}
 use Rattle.text.specs.Files.{sixes, contents}
 use Rattle.text.proofs.Decimals.{Nines, spells}
 use Rattle.text.proofs.Spelling.{Spelt, bare, quoted, Closing, comma, line, over}

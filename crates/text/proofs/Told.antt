@@ -21,7 +21,7 @@ use Rattle.text.specs.declared.answers.Wrote.TheVariants as wrote
 use Rattle.text.specs.Fields.{kind}
 use Rattle.text.specs.Spans.{Span, fields_at}
 use Rattle.text.specs.Texts.{whole, rows_at, parsed, read_text, read_into, filled, Heading, heading, told_read, head_in, count_in}
-use Rattle.text.specs.Written.{numbers, written, writing, printed, told_wrote}
+use Rattle.text.specs.Written.{written, writing, printed, told_wrote}
 use Rattle.text.specs.inner.Puts.{Put}
 use Rattle.text.proofs.Headings.{head_or, rows_told}
 use Rattle.text.proofs.Sequences.{FitAll, Shown, fields_show, items_fit}

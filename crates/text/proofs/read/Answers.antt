@@ -1,6 +1,6 @@
 -- `text::read` meets its contract: a law for each way through it. What is known where the text was parsed is p, where a
 -- chart was spelt h, where it was judged j. Assumes nothing.
-use Rattle.std.proofs.Common.{arith, length-take, rules}
+use Rattle.std.proofs.Common.{arith, length-take}
 use Rattle.text.proofs.Told.{read_unsized}
 use Rattle.text.proofs.Filed.{read_said}
 use Rattle.text.proofs.Walking.{spelt, front_fits, read_unfit, read_faulty, read_chart}

@@ -1,6 +1,5 @@
 -- `text::fields::close` meets its contract: a refusal, the sixth field of a record, and another. Assumes nothing.
 use Rattle.text.proofs.Numbers.{close_unfit, close_line, close_comma}
-use Rattle.std.proofs.Common.{rules}
 use Rattle.text.proofs.fields.close.Goals as goal
 
 pub returns-then-field-eq5 : goal.returns-then-field-eq5

@@ -1,13 +1,13 @@
 -- `text::fields::digit` meets its contract: past the end, and by the byte less 48. Assumes nothing.
 use Rattle.text.proofs.Numbers.{digit_past, digit_here}
-use Rattle.std.proofs.Common.{arith, rules}
+use Rattle.std.proofs.Common.{arith}
 use Rattle.text.proofs.fields.digit.Goals as goal
 
 pub returns-then-text-at : goal.returns-then-text-at
 returns-then-text-at c = search digit_past
 
 pub overflow_cast-b : goal.overflow_cast-b
-overflow_cast-b c = omega (arith, c.shared_slice_known-2-1.given c.args.at)
+overflow_cast-b c = omega (arith, c.type_inv.text c.args.at)
 
 pub returns : goal.returns
 returns c = search (digit_here, arith)

@@ -1,6 +1,5 @@
 -- `text::fields::field_at` meets its contract: with a quote, without, and at the end of the text. Assumes nothing.
 use Rattle.text.proofs.Numbers.{field_past, field_quoted, field_bare}
-use Rattle.std.proofs.Common.{rules}
 use Rattle.text.proofs.fields.field_at.Goals as goal
 
 pub returns-then-text-at : goal.returns-then-text-at

@@ -1,6 +1,6 @@
 -- `text::fields::follow` meets its contract: answer by answer. Assumes nothing.
 use Rattle.text.proofs.Numbers.{follow_unfit, follow_past, follow-is, follow_not}
-use Rattle.std.proofs.Common.{arith, rules}
+use Rattle.std.proofs.Common.{arith}
 use Rattle.text.proofs.fields.follow.Goals as goal
 
 pub returns-then-text-p : goal.returns-then-text-p

@@ -1,6 +1,5 @@
 -- `text::fields::judge` meets its contract: a law for each kind of field and each answer. Assumes nothing.
 use Rattle.text.proofs.Numbers.{judge_plain, judge_count, judge_many, judge_spare, judge_used}
-use Rattle.std.proofs.Common.{rules}
 use Rattle.text.proofs.fields.judge.Goals as goal
 
 pub returns-then-x-le128 : goal.returns-then-x-le128

@@ -1,6 +1,5 @@
 -- `text::fields::line_end` meets its contract: answer by answer. Assumes nothing.
 use Rattle.text.proofs.Numbers.{end_unfit, end_text, end_line}
-use Rattle.std.proofs.Common.{rules}
 use Rattle.text.proofs.fields.line_end.Goals as goal
 
 pub returns-then-text-p : goal.returns-then-text-p

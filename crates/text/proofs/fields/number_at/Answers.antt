@@ -1,8 +1,7 @@
--- `text::fields::number_at` meets its contract: the loop keeps the value of the digits passed (`Counting`), which is not 0; the measure is what is
--- left of the text. Assumes nothing.
-use Rattle.std.proofs.Common.{◌≡◌, ◌+◌, ◌-◌, ◌*◌, ◌<◌, ◌≤◌, length, arith, rules}
-use Rattle.text.specs.Fields.{kind}
-use Rattle.text.proofs.Numbers.{Counting, number-none, number-start, number_stop, number_nought, number_zero, number-above, number_more, inside_by, room_by}
+-- `text::fields::number_at` meets its contract: the loop keeps the value of the digits passed (`Counting`), which is
+-- not 0; the measure is what is left of the text. Assumes nothing.
+use Rattle.std.proofs.Common.{◌+◌, ◌*◌, ◌<◌, ◌≤◌, length, arith}
+use Rattle.text.proofs.Numbers.{number-none, number-start, number_stop, number_nought, number_zero, number-above, number_more, inside_by, room_by}
 use Rattle.text.proofs.fields.number_at.Goals as goal
 
 pub returns-then-value-gt9 : goal.returns-then-value-gt9

@@ -1,8 +1,8 @@
--- `text::fields::number_at` meets its contract: the loop keeps the value of the digits passed (`Counting`), which is not 0; the measure is what is
--- left of the text. Assumes nothing.
-use Rattle.std.proofs.Common.{◌≡◌, ◌+◌, ◌-◌, ◌*◌, ◌<◌, ◌≤◌, length, arith, rules}
+-- `text::fields::number_at` meets its contract: the loop keeps the value of the digits passed (`Counting`), which is
+-- not 0; the measure is what is left of the text. Assumes nothing.
+use Rattle.std.proofs.Common.{◌≡◌, ◌-◌, length}
 use Rattle.text.specs.Fields.{kind}
-use Rattle.text.proofs.Numbers.{Counting, number-none, number-start, number_stop, number_nought, number_zero, number-above, number_more, inside_by, room_by}
+use Rattle.text.proofs.Numbers.{Counting}
 use Rattle.text.proofs.fields.number_at.Given as goal
 
 abbrev pub invariant-loop-first : goal.invariant-loop-first

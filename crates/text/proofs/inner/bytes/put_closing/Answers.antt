@@ -1,6 +1,5 @@
 -- `text::inner::bytes::put_closing` meets its contract: CRLF and a comma. Assumes nothing.
 use Rattle.text.proofs.Puts.{line_first, line_second, comma_first, line-put, comma_put}
-use Rattle.std.proofs.Common.{rules}
 use Rattle.text.proofs.inner.bytes.put_closing.Goals as goal
 
 pub put_byte-p-requires : goal.put_byte-p-requires

@@ -1,7 +1,8 @@
--- `text::inner::bytes::put_field` meets its contract: a number of at most ten digits, and what closes it. Assumes nothing.
+-- `text::inner::bytes::put_field` meets its contract: a number of at most ten digits, and what closes it. Assumes
+-- nothing.
 use Rattle.text.proofs.Decimals.{decimal_ten}
 use Rattle.text.proofs.Puts.{field_room, field_put}
-use Rattle.std.proofs.Common.{arith, rules}
+use Rattle.std.proofs.Common.{arith}
 use Rattle.text.proofs.inner.bytes.put_field.Goals as goal
 
 pub put_number-p-requires : goal.put_number-p-requires

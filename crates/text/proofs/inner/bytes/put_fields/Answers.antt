@@ -1,6 +1,7 @@
--- `text::inner::bytes::put_fields` meets its contract: what is put of the numbers that are left is put as it should (`Putting`). Assumes nothing.
-use Rattle.std.proofs.Common.{◌-◌, length, arith, rules}
-use Rattle.text.proofs.Puts.{room_next, Putting, putting_start, putting_more, putting_done}
+-- `text::inner::bytes::put_fields` meets its contract: what is put of the numbers that are left is put as it should
+-- (`Putting`). Assumes nothing.
+use Rattle.std.proofs.Common.{arith}
+use Rattle.text.proofs.Puts.{room_next, putting_start, putting_more, putting_done}
 use Rattle.text.proofs.inner.bytes.put_fields.Goals as goal
 
 pub loop-i-init : goal.loop-i-init

@@ -1,6 +1,6 @@
--- `text::inner::bytes::put_number` meets its contract: as put_digits does, which puts all digits but the last. Assumes nothing.
+-- `text::inner::bytes::put_number` meets its contract: as put_digits does, which puts all digits but the last. Assumes
+-- nothing.
 use Rattle.text.proofs.Puts.{number-first, number-front, number-room, number-one, number_more}
-use Rattle.std.proofs.Common.{rules}
 use Rattle.text.proofs.inner.bytes.put_number.Goals as goal
 
 pub put_byte-requires : goal.put_byte-requires

@@ -1,6 +1,5 @@
 -- `text::inner::first::after_first` meets its contract: answer by answer. Assumes nothing.
 use Rattle.text.proofs.Walking.{past_record, past_unfit}
-use Rattle.std.proofs.Common.{rules}
 use Rattle.text.proofs.inner.first.after_first.Goals as goal
 
 pub returns-in-Record : goal.returns-in-Record

@@ -1,6 +1,5 @@
 -- `text::inner::first::entries` meets its contract: answer by answer. Assumes nothing.
 use Rattle.text.proofs.Walking.{entries_record, entries_unfit}
-use Rattle.std.proofs.Common.{rules}
 use Rattle.text.proofs.inner.first.entries.Goals as goal
 
 pub returns-in-Record : goal.returns-in-Record

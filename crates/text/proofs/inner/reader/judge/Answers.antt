@@ -1,6 +1,5 @@
 -- `text::inner::reader::judge` meets its contract: a law for each way through it. Assumes nothing.
 use Rattle.text.proofs.Walking.{judge_none, judge_first, judge_rows, judge_after, judge_chart}
-use Rattle.std.proofs.Common.{rules}
 use Rattle.text.proofs.inner.reader.judge.Goals as goal
 
 pub returns-then-text-eq0 : goal.returns-then-text-eq0

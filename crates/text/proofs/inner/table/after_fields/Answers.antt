@@ -1,6 +1,5 @@
 -- `text::inner::table::after_fields` meets its contract: answer by answer. Assumes nothing.
 use Rattle.text.proofs.Tables.{reached_past, reached_unfit}
-use Rattle.std.proofs.Common.{rules}
 use Rattle.text.proofs.inner.table.after_fields.Goals as goal
 
 pub returns-in-Past : goal.returns-in-Past

@@ -1,6 +1,6 @@
--- `text::inner::table::copy` meets its contract: the front of the table is copied up to the index (`Copying`). Assumes nothing.
-use Rattle.std.proofs.Common.{◌-◌, length, rules}
-use Rattle.base.proofs.Stores.{Copying, copying_start, copying_more, copying_done}
+-- `text::inner::table::copy` meets its contract: the front of the table is copied up to the index (`Copying`). Assumes
+-- nothing.
+use Rattle.base.proofs.Stores.{copying_start, copying_more, copying_done}
 use Rattle.text.proofs.inner.table.copy.Goals as goal
 
 pub loop-i-init : goal.loop-i-init

@@ -1,6 +1,7 @@
--- `text::inner::table::copy` meets its contract: the front of the table is copied up to the index (`Copying`). Assumes nothing.
-use Rattle.std.proofs.Common.{◌-◌, length, rules}
-use Rattle.base.proofs.Stores.{Copying, copying_start, copying_more, copying_done}
+-- `text::inner::table::copy` meets its contract: the front of the table is copied up to the index (`Copying`). Assumes
+-- nothing.
+use Rattle.std.proofs.Common.{◌-◌, length}
+use Rattle.base.proofs.Stores.{Copying}
 use Rattle.text.proofs.inner.table.copy.Given as goal
 
 abbrev pub invariant-loop-i : goal.invariant-loop-i

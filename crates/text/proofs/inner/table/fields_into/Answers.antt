@@ -1,6 +1,6 @@
--- `text::inner::table::fields_into` meets its contract: reading the fields that are left gives what reading all gives (`Reading`). Assumes nothing.
-use Rattle.std.proofs.Common.{◌-◌, rules}
-use Rattle.text.proofs.Tables.{Reading, reading_start, reading_stop, reading_more, reading_done}
+-- `text::inner::table::fields_into` meets its contract: reading the fields that are left gives what reading all gives
+-- (`Reading`). Assumes nothing.
+use Rattle.text.proofs.Tables.{reading_start, reading_stop, reading_more, reading_done}
 use Rattle.text.proofs.inner.table.fields_into.Goals as goal
 
 pub loop-i-init : goal.loop-i-init

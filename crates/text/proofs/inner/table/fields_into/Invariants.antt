@@ -1,6 +1,7 @@
--- `text::inner::table::fields_into` meets its contract: reading the fields that are left gives what reading all gives (`Reading`). Assumes nothing.
-use Rattle.std.proofs.Common.{◌-◌, rules}
-use Rattle.text.proofs.Tables.{Reading, reading_start, reading_stop, reading_more, reading_done}
+-- `text::inner::table::fields_into` meets its contract: reading the fields that are left gives what reading all gives
+-- (`Reading`). Assumes nothing.
+use Rattle.std.proofs.Common.{◌-◌}
+use Rattle.text.proofs.Tables.{Reading}
 use Rattle.text.proofs.inner.table.fields_into.Given as goal
 
 abbrev pub invariant-loop-i : goal.invariant-loop-i

@@ -1,6 +1,5 @@
 -- `text::inner::writer::put_chart` meets its contract: the first record, and the rows after it. Assumes nothing.
 use Rattle.text.proofs.Puts.{chart-put}
-use Rattle.std.proofs.Common.{rules}
 use Rattle.text.proofs.inner.writer.put_chart.Goals as goal
 
 pub returns : goal.returns
