@@ -1,0 +1,16 @@
+-- The loop counts down the rows of the place that it passes. Assumes nothing.
+use Prim.Native.Nat.{◌-◌}
+use mathlib.Core.Path.{◌≡◌, sym, ap, ◌∙◌}
+use mathlib.Core.Logic.{⊎_elim}
+use Rattle.operations.specs.Trials.{never_holds}
+use Rattle.chart.specs.Charts.{size}
+use Rattle.report.proofs.Rows.{Sought, sought_first, sought_one, sought_no, sought_found, sought_end}
+use borrow.Author.Rules.{rules}
+use native.Mathlib.Omega.{arith}
+use Rattle.report.proofs.inner.transitions.never_row.Given as goal
+
+abbrev pub invariant-loop-i : goal.invariant-loop-i
+invariant-loop-i l = Sought l.table l.place l.k l.left l.i × (l.n ≡ size l.table)
+
+abbrev pub decreases-loop-i : goal.decreases-loop-i
+decreases-loop-i l = l.n - l.i
