@@ -1,0 +1,11 @@
+-- The numbers of a build are small. Assumes nothing.
+use Rattle.builder.proofs.Bounds.{done_small, refused-fits}
+use native.Mathlib.Omega.{arith}
+use borrow.Author.Rules.{rules}
+use Rattle.pick.proofs.show.Goals as goal
+
+pub refuse-requires : goal.refuse-requires
+refuse-requires g c = (refused-fits _ _ c.build.ensures.answer c.in-Refused.is).position
+
+pub head-requires : goal.head-requires
+head-requires g c = done_small _ _ c.build.ensures.answer c.in-Done.is

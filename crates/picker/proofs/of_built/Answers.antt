@@ -1,0 +1,9 @@
+-- `picker::of_built` meets its contract. Assumes nothing.
+use borrow.Author.Rules.{rules}
+use Rattle.picker.proofs.of_built.Goals as goal
+
+pub returns-in-Done : goal.returns-in-Done
+returns-in-Done c = rw c.in-Done.is
+
+pub returns-in-Refused : goal.returns-in-Refused
+returns-in-Refused c = rw c.in-Refused.is

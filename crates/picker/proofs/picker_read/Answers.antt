@@ -1,0 +1,10 @@
+-- `picker::picker_read` meets its contract. Assumes nothing.
+use Rattle.picker.proofs.Answers.{packs, makes, read_answers}
+use borrow.Author.Rules.{rules}
+use Rattle.picker.proofs.picker_read.Goals as goal
+
+pub packed-requires : goal.packed-requires
+packed-requires c = packs (read_answers c.args.text.now c.args.table.now c.read.ensures.is.0 c.of_read.ensures)
+
+pub returns : goal.returns
+returns c = (makes (read_answers c.args.text.now c.args.table.now c.read.ensures.is.0 c.of_read.ensures) c.packed.ensures, c.read.ensures.is.1)

@@ -1,0 +1,12 @@
+-- `picker::picker_write` meets its contract. Assumes nothing.
+use lib.ListN.{length}
+use Rattle.picker.proofs.Answers.{packs, makes, write_answers}
+use native.Mathlib.Omega.{arith}
+use borrow.Author.Rules.{rules}
+use Rattle.picker.proofs.picker_write.Goals as goal
+
+pub packed-requires : goal.packed-requires
+packed-requires c = packs (write_answers c.args.places c.args.alarm c.args.rows.now (length c.args.bytes.now) (omega arith) (omega arith) (λ i. omega (arith, c.type_inv.rows i)) c.write.ensures.is.0 c.of_wrote.ensures)
+
+pub returns : goal.returns
+returns c = (makes (write_answers c.args.places c.args.alarm c.args.rows.now (length c.args.bytes.now) (omega arith) (omega arith) (λ i. omega (arith, c.type_inv.rows i)) c.write.ensures.is.0 c.of_wrote.ensures) c.packed.ensures, c.write.ensures.is.1)
