@@ -125,9 +125,9 @@ fn running(pick: &Path, pair: &(Chart, Chart)) -> Vec<Time> {
 }
 
 pub fn lines() {
-    let pick = Path::new(env!("CARGO_MANIFEST_DIR")).join("../target/bin/pick");
+    let pick = Path::new(env!("CARGO_MANIFEST_DIR")).join("../crates/pick/out/pick");
     let Ok(pick) = pick.canonicalize() else {
-        return eprintln!("the whole program is left out: `rt check pick` makes it");
+        return eprintln!("the whole program is left out: `rt run` makes it in the crate pick");
     };
     let wide = |random: &mut Random| (drawn::wide(random, 64, 10, 0), drawn::wide(random, 64, 10, 0));
     let amended = |random: &mut Random| drawn::procedures(random, 64, Orders::Unsigned);

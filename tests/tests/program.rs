@@ -13,10 +13,10 @@ use std::sync::atomic::{AtomicUsize, Ordering};
 
 const OLD: &str = "6,5,5,0,0,0\r\n0,1,0,1,0,5\r\n1,2,18,0,0,100\r\n1,3,21,0,0,100\r\n3,5,20,1,0,50\r\n3,4,19,1,0,50\r\n";
 
-/// The program that `rt check pick` links.
+/// The program that `rt run` links in the crate pick.
 fn program() -> PathBuf {
-    let path = Path::new(env!("CARGO_MANIFEST_DIR")).join("../target/bin/pick");
-    assert!(path.exists(), "{} is missing: `rt check pick` makes it", path.display());
+    let path = Path::new(env!("CARGO_MANIFEST_DIR")).join("../crates/pick/out/pick");
+    assert!(path.exists(), "{} is missing: `rt run` makes it in the crate pick", path.display());
     path.canonicalize().unwrap()
 }
 

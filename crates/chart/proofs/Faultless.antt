@@ -14,7 +14,7 @@ use Rattle.base.specs.Refusals.{due_in, due}
 use Rattle.base.proofs.Options.{missing-none, both-missing, not_due, none_of, none_if, none_everywhere}
 use Rattle.base.proofs.Tests.{and_true, or_false, not_both, none_below, none-below_at}
 use Rattle.operations.specs.Operations.{is_known, is_assumption}
-use Rattle.chart.specs.Charts.{Chart, size, from, to, operation}
+use Rattle.chart.specs.Charts.{Chart, size, from, operation}
 use Rattle.chart.specs.Compared.{Compared, edition_named}
 use Rattle.chart.specs.Faults.{lacks, strays, from_before, descends, clash, whole, count_fault, alarm_fault, row_fault, conflict_fault, rows_fault, fault, refusal, judged}
 use Rattle.chart.specs.Faultless.{FaultlessRow, Apart, FaultlessChart}

@@ -1,5 +1,5 @@
 -- The test of two assumptions is exact. Assumes nothing.
-use Rattle.std.proofs.Common.{◌≡◌, ℕ, zero, suc, ◌^◌, ◌<◌, Bool, true, false, cond, not, T, eqb, ◌↔◌, List, [], ◌∷◌, length, get_or, sym, refl, ap, ◌∙◌, subst, ap₂, subst₂, le_of_suc-le-suc, not-suc-le-zero, mod-lt, arith, T_not, pow_pos}
+use Rattle.std.proofs.Common.{◌≡◌, ℕ, zero, suc, ◌^◌, ◌<◌, Bool, true, false, cond, not, T, eqb, ◌↔◌, List, [], ◌∷◌, length, get_or, sym, refl, ap, ◌∙◌, subst, ap₂, subst₂, le_of_suc-le-suc, not-suc-le-zero, mod-lt, T_not, pow_pos}
 use lib.Dec.{not_T}
 use Rattle.operations.specs.declared.Operation.{Operation}
 use Rattle.operations.specs.declared.assumptions.Implication.{Implication}
@@ -10,7 +10,7 @@ use Rattle.operations.specs.Values.{Values, var}
 use Rattle.operations.specs.Assumptions.{Operands, NeverHolds, Implies, ExactlyOne, Means}
 use Rattle.operations.specs.Trials.{alike, inside, own, seats, trial, points_of, shown, shown_by, together, never, never_holds, implies, exclusive, implication}
 use Rattle.base.proofs.Tests.{T_and, T_both, T_true, is_true, differ, yields, opposite, and_true}
-use Rattle.base.proofs.Lists.{any_at, All, any_all}
+use Rattle.base.proofs.Lists.{any_at, any_all}
 use Rattle.operations.proofs.Trials.{joint, bound-small, points-small, tried}
 
 pub alike_self : (b : Bool) → T (alike b b)

@@ -1,5 +1,5 @@
 -- What an operation does depends only on the variables that it reads, and what it writes is a u32. Assumes nothing.
-use Rattle.std.proofs.Common.{◌≡◌, ℕ, ◌+◌, ◌-◌, ◌^◌, ◌<◌, ◌≤◌, Bool, true, false, cond, eqb, List, [], ◌∷◌, ◌++◌, sym, refl, ap, subst, ap₂, mod-lt, arith, pow_pos}
+use Rattle.std.proofs.Common.{◌≡◌, ℕ, ◌+◌, ◌-◌, ◌^◌, ◌<◌, ◌≤◌, true, false, cond, eqb, List, [], ◌∷◌, ◌++◌, sym, refl, ap, subst, ap₂, mod-lt, arith, pow_pos}
 use native.Mathlib.Decide.{ℕ_discrete}
 use Rattle.base.proofs.Lists.{All}
 use Rattle.base.proofs.Tests.{T_true}

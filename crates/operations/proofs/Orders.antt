@@ -3,7 +3,7 @@ use Rattle.std.proofs.Common.{◌≡◌, ℕ, ◌^◌, ◌<◌, Bool, true, fals
 use borrow.Author.Tests.{not-true}
 use Rattle.base.proofs.Tests.{T_or, T_or_l, T_or_r, and_true}
 use Rattle.base.specs.Lists.{any}
-use Rattle.base.proofs.Lists.{has, has_at, All, any_at, any_all}
+use Rattle.base.proofs.Lists.{has, has_at, any_at, any_all}
 use Rattle.operations.specs.declared.Operation.{Operation}
 use Rattle.operations.specs.Operations.{with_constant, plus, order, holds}
 use Rattle.operations.specs.Trials.{inside, seats, trial, points_of, shown, together}

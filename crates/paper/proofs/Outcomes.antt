@@ -10,7 +10,7 @@ use Rattle.base.specs.Options.{when}
 use Rattle.base.proofs.Tests.{T_true}
 use Rattle.operations.specs.declared.Operation.{Operation}
 use Rattle.operations.specs.Assumptions.{Operands}
-use Rattle.operations.specs.Operations.{is_assignment, same}
+use Rattle.operations.specs.Operations.{same}
 use Rattle.chart.specs.declared.places.OldPlace.{OldPlace}
 use Rattle.chart.specs.Charts.{operation}
 use Rattle.chart.specs.Compared.{Compared}

@@ -3,16 +3,14 @@
 use mathlib.Core.Path.{◌≡◌, refl, sym, ap, subst, ◌∙◌}
 use mathlib.Core.Bool.{Bool, true, false, ◌&&◌, ◌||◌, not}
 use mathlib.Core.Option.{Option, none, some, none-ne-some, some-injective}
-use Prim.Native.Nat.{ℕ, ◌^◌, ◌<◌}
+use Prim.Native.Nat.{ℕ}
 use borrow.Author.Tests.{eq-eqb, eqb-true}
 use lib.Dec.{eqb}
 use Rattle.base.specs.Options.{when}
 use Rattle.base.specs.Says.{bool}
 use Rattle.base.proofs.OnSome.{OnSome}
 use Rattle.base.proofs.Picks.{pick_true, pick_false}
-use Rattle.base.proofs.Tests.{T_true}
 use Rattle.chart.specs.declared.places.OldPlace.{OldPlace}
-use Rattle.chart.specs.declared.places.NewPlace.{NewPlace}
 use Rattle.chart.specs.Compared.{Compared, is_second, heads_of}
 use Rattle.chart.proofs.Words.{Words}
 use Rattle.chart.specs.Faultless.{FaultlessChart}
@@ -21,7 +19,7 @@ use Rattle.align.specs.Steps.{at_alarm, followed, fair, at_both, rescued, arrive
 use Rattle.align.proofs.Steps.{Fits}
 use Rattle.paper.specs.Nodes.{Pair, pair}
 use Rattle.paper.specs.Lines5to18.{Loop}
-use Rattle.paper.specs.Algorithm2.{State, ℓ-err, ℓ₂', to_place, line27, to_pair, Footnote8, Process, lines23to25, line27-so, footnote8, lines29to33, Called}
+use Rattle.paper.specs.Algorithm2.{State, ℓ-err, ℓ₂', to_place, line27, to_pair, Footnote8, lines23to25, line27-so, footnote8, lines29to33, Called}
 use Rattle.paper.proofs.Single.{at}
 use Rattle.paper.proofs.Stepping.{Walked, came, twice, walked}
 use Rattle.paper.proofs.Outcomes.{looped, ended}

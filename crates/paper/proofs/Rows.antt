@@ -1,21 +1,18 @@
 -- One edge of the pair in hand: what a row of a turn does to the buffers, lines 5 to 18 and PROCESS do to the source's
 -- variables. Assumes nothing.
 use mathlib.Core.Path.{◌≡◌, refl, sym, ap, ap₂, subst, ◌∙◌}
-use mathlib.Core.Bool.{Bool, true, false, ◌&&◌, ◌||◌, not, or-true}
+use mathlib.Core.Bool.{Bool, true, false, or-true}
 use mathlib.Core.Logic.{inl, inr, dite}
-use mathlib.Core.Option.{Option, none, some, none-ne-some, some-injective}
+use mathlib.Core.Option.{Option, none, some}
 use Prim.Native.Nat.{ℕ, ◌%◌, ◌^◌, ◌<◌}
 use native.Mathlib.Omega.{arith}
 use native.Mathlib.Decide.{ℕ_discrete}
-use lib.Dec.{eqb}
-use lib.ListN.{set}
-use Rattle.base.specs.Options.{when}
 use Rattle.base.proofs.OnSome.{OnSome, on_at}
 use Rattle.operations.specs.Assumptions.{Operands}
 use Rattle.chart.specs.declared.places.NewPlace.{NewPlace}
 use Rattle.chart.specs.Places.{pair_number, kept_number, old_of, new_of}
 use Rattle.chart.specs.Charts.{operation}
-use Rattle.chart.specs.Compared.{Compared, heads_of}
+use Rattle.chart.specs.Compared.{Compared}
 use Rattle.chart.proofs.Words.{Words}
 use Rattle.chart.specs.Faultless.{FaultlessChart}
 use Rattle.chart.specs.Possible.{stripped}

@@ -29,7 +29,7 @@ use Rattle.operations.specs.Operations.{kind, by_kind, is_known, is_assignment, 
 use Rattle.operations.specs.Trials.{implication}
 use Rattle.operations.proofs.Exact.{implication_means}
 use Rattle.chart.specs.declared.places.OldPlace.{OldPlace}
-use Rattle.chart.specs.Charts.{size, from, to, operation}
+use Rattle.chart.specs.Charts.{size, operation}
 use Rattle.chart.specs.Compared.{Compared, is_second}
 use Rattle.chart.proofs.Words.{Words}
 use Rattle.chart.specs.Faultless.{FaultlessChart}

@@ -33,7 +33,7 @@ use Rattle.picker.specs.declared.Answer.{Answer as Coded}
 use Rattle.picker.specs.declared.Answer.TheVariants.{Given, Refused}
 use Rattle.picker.specs.Numbers.{chart_of, number, one, of_chart, of_text, zeros, of_build}
 use Rattle.picker.specs.inner.Told.{told, Below, of_heading}
-use Rattle.picker.proofs.Numbers.{given-low, first, refused-high}
+use Rattle.picker.proofs.Numbers.{first, refused-high}
 use Rattle.chart.specs.Compared.{Compared, compared, both_heads, both}
 use Rattle.chart.specs.declared.charts.Head.{Head}
 use Rattle.chart.specs.declared.charts.Heads.{Heads}

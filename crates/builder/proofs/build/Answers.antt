@@ -5,7 +5,6 @@ use Rattle.chart.specs.Faults.{told as chart_told}
 use Rattle.graph.specs.Buffers.{buffers}
 use Rattle.builder.proofs.Answering.{none-judged, some-judged, done_answers, done_leaves, done_passes, done_returned, refused_answers, refused-leaves, never_done}
 use native.Mathlib.Omega.{arith}
-use borrow.Author.Rules.{rules}
 use Rattle.builder.proofs.build.Goals as goal
 
 pub complete-requires : goal.complete-requires

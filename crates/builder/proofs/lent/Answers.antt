@@ -1,5 +1,4 @@
 -- `builder::lent` meets its contract: by its tests. Assumes nothing.
-use borrow.Author.Rules.{rules}
 use Rattle.builder.proofs.lent.Goals as goal
 
 pub returns : goal.returns

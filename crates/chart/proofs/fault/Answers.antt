@@ -1,6 +1,5 @@
 -- `chart::fault` meets its contract: test by test. Assumes nothing.
 use Rattle.chart.specs.Faults.{count_fault, alarm_fault, fault}
-use borrow.Author.Rules.{rules}
 use Rattle.chart.proofs.fault.Goals as goal
 
 pub returns-then-lacks : goal.returns-then-lacks

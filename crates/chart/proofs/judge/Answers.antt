@@ -1,7 +1,6 @@
 -- `chart::judge` meets its contract: a table of whole rows has the faults of its chart. Assumes nothing.
 use Rattle.std.proofs.Common.{ap, not}
 use Rattle.chart.specs.Faults.{refusal}
-use borrow.Author.Rules.{rules}
 use Rattle.chart.proofs.judge.Goals as goal
 
 pub returns-then-not-whole : goal.returns-then-not-whole

@@ -9,7 +9,6 @@ use Rattle.base.specs.declared.Refusal.{Refusal}
 use Rattle.chart.specs.declared.charts.Head.{Head}
 use Rattle.chart.specs.Charts.{charted}
 use Rattle.chart.specs.Faults.{told, fault, judged}
-use borrow.Author.Rules.{rules}
 use Rattle.chart.proofs.judged.Goals as goal
 
 judged-head : (k : ℕ) (t : List ℕ) {o : Option Refusal} {h g : Head} → o ≡ fault k (charted h t) → h ≡ g → o ≡ fault k (charted g t)

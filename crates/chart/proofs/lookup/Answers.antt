@@ -9,7 +9,6 @@ use borrow.Author.Tests.{eq-eqb, ne_eqb}
 use Rattle.chart.specs.declared.charts.Head.{Head}
 use Rattle.chart.specs.Charts.{charted, leaving}
 use Rattle.chart.specs.Lookup.{open_to, lookup}
-use borrow.Author.Rules.{rules}
 use Rattle.chart.proofs.lookup.Goals as goal
 
 other : {n : ℕ} → n ≡ 0 → n ≢ 1

@@ -2,7 +2,6 @@
 use mathlib.Core.Path.{sym, ap, ◌∙◌}
 use Rattle.chart.specs.Faults.{told}
 use Rattle.chart.specs.Lookup.{open_to}
-use borrow.Author.Rules.{rules}
 use Rattle.chart.proofs.open_to.Goals as goal
 
 pub returns-in-Faultless : goal.returns-in-Faultless

@@ -1,7 +1,6 @@
 -- `chart::row_number` meets its contract: test by test. Assumes nothing.
 use mathlib.Core.Path.{sym, ap, ◌∙◌}
 use Rattle.operations.specs.Operations.{is_known}
-use borrow.Author.Rules.{rules}
 use Rattle.chart.proofs.row_number.Goals as goal
 
 pub returns-then-strays : goal.returns-then-strays

@@ -5,7 +5,6 @@ use Rattle.chart.specs.Charts.{charted}
 use Rattle.chart.specs.inner.Faulty.{faulty}
 use Rattle.chart.proofs.Faultless.{unfound}
 use Rattle.chart.proofs.Faults.{found_below, row_told, conflict_told, none_told}
-use borrow.Author.Rules.{rules}
 use Rattle.chart.proofs.rows_fault.Goals as goal
 
 pub row_number-requires : goal.row_number-requires

@@ -2,7 +2,6 @@
 use mathlib.Core.Path.{refl, sym, ◌∙◌}
 use native.Mathlib.Omega.{arith}
 use Rattle.chart.proofs.Faultless.{opened}
-use borrow.Author.Rules.{rules}
 use Rattle.chart.proofs.rows_open.Goals as goal
 
 pub rows_in-requires : goal.rows_in-requires

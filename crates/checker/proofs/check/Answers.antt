@@ -1,5 +1,5 @@
 -- `checker::check` meets its contract: the charts, then the record, and the promise of what passes. Assumes nothing.
-use Rattle.std.proofs.Common.{ap, arith, rules}
+use Rattle.std.proofs.Common.{ap, arith}
 use Rattle.chart.specs.Compared.{compared}
 use Rattle.chart.specs.Faults.{told as chart_told}
 use Rattle.records.specs.Records.{record_of}

@@ -1,10 +1,8 @@
 -- `checker::record_fault` meets its contract: the shape, then the rules. Assumes nothing.
-use Rattle.std.proofs.Common.{sym, ap, ◌∙◌, rules}
-use borrow.Author.Tests.{not-true, not-false}
+use Rattle.std.proofs.Common.{sym, ap, ◌∙◌}
 use Rattle.chart.proofs.Faultless.{indexable}
 use Rattle.base.specs.inner.Found.{told_found}
 use Rattle.checker.proofs.Answering.{shape_refused, rules_judged, admitted}
-use Rattle.checker.specs.Rules.{shaped}
 use Rattle.records.specs.Records.{record_of}
 use Rattle.checker.proofs.record_fault.Goals as goal
 

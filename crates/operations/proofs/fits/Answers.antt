@@ -1,5 +1,4 @@
 -- `operations::fits` meets its contract: operand by operand. Assumes nothing.
-use Rattle.std.proofs.Common.{rules}
 use Rattle.operations.proofs.fits.Goals as goal
 
 pub returns-in-Variable : goal.returns-in-Variable

@@ -1,5 +1,5 @@
 -- `operations::is_assignment` meets its contract: its code tells. Assumes nothing.
-use Rattle.std.proofs.Common.{refl, rules}
+use Rattle.std.proofs.Common.{refl}
 use Rattle.operations.proofs.is_assignment.Goals as goal
 
 pub returns : goal.returns

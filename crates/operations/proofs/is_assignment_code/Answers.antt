@@ -1,5 +1,5 @@
 -- `operations::is_assignment_code` meets its contract: kind by kind. Assumes nothing.
-use Rattle.std.proofs.Common.{sym, ◌∙◌, rules}
+use Rattle.std.proofs.Common.{sym, ◌∙◌}
 use Rattle.operations.proofs.is_assignment_code.Goals as goal
 
 pub returns-in-Assignment : goal.returns-in-Assignment

@@ -1,5 +1,5 @@
 -- `operations::is_known` meets its contract: kind by kind. Assumes nothing.
-use Rattle.std.proofs.Common.{sym, ◌∙◌, rules}
+use Rattle.std.proofs.Common.{sym, ◌∙◌}
 use Rattle.operations.proofs.is_known.Goals as goal
 
 pub returns-in-Assignment : goal.returns-in-Assignment

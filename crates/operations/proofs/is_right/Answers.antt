@@ -1,5 +1,5 @@
 -- `operations::is_right` meets its contract: by the two tables. Assumes nothing.
-use Rattle.std.proofs.Common.{refl, arith, rules}
+use Rattle.std.proofs.Common.{refl, arith}
 use Rattle.operations.proofs.Codes.{right_by_tables}
 use Rattle.operations.proofs.is_right.Goals as goal
 

@@ -1,5 +1,5 @@
 -- `operations::operand_b` meets its contract: kind by kind. Assumes nothing.
-use Rattle.std.proofs.Common.{sym, ◌∙◌, rules, eq-eqb, ne_eqb}
+use Rattle.std.proofs.Common.{sym, ◌∙◌, eq-eqb, ne_eqb}
 use Rattle.operations.specs.Operations.{operand_b}
 use Rattle.operations.proofs.operand_b.Goals as goal
 

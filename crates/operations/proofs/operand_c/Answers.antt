@@ -1,5 +1,5 @@
 -- `operations::operand_c` meets its contract: kind by kind. Assumes nothing.
-use Rattle.std.proofs.Common.{sym, ◌∙◌, rules}
+use Rattle.std.proofs.Common.{sym, ◌∙◌}
 use Rattle.operations.specs.Operations.{operand_c}
 use Rattle.operations.proofs.operand_c.Goals as goal
 

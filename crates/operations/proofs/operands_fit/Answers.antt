@@ -1,5 +1,5 @@
 -- `operations::operands_fit` meets its contract: operand by operand. Assumes nothing.
-use Rattle.std.proofs.Common.{ap, ◌∙◌, rules, le-leb}
+use Rattle.std.proofs.Common.{ap, ◌∙◌, le-leb}
 use Rattle.operations.specs.declared.Operand.{Operand}
 use Rattle.operations.specs.Operations.{operands_fit, fits}
 use borrow.Author.Tests.{lt-leb}

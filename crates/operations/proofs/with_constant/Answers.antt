@@ -1,5 +1,5 @@
 -- `operations::with_constant` meets its contract: by the code that it repeats. Assumes nothing.
-use Rattle.std.proofs.Common.{arith, rules}
+use Rattle.std.proofs.Common.{arith}
 use Rattle.operations.proofs.Codes.{constant_codes}
 use Rattle.operations.specs.Operations.{plus}
 use Rattle.operations.proofs.with_constant.Goals as goal

@@ -3,7 +3,6 @@ use mathlib.Core.Path.{sym}
 use lib.Seq.{length-take-le}
 use Rattle.pick.proofs.Reading.{few_rows, refused-near}
 use native.Mathlib.Omega.{arith}
-use borrow.Author.Rules.{rules}
 use Rattle.pick.proofs.main.Goals as goal
 
 pub refuse-requires : goal.refuse-requires

@@ -1,6 +1,5 @@
 -- What the reader answers of each text. Assumes nothing.
 use Rattle.pick.proofs.Reading.{old-refused, new-refused, both_charts}
-use borrow.Author.Rules.{rules}
 use Rattle.pick.proofs.read_both.Goals as goal
 
 pub returns-in-Refused : goal.returns-in-Refused

@@ -1,7 +1,5 @@
 -- The numbers of a build are small. Assumes nothing.
 use Rattle.builder.proofs.Bounds.{done_small, refused-fits}
-use native.Mathlib.Omega.{arith}
-use borrow.Author.Rules.{rules}
 use Rattle.pick.proofs.show.Goals as goal
 
 pub refuse-requires : goal.refuse-requires

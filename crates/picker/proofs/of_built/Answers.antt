@@ -1,5 +1,4 @@
 -- `picker::of_built` meets its contract. Assumes nothing.
-use borrow.Author.Rules.{rules}
 use Rattle.picker.proofs.of_built.Goals as goal
 
 pub returns-in-Done : goal.returns-in-Done

@@ -1,5 +1,4 @@
 -- `picker::of_checked` meets its contract. Assumes nothing.
-use borrow.Author.Rules.{rules}
 use Rattle.picker.proofs.of_checked.Goals as goal
 
 pub returns-in-Passed : goal.returns-in-Passed

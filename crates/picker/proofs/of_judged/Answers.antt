@@ -1,5 +1,4 @@
 -- `picker::of_judged` meets its contract. Assumes nothing.
-use borrow.Author.Rules.{rules}
 use Rattle.picker.proofs.of_judged.Goals as goal
 
 pub returns-in-Faultless : goal.returns-in-Faultless

@@ -1,6 +1,5 @@
 -- `picker::of_read` meets its contract. Assumes nothing.
 use Rattle.text.specs.Texts.{told_read}
-use borrow.Author.Rules.{rules}
 use Rattle.picker.proofs.of_read.Goals as goal
 
 pub returns-in-Chart : goal.returns-in-Chart

@@ -1,6 +1,5 @@
 -- `picker::of_wrote` meets its contract. Assumes nothing.
 use Rattle.text.specs.Written.{told_wrote}
-use borrow.Author.Rules.{rules}
 use Rattle.picker.proofs.of_wrote.Goals as goal
 
 pub returns-in-Bytes : goal.returns-in-Bytes

@@ -1,7 +1,6 @@
 -- `picker::packed` meets its contract: the numbers of the answer fit their places, so that no sum wraps. Assumes nothing.
 use Rattle.picker.proofs.Answers.{given_below, refused-fits}
 use native.Mathlib.Omega.{arith}
-use borrow.Author.Rules.{rules}
 use Rattle.picker.proofs.packed.Goals as goal
 
 pub overflow_mul-result : goal.overflow_mul-result

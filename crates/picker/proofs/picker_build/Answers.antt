@@ -1,6 +1,5 @@
 -- `picker::picker_build` meets its contract. Assumes nothing.
 use Rattle.picker.proofs.Answers.{packs, makes, build_answers, built_passes, built-returned, lent_is}
-use borrow.Author.Rules.{rules}
 use Rattle.picker.proofs.picker_build.Goals as goal
 
 pub packed-requires : goal.packed-requires

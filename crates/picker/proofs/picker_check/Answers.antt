@@ -3,7 +3,6 @@ use mathlib.Core.Path.{sym, ◌∙◌}
 use Rattle.records.specs.Records.{record_of}
 use Rattle.checker.proofs.Bounds.{refusal-fits}
 use Rattle.picker.proofs.Answers.{packs, makes, due_answers, none-due, lent_is, lent_promise}
-use borrow.Author.Rules.{rules}
 use Rattle.picker.proofs.picker_check.Goals as goal
 
 pub packed-requires : goal.packed-requires

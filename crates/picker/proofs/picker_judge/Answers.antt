@@ -1,7 +1,6 @@
 -- `picker::picker_judge` meets its contract. Assumes nothing.
 use Rattle.chart.proofs.Bounds.{refusal-fits}
 use Rattle.picker.proofs.Answers.{packs, makes, due_answers}
-use borrow.Author.Rules.{rules}
 use Rattle.picker.proofs.picker_judge.Goals as goal
 
 pub packed-requires : goal.packed-requires

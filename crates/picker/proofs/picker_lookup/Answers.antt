@@ -3,7 +3,6 @@ use Rattle.picker.proofs.Handed.{length-fits, part_short, part_below, length-ref
 use native.Mathlib.Omega.{arith}
 use Rattle.chart.specs.Compared.{compared}
 use Rattle.picker.proofs.Answers.{lent_is}
-use borrow.Author.Rules.{rules}
 use Rattle.picker.proofs.picker_lookup.Goals as goal
 
 pub packed-requires : goal.packed-requires

@@ -1,6 +1,5 @@
 -- `picker::picker_read` meets its contract. Assumes nothing.
 use Rattle.picker.proofs.Answers.{packs, makes, read_answers}
-use borrow.Author.Rules.{rules}
 use Rattle.picker.proofs.picker_read.Goals as goal
 
 pub packed-requires : goal.packed-requires

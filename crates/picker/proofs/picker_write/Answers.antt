@@ -2,7 +2,6 @@
 use lib.ListN.{length}
 use Rattle.picker.proofs.Answers.{packs, makes, write_answers}
 use native.Mathlib.Omega.{arith}
-use borrow.Author.Rules.{rules}
 use Rattle.picker.proofs.picker_write.Goals as goal
 
 pub packed-requires : goal.packed-requires

@@ -1,7 +1,6 @@
 -- A record at the front. Assumes nothing.
 use Rattle.report.proofs.Fronts.{front-summary}
 use native.Mathlib.Omega.{arith}
-use borrow.Author.Rules.{rules}
 use Rattle.report.proofs.summary.Goals as goal
 
 pub returns : goal.returns

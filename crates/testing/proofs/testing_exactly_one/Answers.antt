@@ -1,7 +1,6 @@
 -- `testing::testing_exactly_one` meets its contract: by the test. Assumes nothing.
 use mathlib.Core.Path.{sym, ap, ◌∙◌}
 use Rattle.testing.specs.Numbers.{bit}
-use borrow.Author.Rules.{rules}
 use Rattle.testing.proofs.testing_exactly_one.Goals as goal
 
 pub returns-then-exactly_one : goal.returns-then-exactly_one

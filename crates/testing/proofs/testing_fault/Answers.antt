@@ -2,7 +2,6 @@
 use mathlib.Core.Path.{sym, ap, ◌∙◌}
 use Rattle.testing.specs.Numbers.{fault_number}
 use Rattle.chart.specs.Faults.{told}
-use borrow.Author.Rules.{rules}
 use Rattle.testing.proofs.testing_fault.Goals as goal
 
 pub returns-in-Faultless : goal.returns-in-Faultless

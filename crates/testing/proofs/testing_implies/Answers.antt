@@ -1,7 +1,6 @@
 -- `testing::testing_implies` meets its contract: answer by answer. Assumes nothing.
 use mathlib.Core.Path.{sym, ap, ◌∙◌}
 use Rattle.testing.specs.Numbers.{implication_number}
-use borrow.Author.Rules.{rules}
 use Rattle.testing.proofs.testing_implies.Goals as goal
 
 pub returns-in-Never : goal.returns-in-Never

@@ -2,7 +2,6 @@
 use mathlib.Core.Path.{sym, ap, ◌∙◌}
 use Rattle.testing.specs.Numbers.{met_number}
 use Rattle.operations.specs.Answers.{told_met}
-use borrow.Author.Rules.{rules}
 use Rattle.testing.proofs.testing_meets.Goals as goal
 
 pub returns-in-Yes : goal.returns-in-Yes

@@ -2,7 +2,6 @@
 use mathlib.Core.Path.{sym, ap, ◌∙◌}
 use Rattle.testing.specs.Numbers.{written_number}
 use Rattle.operations.specs.Answers.{told_written}
-use borrow.Author.Rules.{rules}
 use Rattle.testing.proofs.testing_written.Goals as goal
 
 pub returns-in-Value : goal.returns-in-Value

@@ -1,5 +1,5 @@
 -- `operations::assumptions::exactly_one` meets its contract: at once for two that are opposed or independent, else by two searches. Assumes nothing.
-use Rattle.std.proofs.Common.{sym, ◌∙◌, arith, rules}
+use Rattle.std.proofs.Common.{sym, ◌∙◌, arith}
 use Rattle.operations.proofs.Exact.{one_tested}
 use Rattle.operations.proofs.Opposed.{opposed_one}
 use Rattle.operations.proofs.Independent.{apart-one}

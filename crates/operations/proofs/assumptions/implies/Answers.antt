@@ -1,5 +1,5 @@
 -- `operations::assumptions::implies` meets its contract: answer by answer. Assumes nothing.
-use Rattle.std.proofs.Common.{sym, ◌∙◌, rules}
+use Rattle.std.proofs.Common.{sym, ◌∙◌}
 use Rattle.operations.proofs.Exact.{tested}
 use Rattle.operations.proofs.assumptions.implies.Goals as goal
 

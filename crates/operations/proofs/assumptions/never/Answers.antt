@@ -1,5 +1,5 @@
 -- `operations::assumptions::never` meets its contract: by what it can make of values, and what that means. Assumes nothing.
-use Rattle.std.proofs.Common.{not, ap, rules}
+use Rattle.std.proofs.Common.{not, ap}
 use Rattle.operations.proofs.Exact.{never_tested}
 use Rattle.operations.proofs.assumptions.never.Goals as goal
 

@@ -1,5 +1,5 @@
 -- `operations::assumptions::never_holds` meets its contract: the kind, and the test. Assumes nothing.
-use Rattle.std.proofs.Common.{Bool, ◌&&◌, refl, ap₂, rules}
+use Rattle.std.proofs.Common.{Bool, ◌&&◌, refl, ap₂}
 use Rattle.operations.specs.Trials.{never_holds}
 use Rattle.operations.proofs.Exact.{never-holds_tested}
 use Rattle.operations.proofs.assumptions.never_holds.Goals as goal

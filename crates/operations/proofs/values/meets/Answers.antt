@@ -1,6 +1,5 @@
 -- `operations::values::meets` meets its contract: refusal by refusal. Assumes nothing.
-use borrow.Author.Tests.{not-true, not-false}
-use Rattle.std.proofs.Common.{Bool, sym, ap, ◌∙◌, rules}
+use Rattle.std.proofs.Common.{Bool, sym, ap, ◌∙◌}
 use Rattle.base.specs.Answers.{given, refused}
 use Rattle.operations.specs.Answers.{met_by}
 use Rattle.operations.proofs.Answers.{other_length, other_sort, unfit, answered}

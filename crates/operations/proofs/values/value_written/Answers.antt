@@ -1,6 +1,5 @@
 -- `operations::values::value_written` meets its contract: refusal by refusal. Assumes nothing.
-use borrow.Author.Tests.{not-true, not-false}
-use Rattle.std.proofs.Common.{ℕ, sym, ap, ◌∙◌, rules}
+use Rattle.std.proofs.Common.{ℕ, sym, ap, ◌∙◌}
 use Rattle.base.specs.Answers.{given, refused}
 use Rattle.operations.specs.Answers.{written_by}
 use Rattle.operations.proofs.Answers.{other_length, other_sort, unfit, answered}

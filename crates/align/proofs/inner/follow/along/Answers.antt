@@ -3,7 +3,6 @@ use mathlib.Core.Path.{sym, subst}
 use Prim.Native.Nat.{ℕ, ◌<◌}
 use Rattle.align.specs.Steps.{along}
 use Rattle.operations.proofs.Codes.{fit-a}
-use borrow.Author.Rules.{rules}
 use Rattle.align.proofs.inner.follow.along.Goals as goal
 
 pub with-requires : goal.with-requires

@@ -1,8 +1,7 @@
 -- `align::inner::follow::follow` meets its contract. The invariant: the walk from here on is the walk from the start. The measure is what is left of 64 rows. Assumes nothing.
 use mathlib.Core.Path.{ap}
-use Rattle.align.proofs.Moves.{Walk, walk_begins, walk_over, walk_ends, next-below, walk_twice, walk_on}
+use Rattle.align.proofs.Moves.{walk_begins, walk_over, walk_ends, next-below, walk_twice, walk_on}
 use Rattle.align.specs.inner.Told.{told_onward}
-use Rattle.chart.specs.Compared.{compared}
 use borrow.Author.Rules.{rules}
 use Rattle.align.proofs.inner.follow.follow.Goals as goal
 

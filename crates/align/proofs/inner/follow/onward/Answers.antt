@@ -11,7 +11,6 @@ use Rattle.chart.proofs.Faultless.{ascends}
 use mathlib.Core.Bool.{true, false}
 use mathlib.Core.List.{List}
 use Prim.Native.Nat.{ℕ, ◌<◌}
-use borrow.Author.Rules.{rules}
 use Rattle.align.proofs.inner.follow.onward.Goals as goal
 
 pub returns-then-is : goal.returns-then-is

@@ -1,12 +1,11 @@
 -- `align::inner::reads::if_variable` meets its contract: operand by operand. Assumes nothing.
 use lib.Dec.{leb}
 use mathlib.Core.Path.{◌≡◌, sym, ◌∙◌}
-use Rattle.sets.specs.Sets.{alone, joined, set_of}
+use Rattle.sets.specs.Sets.{joined, set_of}
 use lib.Bits.{or_zero_r}
 use borrow.Author.Tests.{leb-true}
 use mathlib.Core.Bool.{true}
 use native.Mathlib.Omega.{arith}
-use borrow.Author.Rules.{rules}
 use Rattle.align.proofs.inner.reads.if_variable.Goals as goal
 
 pub alone-requires : goal.alone-requires

@@ -4,7 +4,6 @@ use native.Mathlib.Omega.{arith}
 use Rattle.operations.proofs.Codes.{fit-a}
 use Rattle.sets.specs.Sets.{alone, joined, meets}
 use Rattle.align.proofs.ReadSets.{reads-assumption, partner-fits}
-use borrow.Author.Rules.{rules}
 use Rattle.align.proofs.inner.reads.meets_compared.Goals as goal
 
 pub alone-requires : goal.alone-requires

@@ -1,7 +1,6 @@
 -- `align::inner::reads::meets_right` meets its contract: an empty set meets nothing. Assumes nothing.
 use mathlib.Core.Path.{ap, ◌∙◌}
 use Rattle.sets.specs.Sets.{meets}
-use borrow.Author.Rules.{rules}
 use Rattle.align.proofs.inner.reads.meets_right.Goals as goal
 
 pub returns-then-s-eq0 : goal.returns-then-s-eq0

@@ -2,7 +2,6 @@
 use mathlib.Core.Path.{ap₂, ◌∙◌}
 use Rattle.sets.specs.Sets.{joined}
 use Rattle.align.proofs.ReadSets.{reads-assignment, fits-b, fits-c}
-use borrow.Author.Rules.{rules}
 use Rattle.align.proofs.inner.reads.right.Goals as goal
 
 pub if_variable-requires : goal.if_variable-requires

@@ -1,6 +1,5 @@
 -- `align::inner::seek::assignment` meets its contract: no row, the first one, or none. Assumes nothing.
 use Rattle.align.proofs.Seek.{none_at_first, found_here, nowhere, only_first}
-use borrow.Author.Rules.{rules}
 use native.Mathlib.Omega.{arith}
 use Rattle.align.proofs.inner.seek.assignment.Goals as goal
 

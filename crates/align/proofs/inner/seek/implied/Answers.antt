@@ -1,12 +1,6 @@
 -- `align::inner::seek::implied` meets its contract: nothing where no values meet o, else by a loop. The invariant: no row passed is implied. Assumes nothing.
 use mathlib.Core.Path.{sym, ◌∙◌}
-use Rattle.align.proofs.Seek.{NoneBefore, none_at_first, found_here, not_here, nowhere, never-implies}
-use Rattle.chart.specs.Charts.{size}
-use Prim.Native.Nat.{◌-◌}
-use mathlib.Core.Bool.{◌&&◌}
-use Rattle.operations.specs.Operations.{is_assumption}
-use Rattle.operations.specs.Trials.{implication}
-use Rattle.align.specs.Steps.{is_implied}
+use Rattle.align.proofs.Seek.{none_at_first, found_here, not_here, nowhere, never-implies}
 use borrow.Author.Rules.{rules}
 use native.Mathlib.Omega.{arith}
 use Rattle.align.proofs.inner.seek.implied.Goals as goal

@@ -1,8 +1,6 @@
 -- `align::inner::seek::implies` meets its contract: no assumption, or one that is asked. Assumes nothing.
 use mathlib.Core.Path.{sym, ◌∙◌}
-use borrow.Author.Tests.{not-true, not-false}
 use Rattle.align.proofs.Seek.{met_implies}
-use borrow.Author.Rules.{rules}
 use Rattle.align.proofs.inner.seek.implies.Goals as goal
 
 pub returns-then-not-is_assumption : goal.returns-then-not-is_assumption

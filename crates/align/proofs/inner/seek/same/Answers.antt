@@ -1,8 +1,5 @@
 -- `align::inner::seek::same` meets its contract. The invariant: no row passed has the operation. Assumes nothing.
-use Rattle.align.proofs.Seek.{NoneBefore, none_at_first, found_here, not_here, nowhere}
-use Rattle.chart.specs.Charts.{size, operation}
-use Prim.Native.Nat.{◌-◌}
-use Rattle.operations.specs.Operations.{same}
+use Rattle.align.proofs.Seek.{none_at_first, found_here, not_here, nowhere}
 use borrow.Author.Rules.{rules}
 use native.Mathlib.Omega.{arith}
 use Rattle.align.proofs.inner.seek.same.Goals as goal

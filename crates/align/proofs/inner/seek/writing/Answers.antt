@@ -1,11 +1,10 @@
 -- `align::inner::seek::writing` meets its contract: no row, the first one, or none. Assumes nothing.
 -- both tests, of the first row
-use mathlib.Core.Path.{◌≡◌, ap, ap₂, ◌∙◌}
+use mathlib.Core.Path.{◌≡◌, ap₂}
 use mathlib.Core.Bool.{Bool, ◌&&◌}
 use Prim.Native.Nat.{ℕ}
 use lib.Dec.{eqb}
 use Rattle.align.proofs.Seek.{none_at_first, found_here, nowhere, only_first}
-use borrow.Author.Rules.{rules}
 use native.Mathlib.Omega.{arith}
 use Rattle.align.proofs.inner.seek.writing.Goals as goal
 

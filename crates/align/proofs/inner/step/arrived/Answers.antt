@@ -1,8 +1,7 @@
 -- `align::inner::step::arrived` meets its contract: by the test, or rescued. Assumes nothing.
 use mathlib.Core.Path.{sym, ap, ◌∙◌}
-use Rattle.align.specs.Steps.{arrived, fair}
+use Rattle.align.specs.Steps.{arrived}
 use Rattle.align.specs.inner.Told.{told}
-use borrow.Author.Rules.{rules}
 use Rattle.align.proofs.inner.step.arrived.Goals as goal
 
 pub returns-then-fair : goal.returns-then-fair

@@ -9,7 +9,6 @@ use Rattle.chart.proofs.Faultless.{ascends}
 use mathlib.Core.Bool.{true}
 use Prim.Native.Nat.{ℕ, ◌<◌}
 use Rattle.operations.proofs.Codes.{fit-a}
-use borrow.Author.Rules.{rules}
 use Rattle.align.proofs.inner.step.assigned.Goals as goal
 
 pub rows_of-rows-requires : goal.rows_of-rows-requires

@@ -12,7 +12,6 @@ use mathlib.Core.Bool.{true}
 use mathlib.Core.List.{List}
 use Prim.Native.Nat.{ℕ, ◌<◌}
 use Rattle.chart.proofs.Faultless.{ascends}
-use borrow.Author.Rules.{rules}
 use Rattle.align.proofs.inner.step.assumed.Goals as goal
 
 pub returns-then-is : goal.returns-then-is

@@ -1,7 +1,5 @@
 -- `align::inner::step::fair` meets its contract: test by test. Assumes nothing.
 use mathlib.Core.Path.{sym, ◌∙◌}
-use borrow.Author.Tests.{not-true, not-false}
-use borrow.Author.Rules.{rules}
 use Rattle.align.proofs.inner.step.fair.Goals as goal
 
 pub returns-then-not-is : goal.returns-then-not-is

@@ -1,7 +1,6 @@
 -- `align::inner::step::matched` meets its contract: test by test. Assumes nothing.
 use mathlib.Core.Path.{sym, ◌∙◌}
 use Rattle.align.specs.Steps.{matched}
-use borrow.Author.Rules.{rules}
 use Rattle.align.proofs.inner.step.matched.Goals as goal
 
 pub returns-then-meets_compared : goal.returns-then-meets_compared

@@ -1,7 +1,6 @@
 -- `align::inner::step::matched_same` meets its contract: one test for both rows. Assumes nothing.
 use mathlib.Core.Path.{sym, ◌∙◌}
 use Rattle.align.specs.Steps.{matched}
-use borrow.Author.Rules.{rules}
 use Rattle.align.proofs.inner.step.matched_same.Goals as goal
 
 pub meets_compared-requires : goal.meets_compared-requires

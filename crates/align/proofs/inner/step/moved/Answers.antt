@@ -4,7 +4,6 @@ use Rattle.base.proofs.OnSome.{on_at}
 use Rattle.align.proofs.Moves.{followed-below, moved-assigned, moved_twice, moved_assumed}
 use Rattle.align.specs.inner.Told.{told_followed}
 use Rattle.align.proofs.ReadSets.{assuming}
-use borrow.Author.Rules.{rules}
 use Rattle.align.proofs.inner.step.moved.Goals as goal
 
 pub assigned-requires : goal.assigned-requires

@@ -1,9 +1,8 @@
 -- `align::inner::step::rescued` meets its contract: not in edition 1; at both alarms, elsewhere, or a place twice. Assumes nothing.
-use mathlib.Core.Path.{◌≡◌, sym, ap, ◌∙◌}
+use mathlib.Core.Path.{sym, ap, ◌∙◌}
 use Rattle.align.proofs.Moves.{rescued-first, rescued-both, rescued_elsewhere, rescued_twice}
 use Rattle.align.specs.inner.Told.{told_followed}
 use borrow.Author.Tests.{eq-eqb, ne_eqb}
-use borrow.Author.Rules.{rules}
 use Rattle.align.proofs.inner.step.rescued.Goals as goal
 
 pub returns-then-heads-ne2 : goal.returns-then-heads-ne2

@@ -2,7 +2,6 @@
 use Rattle.align.proofs.Moves.{rewritten-with, rewritten-without}
 use Rattle.operations.proofs.Codes.{fit-a}
 use native.Mathlib.Omega.{arith}
-use borrow.Author.Rules.{rules}
 use Rattle.align.proofs.inner.step.rewritten.Goals as goal
 
 pub with-requires : goal.with-requires

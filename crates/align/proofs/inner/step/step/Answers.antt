@@ -3,7 +3,6 @@ use mathlib.Core.Path.{sym, ap₂, ◌∙◌}
 use Rattle.base.proofs.OnSome.{on_at}
 use Rattle.align.proofs.Moves.{moved-below}
 use Rattle.align.specs.Steps.{arrived, step}
-use borrow.Author.Rules.{rules}
 use Rattle.align.proofs.inner.step.step.Goals as goal
 
 pub arrived-requires : goal.arrived-requires

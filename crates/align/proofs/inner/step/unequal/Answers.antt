@@ -1,7 +1,7 @@
 -- `align::inner::step::unequal` meets its contract: in edition 1 alone, in edition 2 with the old row that writes the
 -- variable, if there is one. Assumes nothing.
 use mathlib.Core.Path.{◌≡◌, sym, ap, subst, ◌∙◌}
-use mathlib.Core.Bool.{true, false}
+use mathlib.Core.Bool.{false}
 use mathlib.Core.List.{List}
 use Prim.Native.Nat.{ℕ, ◌<◌}
 use Rattle.base.specs.inner.Found.{told_found}
@@ -12,7 +12,6 @@ use Rattle.chart.proofs.Faultless.{ascends}
 use Rattle.align.proofs.Moves.{unequal-first, unequal-both, unequal-alone}
 use Rattle.align.proofs.Seek.{found_inside}
 use borrow.Author.Tests.{eq-eqb, ne_eqb}
-use borrow.Author.Rules.{rules}
 use Rattle.align.proofs.inner.step.unequal.Goals as goal
 
 pub returns-then-heads-ne2 : goal.returns-then-heads-ne2

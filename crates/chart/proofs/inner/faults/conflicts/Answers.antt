@@ -1,6 +1,5 @@
 -- `chart::inner::faults::conflicts` meets its contract: by either test. Assumes nothing.
 use mathlib.Core.Path.{sym}
-use borrow.Author.Rules.{rules}
 use Rattle.chart.proofs.inner.faults.conflicts.Goals as goal
 
 pub returns-then-plainly_apart : goal.returns-then-plainly_apart

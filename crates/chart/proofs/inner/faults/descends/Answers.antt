@@ -1,6 +1,5 @@
 -- `chart::inner::faults::descends` meets its contract: row 0 has none before it. Assumes nothing.
 use Rattle.chart.proofs.Faults.{first-row, later-row}
-use borrow.Author.Rules.{rules}
 use Rattle.chart.proofs.inner.faults.descends.Goals as goal
 
 pub returns-then-i-eq0 : goal.returns-then-i-eq0

@@ -1,10 +1,6 @@
 -- `chart::inner::faults::first_conflict` meets its contract. The invariant: no row passed is in conflict. Assumes nothing.
-use mathlib.Core.Path.{◌≡◌}
-use mathlib.Core.Option.{none}
-use Prim.Native.Nat.{◌≤◌, ◌-◌}
-use Rattle.base.specs.Options.{when, first_of}
+use Rattle.base.specs.Options.{first_of}
 use Rattle.base.proofs.Options.{none_all}
-use Rattle.chart.specs.Charts.{size}
 use Rattle.chart.specs.Faults.{conflicts}
 use Rattle.chart.proofs.Faults.{found_here, not_here}
 use borrow.Author.Rules.{rules}

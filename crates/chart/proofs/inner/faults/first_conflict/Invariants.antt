@@ -3,12 +3,8 @@ use mathlib.Core.Path.{◌≡◌}
 use mathlib.Core.Option.{none}
 use Prim.Native.Nat.{◌≤◌, ◌-◌}
 use Rattle.base.specs.Options.{when, first_of}
-use Rattle.base.proofs.Options.{none_all}
 use Rattle.chart.specs.Charts.{size}
 use Rattle.chart.specs.Faults.{conflicts}
-use Rattle.chart.proofs.Faults.{found_here, not_here}
-use borrow.Author.Rules.{rules}
-use native.Mathlib.Omega.{arith}
 use Rattle.chart.proofs.inner.faults.first_conflict.Given as goal
 
 abbrev pub invariant-loop-i : goal.invariant-loop-i

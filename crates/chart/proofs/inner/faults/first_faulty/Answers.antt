@@ -1,10 +1,7 @@
 -- `chart::inner::faults::first_faulty` meets its contract. The invariant: no row passed has a fault. Assumes nothing.
-use mathlib.Core.Path.{◌≡◌}
-use mathlib.Core.Option.{none}
-use Prim.Native.Nat.{◌≤◌, ◌-◌}
-use Rattle.base.specs.Options.{when, first_of}
+use Rattle.base.specs.Options.{first_of}
 use Rattle.base.proofs.Options.{none_all}
-use Rattle.chart.specs.Charts.{charted, size}
+use Rattle.chart.specs.Charts.{charted}
 use Rattle.chart.specs.inner.Faulty.{faulty}
 use Rattle.chart.proofs.Faults.{found_here, not_here}
 use borrow.Author.Rules.{rules}

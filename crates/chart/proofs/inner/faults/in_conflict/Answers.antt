@@ -1,10 +1,8 @@
 -- `chart::inner::faults::in_conflict` meets its contract. The invariant: no row from `j` on is in conflict with row i. Assumes nothing.
 use Rattle.std.proofs.Common.{ap, not}
 use mathlib.Core.Path.{refl, sym, ◌∙◌}
-use Rattle.base.proofs.Tests.{NoneSince, none_here, some-here, none_left}
-use Rattle.chart.specs.Faults.{clash}
+use Rattle.base.proofs.Tests.{none_here, some-here, none_left}
 use Rattle.chart.proofs.Faults.{none_before, one_place}
-use borrow.Author.Rules.{rules}
 use native.Mathlib.Omega.{arith}
 use Rattle.chart.proofs.inner.faults.in_conflict.Goals as goal
 

@@ -2,7 +2,6 @@
 use mathlib.Core.Path.{sym, ◌∙◌}
 use Rattle.base.proofs.Tests.{and_true}
 use Rattle.chart.proofs.Faults.{not_both}
-use borrow.Author.Rules.{rules}
 use Rattle.chart.proofs.inner.faults.one_of.Goals as goal
 
 pub returns-then-is_assumption : goal.returns-then-is_assumption

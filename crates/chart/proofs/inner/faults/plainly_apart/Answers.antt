@@ -2,7 +2,6 @@
 use Prim.Native.Nat.{◌≤◌}
 use Rattle.base.proofs.Tests.{T_true}
 use Rattle.chart.proofs.Faults.{place_inside, apart-first, apart-second}
-use borrow.Author.Rules.{rules}
 use native.Mathlib.Omega.{arith}
 use Rattle.chart.proofs.inner.faults.plainly_apart.Goals as goal
 

@@ -1,6 +1,5 @@
 -- `chart::inner::faults::same_place` meets its contract: where there is no such row, and where there is. Assumes nothing.
 use Rattle.chart.proofs.Faults.{place_none, place-there}
-use borrow.Author.Rules.{rules}
 use Rattle.chart.proofs.inner.faults.same_place.Goals as goal
 
 pub returns-then-i-k : goal.returns-then-i-k

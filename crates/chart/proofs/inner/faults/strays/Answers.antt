@@ -1,5 +1,4 @@
 -- `chart::inner::faults::strays` meets its contract: by its tests. Assumes nothing.
-use borrow.Author.Rules.{rules}
 use Rattle.chart.proofs.inner.faults.strays.Goals as goal
 
 pub returns : goal.returns

@@ -4,7 +4,6 @@ use native.Mathlib.Nat.{one-mul}
 use native.Mathlib.Omega.{arith}
 use lib.Pow.{shl_exact}
 use lib.Dec.{lit<}
-use borrow.Author.Rules.{rules}
 use Rattle.chart.proofs.inner.pairs.bit.Goals as goal
 
 pub returns : goal.returns

@@ -1,7 +1,6 @@
 -- `chart::inner::rows::can_be_taken` meets its contract: where there is no such row, and by the row. Assumes nothing.
 use mathlib.Core.Path.{sym}
 use native.Mathlib.Omega.{arith}
-use borrow.Author.Rules.{rules}
 use Rattle.chart.proofs.Takable.{not_there, by_test}
 use Rattle.chart.proofs.inner.rows.can_be_taken.Goals as goal
 

@@ -1,10 +1,7 @@
 -- `chart::inner::rows::carry` meets its contract. The invariant: the entries of the places passed are there. Assumes nothing.
-use mathlib.Core.Path.{◌≡◌, refl}
+use mathlib.Core.Path.{◌≡◌}
 use Prim.Native.Nat.{◌-◌, ◌≤◌}
 use Rattle.chart.specs.inner.Index.{last_of, Carried}
-use Rattle.chart.proofs.Rows.{carried_none, last_more, carried_more}
-use borrow.Author.Rules.{rules}
-use native.Mathlib.Omega.{arith}
 use Rattle.chart.proofs.inner.rows.carry.Given as goal
 
 abbrev pub invariant-loop-p : goal.invariant-loop-p

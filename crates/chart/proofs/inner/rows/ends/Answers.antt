@@ -1,10 +1,7 @@
 -- `chart::inner::rows::ends` meets its contract. The invariant: the ends of the rows passed are stored. Assumes nothing.
 use mathlib.Core.Path.{◌≡◌}
-use Prim.Native.Nat.{◌-◌, ◌≤◌}
 use Rattle.chart.specs.Charts.{size}
-use Rattle.chart.specs.inner.Index.{Ends}
 use Rattle.chart.proofs.Rows.{ends-none, ends_more}
-use borrow.Author.Rules.{rules}
 use native.Mathlib.Omega.{arith}
 use Rattle.chart.proofs.inner.rows.ends.Goals as goal
 

@@ -1,6 +1,5 @@
 -- `chart::inner::rows::is_assignment_at` meets its contract: the code tells, whatever the operands. Assumes nothing.
 use mathlib.Core.Path.{refl}
-use borrow.Author.Rules.{rules}
 use Rattle.chart.proofs.inner.rows.is_assignment_at.Goals as goal
 
 pub returns : goal.returns

@@ -1,7 +1,5 @@
 -- `chart::inner::rows::lower` meets its contract: by halving. Rows before `low` leave lower places, rows from `high` on do not. Assumes nothing.
-use Prim.Native.Nat.{◌-◌}
-use Rattle.chart.proofs.Rows.{Between, all_between, upper_half, lower_half, met}
-use borrow.Author.Rules.{rules}
+use Rattle.chart.proofs.Rows.{all_between, upper_half, lower_half, met}
 use native.Mathlib.Omega.{arith}
 use Rattle.chart.proofs.inner.rows.lower.Goals as goal
 

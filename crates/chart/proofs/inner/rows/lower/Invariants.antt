@@ -1,8 +1,6 @@
 -- `chart::inner::rows::lower` meets its contract: by halving. Rows before `low` leave lower places, rows from `high` on do not. Assumes nothing.
 use Prim.Native.Nat.{◌-◌}
-use Rattle.chart.proofs.Rows.{Between, all_between, upper_half, lower_half, met}
-use borrow.Author.Rules.{rules}
-use native.Mathlib.Omega.{arith}
+use Rattle.chart.proofs.Rows.{Between}
 use Rattle.chart.proofs.inner.rows.lower.Given as goal
 
 abbrev pub invariant-loop-low : goal.invariant-loop-low

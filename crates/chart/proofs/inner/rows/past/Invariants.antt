@@ -1,10 +1,7 @@
 -- `chart::inner::rows::past` meets its contract: the rows passed leave the place or a lower one. Assumes nothing.
-use mathlib.Core.Path.{sym, ◌∙◌}
 use Prim.Native.Nat.{◌-◌}
 use Rattle.chart.specs.Charts.{size}
-use Rattle.chart.proofs.Rows.{Past, past_none, past_more, past_ends}
-use borrow.Author.Rules.{rules}
-use native.Mathlib.Omega.{arith}
+use Rattle.chart.proofs.Rows.{Past}
 use Rattle.chart.proofs.inner.rows.past.Given as goal
 
 abbrev pub invariant-loop-i : goal.invariant-loop-i

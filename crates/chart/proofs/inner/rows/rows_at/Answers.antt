@@ -1,5 +1,4 @@
 -- `chart::inner::rows::rows_at` meets its contract. Assumes nothing.
-use borrow.Author.Rules.{rules}
 use Rattle.chart.proofs.inner.rows.rows_at.Goals as goal
 
 pub returns : goal.returns

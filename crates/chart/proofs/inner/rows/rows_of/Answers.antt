@@ -1,7 +1,6 @@
 -- `chart::inner::rows::rows_of` meets its contract, chart by chart: the rows between two entries are those that leave the place. Assumes nothing.
 use mathlib.Core.Path.{sym, ◌∙◌}
 use Rattle.chart.proofs.Rows.{at_old, at_new, part_old, part_new}
-use borrow.Author.Rules.{rules}
 use Rattle.chart.proofs.inner.rows.rows_of.Goals as goal
 
 pub rows_at-requires : goal.rows_at-requires

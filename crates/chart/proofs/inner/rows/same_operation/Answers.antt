@@ -1,6 +1,5 @@
 -- `chart::inner::rows::same_operation` meets its contract: field by field. Assumes nothing.
 use Rattle.operations.specs.Operations.{same}
-use borrow.Author.Rules.{rules}
 use Rattle.chart.proofs.inner.rows.same_operation.Goals as goal
 
 pub returns : goal.returns

@@ -1,12 +1,8 @@
 -- `chart::inner::rows::some_never` meets its contract. The invariant: it was told of the rows passed. Assumes nothing.
-use mathlib.Core.Path.{◌≡◌, ap, ◌∙◌}
-use Prim.Native.Nat.{◌-◌, ◌≤◌}
+use mathlib.Core.Path.{ap, ◌∙◌}
 use native.Mathlib.Omega.{arith}
-use Rattle.base.specs.Tests.{some_below}
 use Rattle.base.proofs.Tests.{some-none, some_more, some_all}
 use Rattle.operations.specs.Trials.{never_holds}
-use Rattle.chart.specs.Charts.{size, operation}
-use borrow.Author.Rules.{rules}
 use Rattle.chart.proofs.inner.rows.some_never.Goals as goal
 
 pub loop-i-init : goal.loop-i-init

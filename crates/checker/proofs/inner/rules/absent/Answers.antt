@@ -1,5 +1,5 @@
 -- `checker::inner::rules::absent` meets its contract. Assumes nothing.
-use Rattle.std.proofs.Common.{arith, rules}
+use Rattle.std.proofs.Common.{arith}
 use lib.Count.{trailing_le}
 use Rattle.checker.proofs.Absent.{none_of_eight, first_of_eight}
 use Rattle.checker.proofs.inner.rules.absent.Goals as goal

@@ -1,8 +1,6 @@
 -- `checker::inner::rules::broken` meets its contract: the start, then the targets. Assumes nothing.
-use borrow.Author.Tests.{not-true, not-false}
 use Rattle.checker.proofs.Answering.{start-broken, targets-judged}
 use Rattle.records.specs.Records.{record_of}
-use Rattle.std.proofs.Common.{rules}
 use Rattle.checker.proofs.inner.rules.broken.Goals as goal
 
 pub returns-then-not-start_fits : goal.returns-then-not-start_fits

@@ -1,6 +1,5 @@
 -- `checker::inner::rules::eight` meets its contract. Assumes nothing.
 use Rattle.checker.proofs.Absent.{eight_is}
-use Rattle.std.proofs.Common.{rules}
 use Rattle.checker.proofs.inner.rules.eight.Goals as goal
 
 pub returns : goal.returns

@@ -1,12 +1,9 @@
 -- `checker::inner::rules::first_fault` meets its contract. The invariant: no pair passed has a fault. Assumes nothing.
-use Rattle.std.proofs.Common.{◌≡◌, ◌-◌, ◌≤◌, sym, refl, ap, ◌∙◌, arith, rules}
-use borrow.Author.Tests.{not-true, not-false}
+use Rattle.std.proofs.Common.{◌≡◌, ◌-◌, ◌≤◌}
 use Rattle.records.specs.Records.{graph_of}
 use Rattle.checker.specs.Checks.{pair_fault}
-use Rattle.base.specs.Options.{first_of, missing}
-use Rattle.base.proofs.Options.{first_at_lem, none_all}
+use Rattle.base.specs.Options.{first_of}
 use Rattle.chart.specs.Compared.{compared}
-use Rattle.checker.proofs.Targets.{passed_over}
 use mathlib.Core.Option.{none}
 use Rattle.checker.proofs.inner.rules.first_fault.Given as goal
 

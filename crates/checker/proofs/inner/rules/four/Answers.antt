@@ -1,5 +1,5 @@
 -- `checker::inner::rules::four` meets its contract. Assumes nothing.
-use Rattle.std.proofs.Common.{refl, arith, rules}
+use Rattle.std.proofs.Common.{refl, arith}
 use Rattle.checker.proofs.Absent.{four_is}
 use Rattle.checker.proofs.inner.rules.four.Goals as goal
 

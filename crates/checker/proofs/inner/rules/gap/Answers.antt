@@ -1,5 +1,5 @@
 -- `checker::inner::rules::gap` meets its contract. Assumes nothing.
-use Rattle.std.proofs.Common.{arith, rules}
+use Rattle.std.proofs.Common.{arith}
 use Rattle.checker.proofs.Shapes.{absent_all}
 use Rattle.checker.proofs.inner.rules.gap.Goals as goal
 

@@ -1,5 +1,5 @@
 -- `checker::inner::rules::mark_at` meets its contract. Assumes nothing.
-use Rattle.std.proofs.Common.{refl, arith, rules}
+use Rattle.std.proofs.Common.{refl, arith}
 use Rattle.checker.proofs.inner.rules.mark_at.Goals as goal
 
 pub overflow_cast-result : goal.overflow_cast-result

@@ -1,5 +1,5 @@
 -- `checker::inner::rules::next_pair` meets its contract. The invariant: all between are absent. Assumes nothing.
-use Rattle.std.proofs.Common.{◌≡◌, ℕ, ◌-◌, ◌<◌, ◌≤◌, get_or, arith, rules}
+use Rattle.std.proofs.Common.{arith}
 use Rattle.checker.proofs.Shapes.{absent_on}
 use Rattle.checker.proofs.inner.rules.next_pair.Goals as goal
 

@@ -1,6 +1,5 @@
 -- `checker::inner::rules::next_pair` meets its contract. The invariant: all between are absent. Assumes nothing.
-use Rattle.std.proofs.Common.{◌≡◌, ℕ, ◌-◌, ◌<◌, ◌≤◌, get_or, arith, rules}
-use Rattle.checker.proofs.Shapes.{absent_on}
+use Rattle.std.proofs.Common.{◌≡◌, ℕ, ◌-◌, ◌<◌, ◌≤◌, get_or}
 use Rattle.checker.proofs.inner.rules.next_pair.Given as goal
 
 abbrev pub invariant-loop-n : goal.invariant-loop-n

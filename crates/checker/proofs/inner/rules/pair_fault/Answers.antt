@@ -1,5 +1,5 @@
 -- `checker::inner::rules::pair_fault` meets its contract: an absent pair, or the rows of its new place. Assumes nothing.
-use Rattle.std.proofs.Common.{ap, arith, rules}
+use Rattle.std.proofs.Common.{ap, arith}
 use Rattle.chart.specs.declared.places.NewPlace.{NewPlace}
 use Rattle.checker.proofs.Targets.{absent, part_of, present}
 use Rattle.records.specs.Records.{graph_of}

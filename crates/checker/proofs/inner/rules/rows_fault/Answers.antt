@@ -1,12 +1,8 @@
 -- `checker::inner::rules::rows_fault` meets its contract. The invariant: no row passed is at fault. Assumes nothing.
-use Rattle.std.proofs.Common.{◌≡◌, ◌-◌, ◌≤◌, sym, refl, ap, ◌∙◌, arith, rules}
-use mathlib.Core.Option.{none}
-use borrow.Author.Tests.{not-true, not-false}
+use Rattle.std.proofs.Common.{sym, refl, ap, ◌∙◌, arith, rules}
 use Rattle.base.specs.Options.{first_of, missing}
 use Rattle.base.proofs.Options.{first_at_lem, none_at, none_all}
-use Rattle.chart.specs.Compared.{compared}
 use Rattle.records.specs.Records.{graph_of}
-use Rattle.checker.specs.Checks.{target_fault}
 use Rattle.checker.proofs.Targets.{both-rows}
 use Rattle.checker.proofs.inner.rules.rows_fault.Goals as goal
 

@@ -1,5 +1,5 @@
 -- `checker::inner::rules::start_fits` meets its contract: start by start. Assumes nothing.
-use Rattle.std.proofs.Common.{refl, arith, rules}
+use Rattle.std.proofs.Common.{refl, arith}
 use Rattle.checker.proofs.Shapes.{start_unmarked, start-pair, start-kept, start_none}
 use Rattle.checker.proofs.inner.rules.start_fits.Goals as goal
 

@@ -1,7 +1,6 @@
 -- `checker::inner::rules::target_fault` meets its contract: a row that is not there, one that fits, one that never
 -- holds, one at fault. Assumes nothing.
-use Rattle.std.proofs.Common.{sym, ◌∙◌, arith, rules}
-use borrow.Author.Tests.{not-true, not-false}
+use Rattle.std.proofs.Common.{sym, ◌∙◌, arith}
 use Rattle.chart.proofs.Takable.{not_there}
 use Rattle.checker.proofs.Targets.{not_asked, row_fine, row_fails}
 use Rattle.records.specs.Records.{graph_of}

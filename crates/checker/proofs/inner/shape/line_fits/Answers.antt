@@ -1,5 +1,4 @@
 -- `checker::inner::shape::line_fits` meets its contract: the first n, then the others. Assumes nothing.
-use Rattle.std.proofs.Common.{arith, rules}
 use Rattle.checker.proofs.Shapes.{line_over, line-within}
 use Rattle.checker.proofs.inner.shape.line_fits.Goals as goal
 

@@ -1,9 +1,8 @@
 -- `checker::inner::shape::marks_fit` meets its contract. The invariant: each mark at a place passed fits. Assumes nothing.
-use Rattle.std.proofs.Common.{◌≡◌, ◌-◌, ◌*◌, ◌≤◌, true, get_or, refl, arith, rules}
-use borrow.Author.Tests.{not-true, not-false}
-use Rattle.base.specs.Says.{bool, every}
+use Rattle.std.proofs.Common.{◌*◌, refl, arith, rules}
+use Rattle.base.specs.Says.{every}
 use Rattle.base.proofs.Says.{every_done}
-use Rattle.checker.specs.Rules.{mark_fits, marks_fit}
+use Rattle.checker.specs.Rules.{marks_fit}
 use Rattle.checker.proofs.Shapes.{part_more, part_fails}
 use Rattle.checker.proofs.inner.shape.marks_fit.Goals as goal
 

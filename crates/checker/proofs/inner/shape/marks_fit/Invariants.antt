@@ -1,10 +1,7 @@
 -- `checker::inner::shape::marks_fit` meets its contract. The invariant: each mark at a place passed fits. Assumes nothing.
-use Rattle.std.proofs.Common.{◌≡◌, ◌-◌, ◌*◌, ◌≤◌, true, get_or, refl, arith, rules}
-use borrow.Author.Tests.{not-true, not-false}
+use Rattle.std.proofs.Common.{◌≡◌, ◌-◌, ◌*◌, ◌≤◌, true, get_or}
 use Rattle.base.specs.Says.{bool, every}
-use Rattle.base.proofs.Says.{every_done}
-use Rattle.checker.specs.Rules.{mark_fits, marks_fit}
-use Rattle.checker.proofs.Shapes.{part_more, part_fails}
+use Rattle.checker.specs.Rules.{mark_fits}
 use Rattle.checker.proofs.inner.shape.marks_fit.Given as goal
 
 abbrev pub invariant-loop-p : goal.invariant-loop-p

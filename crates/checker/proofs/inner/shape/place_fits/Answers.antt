@@ -1,5 +1,4 @@
 -- `checker::inner::shape::place_fits` meets its contract: the kept nodes, pairs, and places that do not exist. Assumes nothing.
-use Rattle.std.proofs.Common.{rules}
 use Rattle.checker.proofs.Shapes.{place_kept, place_pairs, place_none}
 use Rattle.checker.proofs.inner.shape.place_fits.Goals as goal
 

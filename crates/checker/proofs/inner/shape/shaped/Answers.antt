@@ -1,6 +1,5 @@
 -- `checker::inner::shape::shaped` meets its contract: part by part. Assumes nothing.
-use Rattle.std.proofs.Common.{sym, ◌∙◌, rules}
-use borrow.Author.Tests.{not-true, not-false}
+use Rattle.std.proofs.Common.{sym, ◌∙◌}
 use Rattle.checker.specs.Rules.{shaped}
 use Rattle.checker.proofs.inner.shape.shaped.Goals as goal
 

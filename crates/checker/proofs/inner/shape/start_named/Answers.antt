@@ -1,5 +1,5 @@
 -- `checker::inner::shape::start_named` meets its contract: test by test. Assumes nothing.
-use Rattle.std.proofs.Common.{eqb, sym, ap, ◌∙◌, rules, eq-eqb, ne_eqb}
+use Rattle.std.proofs.Common.{eqb, sym, ap, ◌∙◌, eq-eqb, ne_eqb}
 use Rattle.checker.proofs.inner.shape.start_named.Goals as goal
 
 pub returns-then-n-start_pair : goal.returns-then-n-start_pair

@@ -1,8 +1,8 @@
 -- `checker::inner::shape::targets_fit` meets its contract. The invariant: the largest is at most 4,160 exactly where each one passed fits.
 -- Assumes nothing.
-use Rattle.std.proofs.Common.{◌≡◌, ◌-◌, ◌≤◌, leb, get_or, refl, arith, rules}
-use Rattle.base.specs.Says.{bool, every}
-use Rattle.checker.specs.Rules.{target_fits, targets_fit}
+use Rattle.std.proofs.Common.{refl, arith, rules}
+use Rattle.base.specs.Says.{every}
+use Rattle.checker.specs.Rules.{targets_fit}
 use Rattle.records.proofs.Marks.{all_next, all_taken}
 use Rattle.checker.proofs.inner.shape.targets_fit.Goals as goal
 

@@ -1,8 +1,8 @@
 -- `checker::inner::shape::worst` meets its contract. The invariant: the largest is at most k exactly where each one passed may be. Assumes
 -- nothing.
-use Rattle.std.proofs.Common.{◌≡◌, ℕ, ◌+◌, ◌-◌, ◌<◌, ◌≤◌, leb, get_or, arith, rules}
+use Rattle.std.proofs.Common.{arith, rules}
 use lib.Dec.{leb-zero}
-use Rattle.base.specs.Says.{ne, le, ◌and◌, bool, every}
+use Rattle.base.specs.Says.{every}
 use Rattle.records.proofs.Marks.{all_next, all_taken}
 use Rattle.checker.proofs.inner.shape.worst.Goals as goal
 

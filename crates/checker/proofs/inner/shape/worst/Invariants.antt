@@ -1,9 +1,7 @@
 -- `checker::inner::shape::worst` meets its contract. The invariant: the largest is at most k exactly where each one passed may be. Assumes
 -- nothing.
-use Rattle.std.proofs.Common.{◌≡◌, ℕ, ◌+◌, ◌-◌, ◌<◌, ◌≤◌, leb, get_or, arith, rules}
-use lib.Dec.{leb-zero}
+use Rattle.std.proofs.Common.{◌≡◌, ℕ, ◌+◌, ◌-◌, ◌<◌, ◌≤◌, leb, get_or}
 use Rattle.base.specs.Says.{ne, le, ◌and◌, bool, every}
-use Rattle.records.proofs.Marks.{all_next, all_taken}
 use Rattle.checker.proofs.inner.shape.worst.Given as goal
 
 abbrev pub invariant-loop-j : goal.invariant-loop-j

@@ -1,6 +1,5 @@
 -- `checker::inner::targets::joins` meets its contract: test by test. Assumes nothing.
 use Rattle.checker.proofs.Targets.{joins_not, joins_absent, joins_holding}
-use Rattle.std.proofs.Common.{rules}
 use Rattle.checker.proofs.inner.targets.joins.Goals as goal
 
 pub returns-then-t-pair : goal.returns-then-t-pair

@@ -1,5 +1,5 @@
 -- `checker::inner::targets::joins_step` meets its contract: by what the step comes to. Assumes nothing.
-use Rattle.std.proofs.Common.{ap, rules}
+use Rattle.std.proofs.Common.{ap}
 use Rattle.checker.proofs.Targets.{row-right, row_below, pair-below, stepped_below, joins_failed, joins_stepped}
 use Rattle.records.specs.Records.{graph_of}
 use Rattle.align.specs.inner.Told.{told as step_told}

@@ -1,5 +1,5 @@
 -- `checker::inner::targets::keeps` meets its contract: test by test. Assumes nothing.
-use Rattle.std.proofs.Common.{refl, rules}
+use Rattle.std.proofs.Common.{refl}
 use Rattle.checker.proofs.Targets.{keeps_not, keeps-marked}
 use Rattle.checker.proofs.inner.targets.keeps.Goals as goal
 

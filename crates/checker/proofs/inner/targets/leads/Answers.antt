@@ -1,7 +1,6 @@
 -- `checker::inner::targets::leads` meets its contract: at the old alarm, kept, or by the step. Assumes nothing.
 use Rattle.checker.proofs.Targets.{row_below, leads_resting, leads-kept, leads_stepped}
 use Rattle.records.specs.Records.{graph_of}
-use Rattle.std.proofs.Common.{rules}
 use Rattle.checker.proofs.inner.targets.leads.Goals as goal
 
 pub rests_at-requires : goal.rests_at-requires

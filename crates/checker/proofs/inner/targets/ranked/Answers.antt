@@ -1,5 +1,5 @@
 -- `checker::inner::targets::ranked` meets its contract: by the mark of the pair. Assumes nothing.
-use Rattle.std.proofs.Common.{arith, rules}
+use Rattle.std.proofs.Common.{arith}
 use Rattle.checker.proofs.Targets.{ranked-none, ranked_open, ranked-covered, node-below}
 use Rattle.checker.proofs.Targets.{ranked-none, ranked_open, ranked-covered}
 use Rattle.checker.proofs.inner.targets.ranked.Goals as goal

@@ -1,6 +1,5 @@
 -- `checker::inner::targets::rests_at` meets its contract: test by test. Assumes nothing.
-use Rattle.std.proofs.Common.{refl, rules}
-use borrow.Author.Tests.{not-true, not-false}
+use Rattle.std.proofs.Common.{refl}
 use Rattle.checker.proofs.Targets.{rests-none, rests-kept, rests_nowhere, rests_elsewhere, rests_present}
 use Rattle.checker.proofs.inner.targets.rests_at.Goals as goal
 

@@ -1,6 +1,5 @@
 -- `checker::inner::targets::row_fits` meets its contract: where it leads, then its mark. Assumes nothing.
-use Rattle.std.proofs.Common.{◌+◌, ◌*◌, arith, rules}
-use borrow.Author.Tests.{not-true, not-false}
+use Rattle.std.proofs.Common.{◌+◌, ◌*◌, arith}
 use Rattle.checker.proofs.Shapes.{fits_at}
 use Rattle.checker.proofs.Targets.{row_astray, row-ranked}
 use Rattle.records.specs.Records.{graph_of}

@@ -1,6 +1,5 @@
 -- `condition::inner::finish::count_row` meets its contract. Assumes nothing.
-use Prim.Native.Nat.{◌+◌, ◌-◌, ◌≤◌}
-use Rattle.condition.proofs.Finishing.{Counting, count-start, count-one, count-row}
+use Rattle.condition.proofs.Finishing.{count-start, count-one, count-row}
 use borrow.Author.Rules.{rules}
 use native.Mathlib.Omega.{arith}
 use Rattle.condition.proofs.inner.finish.count_row.Goals as goal

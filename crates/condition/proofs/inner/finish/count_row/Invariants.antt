@@ -1,8 +1,6 @@
 -- `condition::inner::finish::count_row` meets its contract. Assumes nothing.
 use Prim.Native.Nat.{◌+◌, ◌-◌, ◌≤◌}
-use Rattle.condition.proofs.Finishing.{Counting, count-start, count-one, count-row}
-use borrow.Author.Rules.{rules}
-use native.Mathlib.Omega.{arith}
+use Rattle.condition.proofs.Finishing.{Counting}
 use Rattle.condition.proofs.inner.finish.count_row.Given as goal
 
 abbrev pub invariant-loop-k : goal.invariant-loop-k

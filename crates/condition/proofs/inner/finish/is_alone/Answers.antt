@@ -1,6 +1,5 @@
 -- `condition::inner::finish::is_alone` meets its contract. Assumes nothing.
 use Rattle.condition.proofs.Finishing.{alone-kept, alone_not}
-use borrow.Author.Rules.{rules}
 use Rattle.condition.proofs.inner.finish.is_alone.Goals as goal
 
 pub returns-then-is_marked : goal.returns-then-is_marked

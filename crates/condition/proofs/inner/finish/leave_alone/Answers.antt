@@ -1,6 +1,5 @@
 -- `condition::inner::finish::leave_alone` meets its contract. Assumes nothing.
 use Rattle.condition.proofs.Finishing.{lone_is}
-use borrow.Author.Rules.{rules}
 use Rattle.condition.proofs.inner.finish.leave_alone.Goals as goal
 
 pub returns : goal.returns

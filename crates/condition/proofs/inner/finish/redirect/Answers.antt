@@ -3,7 +3,6 @@ use mathlib.Core.Path.{ap}
 use Rattle.chart.specs.declared.places.NewPlace.{NewPlace}
 use Rattle.condition.proofs.Finishing.{redirect_kept, redirect_not}
 use native.Mathlib.Omega.{arith}
-use borrow.Author.Rules.{rules}
 use Rattle.condition.proofs.inner.finish.redirect.Goals as goal
 
 pub kept-node-requires : goal.kept-node-requires

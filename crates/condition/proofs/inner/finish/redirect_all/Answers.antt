@@ -1,7 +1,5 @@
 -- `condition::inner::finish::redirect_all` meets its contract. Assumes nothing.
-use Prim.Native.Nat.{◌-◌}
-use lib.ListN.{length}
-use Rattle.condition.proofs.Finishing.{Through, all_start, all_asks, all_again, all_end}
+use Rattle.condition.proofs.Finishing.{all_start, all_asks, all_again, all_end}
 use borrow.Author.Rules.{rules}
 use native.Mathlib.Omega.{arith}
 use Rattle.condition.proofs.inner.finish.redirect_all.Goals as goal

@@ -1,9 +1,7 @@
 -- `condition::inner::finish::redirect_all` meets its contract. Assumes nothing.
 use Prim.Native.Nat.{◌-◌}
 use lib.ListN.{length}
-use Rattle.condition.proofs.Finishing.{Through, all_start, all_asks, all_again, all_end}
-use borrow.Author.Rules.{rules}
-use native.Mathlib.Omega.{arith}
+use Rattle.condition.proofs.Finishing.{Through}
 use Rattle.condition.proofs.inner.finish.redirect_all.Given as goal
 
 abbrev pub invariant-loop-p : goal.invariant-loop-p

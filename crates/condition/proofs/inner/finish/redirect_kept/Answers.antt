@@ -1,6 +1,5 @@
 -- `condition::inner::finish::redirect_kept` meets its contract. Assumes nothing.
 use Rattle.condition.proofs.Finishing.{all_stay}
-use borrow.Author.Rules.{rules}
 use Rattle.condition.proofs.inner.finish.redirect_kept.Goals as goal
 
 pub returns-then-blank : goal.returns-then-blank

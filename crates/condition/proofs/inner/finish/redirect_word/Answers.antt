@@ -1,8 +1,7 @@
 -- `condition::inner::finish::redirect_word` meets its contract. Assumes nothing.
 use native.Mathlib.Omega.{arith}
 use lib.ListN.{length-set}
-use Rattle.condition.proofs.Finishing.{Redirecting, word_start, word_again, word_less, word_end}
-use borrow.Author.Rules.{rules}
+use Rattle.condition.proofs.Finishing.{word_start, word_again, word_less, word_end}
 use native.Mathlib.Omega.{arith}
 use Rattle.condition.proofs.inner.finish.redirect_word.Goals as goal
 

@@ -1,6 +1,5 @@
 -- `condition::inner::finish::used` meets its contract. Assumes nothing.
-use Rattle.condition.proofs.Finishing.{Ends, used_start, used_less, used_all}
-use borrow.Author.Rules.{rules}
+use Rattle.condition.proofs.Finishing.{used_start, used_less, used_all}
 use Rattle.condition.proofs.inner.finish.used.Goals as goal
 
 pub loop-n-init : goal.loop-n-init

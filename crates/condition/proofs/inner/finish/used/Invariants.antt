@@ -1,6 +1,5 @@
 -- `condition::inner::finish::used` meets its contract. Assumes nothing.
-use Rattle.condition.proofs.Finishing.{Ends, used_start, used_less, used_all}
-use borrow.Author.Rules.{rules}
+use Rattle.condition.proofs.Finishing.{Ends}
 use Rattle.condition.proofs.inner.finish.used.Given as goal
 
 abbrev pub invariant-loop-n : goal.invariant-loop-n

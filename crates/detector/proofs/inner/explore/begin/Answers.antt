@@ -1,6 +1,5 @@
 -- `detector::inner::explore::begin` meets its contract. Assumes nothing.
 use Rattle.detector.proofs.Exploring.{begun-is}
-use borrow.Author.Rules.{rules}
 use Rattle.detector.proofs.inner.explore.begin.Goals as goal
 
 pub returns : goal.returns

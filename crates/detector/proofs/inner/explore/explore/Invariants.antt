@@ -1,13 +1,8 @@
 -- `detector::inner::explore::explore` meets its contract. Assumes nothing.
-use mathlib.Core.Path.{refl, sym, ◌∙◌}
 use Rattle.chart.specs.Compared.{compared}
-use Rattle.chart.proofs.Faultless.{ascends}
-use Rattle.chart.proofs.Takable.{none_never}
 use Rattle.graph.specs.Buffers.{buffers}
 use Rattle.detector.proofs.Measure.{weight}
-use Rattle.detector.proofs.Exploring.{Building, build_begun, build_sized, build_looks, build_tracks, build_below, build_less, build_turn, build_done, same-marks, same-targets, same-sets, same-waiting}
-use native.Mathlib.Omega.{arith}
-use borrow.Author.Rules.{rules}
+use Rattle.detector.proofs.Exploring.{Building}
 use Rattle.detector.proofs.inner.explore.explore.Given as goal
 
 abbrev pub invariant-loop-n : goal.invariant-loop-n

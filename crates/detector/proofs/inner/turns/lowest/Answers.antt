@@ -1,9 +1,6 @@
 -- `detector::inner::turns::lowest` meets its contract. The invariant: whoever waits is in the list, whose last word gets less. Assumes nothing.
-use lib.ListN.{get_or}
-use Rattle.graph.specs.inner.Tracks.{Lists}
 use Rattle.detector.proofs.Looking.{same-long, look_end, look_less, look_here, look_on}
 use native.Mathlib.Omega.{arith}
-use borrow.Author.Rules.{rules}
 use Rattle.detector.proofs.inner.turns.lowest.Goals as goal
 
 pub loop-waits-init : goal.loop-waits-init

@@ -1,10 +1,7 @@
 -- `detector::inner::turns::lowest_of` meets its contract. The invariant: what is left of the word has whoever of the old place waits. Assumes nothing.
-use mathlib.Core.Path.{◌≡◌, refl, ◌∙◌}
-use lib.ListN.{get_or}
+use mathlib.Core.Path.{refl, ◌∙◌}
 use Rattle.words.proofs.Rests.{coming_start, coming_less}
-use Rattle.graph.specs.inner.Tracks.{Lists}
-use Rattle.detector.proofs.Looking.{Word, same-long, word_of, word_on, word_stored, last_stored, word_found, word_none, word_empty}
-use borrow.Author.Rules.{rules}
+use Rattle.detector.proofs.Looking.{same-long, word_of, word_on, word_stored, last_stored, word_found, word_none, word_empty}
 use Rattle.detector.proofs.inner.turns.lowest_of.Goals as goal
 
 pub loop-word-init : goal.loop-word-init

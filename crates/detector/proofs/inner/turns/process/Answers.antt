@@ -2,7 +2,6 @@
 use mathlib.Core.Path.{ap}
 use Rattle.align.specs.inner.Told.{told}
 use Rattle.detector.proofs.Processing.{came_is, process_fails}
-use borrow.Author.Rules.{rules}
 use Rattle.detector.proofs.inner.turns.process.Goals as goal
 
 pub arrive-requires : goal.arrive-requires

@@ -13,7 +13,7 @@ pub rows_of-part-requires : goal.rows_of-part-requires
 rows_of-part-requires c = record { indexed = c.requires.prepared.indexed; ascending = (ascends _ c.requires.prepared.new-faultless, (let e = ap (λ (q : NewPlace). q.0) c.new_of.ensures in omega arith)) }
 
 pub step-came-requires : goal.step-came-requires
-step-came-requires c = 
+step-came-requires c =
     record { prepared = c.requires.prepared; p_bound = (let e = ap (λ (p : OldPlace). p.0) c.old_of.ensures in omega arith); j_bound = row-right _ _ _ c.new_of.ensures c.rows_of-part.ensures (part_can _ _ _ c.new_of.ensures c.rows_of-part.ensures c.requires.n_bound.2) c.if-r-part.true c.requires.prepared.new-faultless }
 
 pub new_to-requires : goal.new_to-requires

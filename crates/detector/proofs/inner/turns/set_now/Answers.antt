@@ -1,6 +1,5 @@
 -- `detector::inner::turns::set_now` meets its contract. Assumes nothing.
 use Rattle.detector.proofs.Rows.{now_own, now_had}
-use borrow.Author.Rules.{rules}
 use Rattle.detector.proofs.inner.turns.set_now.Goals as goal
 
 pub returns-then-marks-n-ne0 : goal.returns-then-marks-n-ne0

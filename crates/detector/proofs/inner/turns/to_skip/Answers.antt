@@ -1,12 +1,10 @@
 -- `detector::inner::turns::to_skip` meets its contract: none where the table has none, else row by row. Assumes nothing.
 use mathlib.Core.Path.{ap, ◌∙◌}
 use native.Mathlib.Omega.{arith}
-use borrow.Author.Tests.{not-true}
 use Rattle.chart.specs.declared.places.NewPlace.{NewPlace}
 use Rattle.chart.specs.Charts.{leaving}
 use Rattle.chart.proofs.Takable.{part_none}
 use Rattle.detector.proofs.Rows.{skips_none, skips_by}
-use borrow.Author.Rules.{rules}
 use Rattle.detector.proofs.inner.turns.to_skip.Goals as goal
 
 pub returns-then-not-some : goal.returns-then-not-some

@@ -1,9 +1,5 @@
 -- `detector::inner::turns::turn` meets its contract. The invariant: the rows before r are done. Assumes nothing.
-use Prim.Native.Nat.{◌-◌}
-use Rattle.chart.specs.Compared.{compared}
-use Rattle.graph.specs.Buffers.{buffers}
-use Rattle.detector.proofs.Rows.{Turning, turn_begins, turn_row, turn_done, unwait-sized, unwait-kept_up}
-use native.Mathlib.Omega.{arith}
+use Rattle.detector.proofs.Rows.{turn_begins, turn_row, turn_done, unwait-sized, unwait-kept_up}
 use borrow.Author.Rules.{rules}
 use Rattle.detector.proofs.inner.turns.turn.Goals as goal
 

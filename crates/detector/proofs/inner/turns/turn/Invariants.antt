@@ -2,9 +2,7 @@
 use Prim.Native.Nat.{◌-◌}
 use Rattle.chart.specs.Compared.{compared}
 use Rattle.graph.specs.Buffers.{buffers}
-use Rattle.detector.proofs.Rows.{Turning, turn_begins, turn_row, turn_done, unwait-sized, unwait-kept_up}
-use native.Mathlib.Omega.{arith}
-use borrow.Author.Rules.{rules}
+use Rattle.detector.proofs.Rows.{Turning}
 use Rattle.detector.proofs.inner.turns.turn.Given as goal
 
 abbrev pub invariant-loop-r : goal.invariant-loop-r

@@ -1,8 +1,6 @@
 -- `graph::inner::buffers::fill64` meets its contract. Assumes nothing.
-use Prim.Native.Nat.{◌-◌}
-use lib.ListN.{length, length-set}
-use Rattle.base.proofs.Stores.{Filling, filling_none, filling_more, filled}
-use borrow.Author.Rules.{rules}
+use lib.ListN.{length-set}
+use Rattle.base.proofs.Stores.{filling_none, filling_more, filled}
 use native.Mathlib.Omega.{arith}
 use Rattle.graph.proofs.inner.buffers.fill64.Goals as goal
 

@@ -1,9 +1,7 @@
 -- `graph::inner::buffers::fill64` meets its contract. Assumes nothing.
 use Prim.Native.Nat.{◌-◌}
-use lib.ListN.{length, length-set}
-use Rattle.base.proofs.Stores.{Filling, filling_none, filling_more, filled}
-use borrow.Author.Rules.{rules}
-use native.Mathlib.Omega.{arith}
+use lib.ListN.{length}
+use Rattle.base.proofs.Stores.{Filling}
 use Rattle.graph.proofs.inner.buffers.fill64.Given as goal
 
 abbrev pub invariant-loop-i : goal.invariant-loop-i

@@ -1,6 +1,5 @@
 -- `graph::inner::graphs::aim` meets its contract. Assumes nothing.
 use Rattle.graph.proofs.Parts.{aim_yes, aim_no}
-use borrow.Author.Rules.{rules}
 use Rattle.graph.proofs.inner.graphs.aim.Goals as goal
 
 pub returns-then-marks-n-ne0 : goal.returns-then-marks-n-ne0

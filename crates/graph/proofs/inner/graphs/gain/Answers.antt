@@ -1,6 +1,5 @@
 -- `graph::inner::graphs::gain` meets its contract. Assumes nothing.
 use Rattle.graph.proofs.Parts.{gain_is}
-use borrow.Author.Rules.{rules}
 use Rattle.graph.proofs.inner.graphs.gain.Goals as goal
 
 pub returns : goal.returns

@@ -1,7 +1,6 @@
 -- `graph::inner::graphs::is_marked` meets its contract. Assumes nothing.
 use mathlib.Core.Path.{refl}
 use Rattle.graph.specs.Buffers.{marked}
-use borrow.Author.Rules.{rules}
 use Rattle.graph.proofs.inner.graphs.is_marked.Goals as goal
 
 pub returns : goal.returns

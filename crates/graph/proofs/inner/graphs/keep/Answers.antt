@@ -1,6 +1,5 @@
 -- `graph::inner::graphs::keep` meets its contract. Assumes nothing.
 use Rattle.graph.proofs.Keeping.{keep-is}
-use borrow.Author.Rules.{rules}
 use Rattle.graph.proofs.inner.graphs.keep.Goals as goal
 
 pub returns : goal.returns

@@ -3,7 +3,6 @@ use mathlib.Core.Path.{refl}
 use lib.ListN.{length-set}
 use Rattle.graph.proofs.Keeping.{both-targets}
 use native.Mathlib.Omega.{arith}
-use borrow.Author.Rules.{rules}
 use Rattle.graph.proofs.inner.graphs.leave.Goals as goal
 
 pub bounds-targets-at-2 : goal.bounds-targets-at-2

@@ -1,9 +1,5 @@
 -- `graph::inner::graphs::leave_all` meets its contract. Assumes nothing.
-use mathlib.Core.Logic.{⊎_elim}
-use Prim.Native.Nat.{◌-◌}
-use borrow.Author.Tests.{not-true}
-use Rattle.graph.specs.Buffers.{buffers}
-use Rattle.graph.proofs.Keeping.{Going, going_none, going_same, going_seen, going_unseen, left_all, left-none}
+use Rattle.graph.proofs.Keeping.{going_none, going_same, going_seen, going_unseen, left_all, left-none}
 use borrow.Author.Rules.{rules}
 use native.Mathlib.Omega.{arith}
 use Rattle.graph.proofs.inner.graphs.leave_all.Goals as goal
@@ -19,8 +15,8 @@ pub loop-p-preserved : goal.loop-p-preserved
 loop-p-preserved c =
     let I = c.loop-p.invariant in
     elim c.if-has.branch [
-      then-has w ↦ going_same (going_seen I c.requires.sized c.requires.q_bound (search rules) (omega arith) w.leave.ensures) w.marks-is w.targets-is w.sets-is w.waiting-is |
-      else-has w ↦ going_same (going_unseen I c.requires.sized c.requires.q_bound (search rules) (omega arith) c.requires.covers c.has.ensures w.if-has.false) w.marks-is w.targets-is w.sets-is w.waiting-is
+      | then-has w ↦ going_same (going_seen I c.requires.sized c.requires.q_bound (search rules) (omega arith) w.leave.ensures) w.marks-is w.targets-is w.sets-is w.waiting-is
+      | else-has w ↦ going_same (going_unseen I c.requires.sized c.requires.q_bound (search rules) (omega arith) c.requires.covers c.has.ensures w.if-has.false) w.marks-is w.targets-is w.sets-is w.waiting-is
     ]
 
 pub returns : goal.returns

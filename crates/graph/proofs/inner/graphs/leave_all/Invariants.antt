@@ -1,11 +1,7 @@
 -- `graph::inner::graphs::leave_all` meets its contract. Assumes nothing.
-use mathlib.Core.Logic.{⊎_elim}
 use Prim.Native.Nat.{◌-◌}
-use borrow.Author.Tests.{not-true}
 use Rattle.graph.specs.Buffers.{buffers}
-use Rattle.graph.proofs.Keeping.{Going, going_none, going_same, going_seen, going_unseen, left_all, left-none}
-use borrow.Author.Rules.{rules}
-use native.Mathlib.Omega.{arith}
+use Rattle.graph.proofs.Keeping.{Going}
 use Rattle.graph.proofs.inner.graphs.leave_all.Given as goal
 
 abbrev pub invariant-loop-p : goal.invariant-loop-p

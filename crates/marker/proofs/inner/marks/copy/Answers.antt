@@ -1,10 +1,7 @@
 -- `marker::inner::marks::copy` meets its contract. Assumes nothing.
 use mathlib.Core.Path.{sym}
-use Prim.Native.Nat.{◌-◌}
 use native.Mathlib.Nat.{le_of_eq}
-use lib.ListN.{length}
-use Rattle.base.proofs.Stores.{Copying, copying_start, copying_more, copying_whole}
-use borrow.Author.Rules.{rules}
+use Rattle.base.proofs.Stores.{copying_start, copying_more, copying_whole}
 use Rattle.marker.proofs.inner.marks.copy.Goals as goal
 
 pub loop-p-init : goal.loop-p-init

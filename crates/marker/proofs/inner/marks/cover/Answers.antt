@@ -1,7 +1,6 @@
 -- `marker::inner::marks::cover` meets its contract. Assumes nothing.
 use Rattle.marker.proofs.Covering.{covers_one, covers-none, covers_past}
 use native.Mathlib.Omega.{arith}
-use borrow.Author.Rules.{rules}
 use Rattle.marker.proofs.inner.marks.cover.Goals as goal
 
 pub returns-then-marks-at : goal.returns-then-marks-at

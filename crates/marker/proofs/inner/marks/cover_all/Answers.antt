@@ -1,7 +1,5 @@
 -- `marker::inner::marks::cover_all` meets its contract. Assumes nothing.
-use Prim.Native.Nat.{◌-◌}
-use lib.ListN.{length}
-use Rattle.marker.proofs.Covering.{CoveringAll, all_start, all_few, all_more, all_end}
+use Rattle.marker.proofs.Covering.{all_start, all_few, all_more, all_end}
 use borrow.Author.Rules.{rules}
 use native.Mathlib.Omega.{arith}
 use Rattle.marker.proofs.inner.marks.cover_all.Goals as goal

@@ -1,6 +1,5 @@
 -- `marker::inner::marks::cover_from` meets its contract. Assumes nothing.
 use Rattle.marker.proofs.Covering.{covers-both}
-use borrow.Author.Rules.{rules}
 use Rattle.marker.proofs.inner.marks.cover_from.Goals as goal
 
 pub returns : goal.returns

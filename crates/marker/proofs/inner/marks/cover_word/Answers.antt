@@ -1,7 +1,6 @@
 -- `marker::inner::marks::cover_word` meets its contract. Assumes nothing.
 use Rattle.words.proofs.Rests.{coming_less}
-use Rattle.marker.proofs.Covering.{CoveringWord, word_start, word_few, word_open, word_shut, word_end}
-use borrow.Author.Rules.{rules}
+use Rattle.marker.proofs.Covering.{word_start, word_few, word_open, word_shut, word_end}
 use native.Mathlib.Omega.{arith}
 use Rattle.marker.proofs.inner.marks.cover_word.Goals as goal
 

@@ -1,12 +1,9 @@
 -- `marker::inner::marks::open_rest` meets its contract. Assumes nothing.
-use mathlib.Core.Path.{◌≡◌, ◌∙◌}
+use mathlib.Core.Path.{◌≡◌}
 use lib.ListN.{length}
 use Rattle.marker.specs.inner.Seen.{HoldsBeyond}
 use Rattle.marker.proofs.Marks.{fours}
-use Rattle.marker.proofs.Orders.{Sweeping, sweeping_start}
-use Rattle.marker.proofs.Spreads.{rounds_again, passes_done, passes_rest, passes_less}
-use borrow.Author.Rules.{rules}
-use native.Mathlib.Omega.{arith}
+use Rattle.marker.proofs.Orders.{Sweeping}
 use Rattle.marker.proofs.inner.marks.open_rest.Given as goal
 
 abbrev pub invariant-loop-marks : goal.invariant-loop-marks

@@ -1,9 +1,6 @@
 -- `marker::inner::marks::plain` meets its contract. Assumes nothing.
-use Prim.Native.Nat.{◌-◌}
-use lib.ListN.{length}
 use mathlib.Core.Path.{◌∙◌}
-use Rattle.marker.proofs.Ranking.{Plain, plain-start, plain_more, plain_past, plain_end}
-use borrow.Author.Rules.{rules}
+use Rattle.marker.proofs.Ranking.{plain-start, plain_more, plain_past, plain_end}
 use native.Mathlib.Omega.{arith}
 use Rattle.marker.proofs.inner.marks.plain.Goals as goal
 use Rattle.marker.proofs.inner.marks.plain.Goals.{then-seen-p-ne0, else-seen-p-ne0}
@@ -15,8 +12,8 @@ pub loop-p-preserved : goal.loop-p-preserved
 loop-p-preserved c =
     let P = c.loop-p.invariant in
     elim c.if-seen-p-ne0.branch [
-      then-seen-p-ne0 w ↦ plain_more P (omega arith) (w.marks-is ∙ w.plain_row.ensures) |
-      else-seen-p-ne0 w ↦ plain_past P (omega arith) c.requires.1 w.if-seen-p-ne0.false w.marks-is
+      | then-seen-p-ne0 w ↦ plain_more P (omega arith) (w.marks-is ∙ w.plain_row.ensures)
+      | else-seen-p-ne0 w ↦ plain_past P (omega arith) c.requires.1 w.if-seen-p-ne0.false w.marks-is
     ]
 
 pub returns : goal.returns

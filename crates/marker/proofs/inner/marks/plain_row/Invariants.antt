@@ -1,9 +1,7 @@
 -- `marker::inner::marks::plain_row` meets its contract. Assumes nothing.
 use Prim.Native.Nat.{◌+◌, ◌-◌}
 use Rattle.marker.specs.inner.Parts.{plain_as}
-use Rattle.marker.proofs.Spans.{Remaking, remaking_start, remaking_more, remaking_end}
-use borrow.Author.Rules.{rules}
-use native.Mathlib.Omega.{arith}
+use Rattle.marker.proofs.Spans.{Remaking}
 use Rattle.marker.proofs.inner.marks.plain_row.Given as goal
 
 abbrev pub invariant-loop-i : goal.invariant-loop-i

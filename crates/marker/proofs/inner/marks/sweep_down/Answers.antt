@@ -1,9 +1,4 @@
 -- `marker::inner::marks::sweep_down` meets its contract. Assumes nothing.
-use mathlib.Core.Path.{◌≡◌}
-use Prim.Native.Nat.{◌*◌, ◌≤◌}
-use lib.ListN.{length}
-use Rattle.marker.specs.inner.Seen.{HoldsBeyond}
-use Rattle.marker.specs.inner.Openings.{Swept}
 use Rattle.marker.proofs.Sweeps.{down_start, down_more, down_end}
 use borrow.Author.Rules.{rules}
 use Rattle.marker.proofs.inner.marks.sweep_down.Goals as goal

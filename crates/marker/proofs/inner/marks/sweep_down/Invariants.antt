@@ -4,8 +4,6 @@ use Prim.Native.Nat.{◌*◌, ◌≤◌}
 use lib.ListN.{length}
 use Rattle.marker.specs.inner.Seen.{HoldsBeyond}
 use Rattle.marker.specs.inner.Openings.{Swept}
-use Rattle.marker.proofs.Sweeps.{down_start, down_more, down_end}
-use borrow.Author.Rules.{rules}
 use Rattle.marker.proofs.inner.marks.sweep_down.Given as goal
 
 abbrev pub invariant-loop-p : goal.invariant-loop-p

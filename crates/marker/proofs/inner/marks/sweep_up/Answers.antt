@@ -1,9 +1,4 @@
 -- `marker::inner::marks::sweep_up` meets its contract. Assumes nothing.
-use mathlib.Core.Path.{◌≡◌}
-use Prim.Native.Nat.{◌*◌, ◌-◌, ◌≤◌}
-use lib.ListN.{length}
-use Rattle.marker.specs.inner.Seen.{HoldsBeyond}
-use Rattle.marker.specs.inner.Openings.{Swept}
 use Rattle.marker.proofs.Orders.{swept_start}
 use Rattle.marker.proofs.Sweeps.{up_more, up_end}
 use borrow.Author.Rules.{rules}

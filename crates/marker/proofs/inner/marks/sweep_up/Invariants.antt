@@ -4,9 +4,6 @@ use Prim.Native.Nat.{◌*◌, ◌-◌, ◌≤◌}
 use lib.ListN.{length}
 use Rattle.marker.specs.inner.Seen.{HoldsBeyond}
 use Rattle.marker.specs.inner.Openings.{Swept}
-use Rattle.marker.proofs.Orders.{swept_start}
-use Rattle.marker.proofs.Sweeps.{up_more, up_end}
-use borrow.Author.Rules.{rules}
 use Rattle.marker.proofs.inner.marks.sweep_up.Given as goal
 
 abbrev pub invariant-loop-p : goal.invariant-loop-p

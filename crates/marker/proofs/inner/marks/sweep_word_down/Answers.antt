@@ -1,8 +1,5 @@
 -- `marker::inner::marks::sweep_word_down` meets its contract. Assumes nothing.
-use mathlib.Core.Path.{◌≡◌}
-use lib.ListN.{length}
-use Rattle.marker.specs.inner.Seen.{HoldsBeyond}
-use Rattle.marker.proofs.Sweeps.{Downwards, downwards_start, downwards_less, downwards_more, downwards_end}
+use Rattle.marker.proofs.Sweeps.{downwards_start, downwards_less, downwards_more, downwards_end}
 use borrow.Author.Rules.{rules}
 use native.Mathlib.Omega.{arith}
 use Rattle.marker.proofs.inner.marks.sweep_word_down.Goals as goal

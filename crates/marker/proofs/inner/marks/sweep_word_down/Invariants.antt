@@ -2,9 +2,7 @@
 use mathlib.Core.Path.{◌≡◌}
 use lib.ListN.{length}
 use Rattle.marker.specs.inner.Seen.{HoldsBeyond}
-use Rattle.marker.proofs.Sweeps.{Downwards, downwards_start, downwards_less, downwards_more, downwards_end}
-use borrow.Author.Rules.{rules}
-use native.Mathlib.Omega.{arith}
+use Rattle.marker.proofs.Sweeps.{Downwards}
 use Rattle.marker.proofs.inner.marks.sweep_word_down.Given as goal
 
 abbrev pub invariant-loop-word : goal.invariant-loop-word

@@ -1,9 +1,6 @@
 -- `marker::inner::marks::sweep_word_up` meets its contract. Assumes nothing.
 use Rattle.words.proofs.Rests.{coming_less}
-use mathlib.Core.Path.{◌≡◌}
-use lib.ListN.{length}
-use Rattle.marker.specs.inner.Seen.{HoldsBeyond}
-use Rattle.marker.proofs.Sweeps.{Upwards, upwards_start, upwards_more, upwards_end}
+use Rattle.marker.proofs.Sweeps.{upwards_start, upwards_more, upwards_end}
 use borrow.Author.Rules.{rules}
 use Rattle.marker.proofs.inner.marks.sweep_word_up.Goals as goal
 

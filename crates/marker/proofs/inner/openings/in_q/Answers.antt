@@ -1,6 +1,5 @@
 -- `marker::inner::openings::in_q` meets its contract. Assumes nothing.
 use Rattle.marker.proofs.Ranking.{in_past, in_one, in_two}
-use borrow.Author.Rules.{rules}
 use Rattle.marker.proofs.inner.openings.in_q.Goals as goal
 
 pub returns-then-marks-at : goal.returns-then-marks-at

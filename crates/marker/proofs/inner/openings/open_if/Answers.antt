@@ -1,6 +1,5 @@
 -- `marker::inner::openings::open_if` meets its contract. Assumes nothing.
 use Rattle.marker.proofs.Orders.{tried_yes, tried_no}
-use borrow.Author.Rules.{rules}
 use Rattle.marker.proofs.inner.openings.open_if.Goals as goal
 
 pub returns-then-opens : goal.returns-then-opens

@@ -1,6 +1,5 @@
 -- `marker::inner::openings::opens` meets its contract. Assumes nothing.
 use Rattle.marker.proofs.Ranking.{opens_not, opens_either}
-use borrow.Author.Rules.{rules}
 use Rattle.marker.proofs.inner.openings.opens.Goals as goal
 
 pub returns-then-marks-i-ne4 : goal.returns-then-marks-i-ne4

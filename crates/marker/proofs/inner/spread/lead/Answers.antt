@@ -1,6 +1,5 @@
 -- `marker::inner::spread::lead` meets its contract. Assumes nothing.
 use Rattle.marker.proofs.Leads.{led_pair, led_node}
-use borrow.Author.Rules.{rules}
 use Rattle.marker.proofs.inner.spread.lead.Goals as goal
 
 pub returns-then-target-lt4096 : goal.returns-then-target-lt4096

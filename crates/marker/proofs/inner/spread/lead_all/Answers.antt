@@ -1,8 +1,5 @@
 -- `marker::inner::spread::lead_all` meets its contract. Assumes nothing.
-use Prim.Native.Nat.{◌-◌}
-use lib.ListN.{length}
-use Rattle.marker.proofs.Leads.{Led, led_start, led_more, led_end}
-use borrow.Author.Rules.{rules}
+use Rattle.marker.proofs.Leads.{led_start, led_more, led_end}
 use Rattle.marker.proofs.inner.spread.lead_all.Goals as goal
 
 pub loop-p-init : goal.loop-p-init

@@ -1,8 +1,7 @@
 -- `marker::inner::spread::lead_all` meets its contract. Assumes nothing.
 use Prim.Native.Nat.{◌-◌}
 use lib.ListN.{length}
-use Rattle.marker.proofs.Leads.{Led, led_start, led_more, led_end}
-use borrow.Author.Rules.{rules}
+use Rattle.marker.proofs.Leads.{Led}
 use Rattle.marker.proofs.inner.spread.lead_all.Given as goal
 
 abbrev pub invariant-loop-p : goal.invariant-loop-p

@@ -1,6 +1,5 @@
 -- `marker::inner::spread::lead_from` meets its contract. Assumes nothing.
 use Rattle.marker.proofs.Leads.{led_from_lem, led_not}
-use borrow.Author.Rules.{rules}
 use Rattle.marker.proofs.inner.spread.lead_from.Goals as goal
 
 pub returns-then-marks-i-eq4 : goal.returns-then-marks-i-eq4

@@ -1,7 +1,6 @@
 -- `marker::inner::spread::lead_word` meets its contract. Assumes nothing.
 use Rattle.words.proofs.Rests.{coming_less}
-use Rattle.marker.proofs.Leads.{Leading, lead_start, lead_more, lead_end}
-use borrow.Author.Rules.{rules}
+use Rattle.marker.proofs.Leads.{lead_start, lead_more, lead_end}
 use Rattle.marker.proofs.inner.spread.lead_word.Goals as goal
 
 pub loop-word-init : goal.loop-word-init

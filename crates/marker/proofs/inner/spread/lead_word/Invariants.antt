@@ -1,7 +1,5 @@
 -- `marker::inner::spread::lead_word` meets its contract. Assumes nothing.
-use Rattle.words.proofs.Rests.{coming_less}
-use Rattle.marker.proofs.Leads.{Leading, lead_start, lead_more, lead_end}
-use borrow.Author.Rules.{rules}
+use Rattle.marker.proofs.Leads.{Leading}
 use Rattle.marker.proofs.inner.spread.lead_word.Given as goal
 
 abbrev pub invariant-loop-word : goal.invariant-loop-word

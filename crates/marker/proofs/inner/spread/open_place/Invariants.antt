@@ -1,8 +1,6 @@
 -- `marker::inner::spread::open_place` meets its contract. Assumes nothing.
 use Prim.Native.Nat.{◌-◌, ◌≤◌}
 use Rattle.marker.specs.inner.Spreads.{Spread}
-use Rattle.marker.proofs.Spreads.{spread_none, spread_tried}
-use borrow.Author.Rules.{rules}
 use Rattle.marker.proofs.inner.spread.open_place.Given as goal
 
 abbrev pub invariant-loop-p : goal.invariant-loop-p

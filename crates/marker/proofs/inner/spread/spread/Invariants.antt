@@ -1,8 +1,6 @@
 -- `marker::inner::spread::spread` meets its contract. Assumes nothing.
 use Rattle.marker.proofs.Marks.{fours}
-use Rattle.marker.proofs.Orders.{Sweeping, sweeping_start}
-use Rattle.marker.proofs.Spreads.{rounds_again, rounds_less, rounds_done}
-use borrow.Author.Rules.{rules}
+use Rattle.marker.proofs.Orders.{Sweeping}
 use Rattle.marker.proofs.inner.spread.spread.Given as goal
 
 abbrev pub invariant-loop-places : goal.invariant-loop-places

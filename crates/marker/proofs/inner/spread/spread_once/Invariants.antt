@@ -1,8 +1,6 @@
 -- `marker::inner::spread::spread_once` meets its contract. Assumes nothing.
 use Prim.Native.Nat.{◌-◌}
 use Rattle.marker.specs.inner.Spreads.{Spread}
-use Rattle.marker.proofs.Spreads.{spread_none, spread_then}
-use borrow.Author.Rules.{rules}
 use Rattle.marker.proofs.inner.spread.spread_once.Given as goal
 
 abbrev pub invariant-loop-q : goal.invariant-loop-q

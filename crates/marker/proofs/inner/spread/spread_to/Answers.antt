@@ -1,6 +1,5 @@
 -- `marker::inner::spread::spread_to` meets its contract. Assumes nothing.
 use Rattle.marker.proofs.Spreads.{spread_none, spread_zero, spread-some}
-use borrow.Author.Rules.{rules}
 use Rattle.marker.proofs.inner.spread.spread_to.Goals as goal
 
 pub returns-then-not-meets : goal.returns-then-not-meets

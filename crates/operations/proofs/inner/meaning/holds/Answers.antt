@@ -1,7 +1,6 @@
 -- `operations::inner::meaning::holds` meets its contract: from its parts. Assumes nothing.
 use Rattle.operations.proofs.Codes.{fit-a}
 use Rattle.operations.specs.Operations.{holds}
-use Rattle.std.proofs.Common.{rules}
 use Rattle.operations.proofs.inner.meaning.holds.Goals as goal
 
 pub held-requires : goal.held-requires

@@ -1,6 +1,5 @@
 -- `operations::inner::meaning::related` meets its contract: by the three orders of two numbers. Assumes nothing.
 use Rattle.operations.proofs.Order.{related-is}
-use Rattle.std.proofs.Common.{rules}
 use Rattle.operations.proofs.inner.meaning.related.Goals as goal
 
 pub returns : goal.returns

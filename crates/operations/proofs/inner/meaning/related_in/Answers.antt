@@ -1,5 +1,4 @@
 -- `operations::inner::meaning::related_in` meets its contract: from its parts. Assumes nothing.
-use Rattle.std.proofs.Common.{rules}
 use Rattle.operations.proofs.inner.meaning.related_in.Goals as goal
 
 pub returns : goal.returns

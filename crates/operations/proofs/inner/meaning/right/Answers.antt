@@ -1,6 +1,5 @@
 -- `operations::inner::meaning::right` meets its contract: by the test that picks the operand. Assumes nothing.
 use Rattle.operations.proofs.Codes.{fit-b}
-use Rattle.std.proofs.Common.{rules}
 use Rattle.operations.proofs.inner.meaning.right.Goals as goal
 
 pub returns-then-with_constant : goal.returns-then-with_constant

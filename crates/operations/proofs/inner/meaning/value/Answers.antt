@@ -1,5 +1,5 @@
 -- `operations::inner::meaning::value` meets its contract: code by code. Assumes nothing.
-use Rattle.std.proofs.Common.{◌≡◌, refl, arith, rules}
+use Rattle.std.proofs.Common.{◌≡◌, refl, arith}
 use Rattle.operations.specs.Operations.{assigned_c, value}
 use Rattle.operations.proofs.Codes.{assigning, fit-b, fit-c}
 use Rattle.operations.proofs.inner.meaning.value.Goals as goal

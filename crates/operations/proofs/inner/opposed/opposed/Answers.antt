@@ -1,6 +1,5 @@
 -- `operations::inner::opposed::opposed` meets its contract: the same operands, opposite codes. Assumes nothing.
 use Rattle.operations.proofs.Opposed.{opposed_codes}
-use Rattle.std.proofs.Common.{rules}
 use Rattle.operations.proofs.inner.opposed.opposed.Goals as goal
 
 pub returns : goal.returns

@@ -1,5 +1,5 @@
 -- `operations::inner::trials::above` meets its contract: by the sort of its operand. Assumes nothing.
-use Rattle.std.proofs.Common.{◌-◌, ◌^◌, not, eqb, ltb, rules}
+use Rattle.std.proofs.Common.{◌-◌, ◌^◌, not, eqb, ltb}
 use Rattle.operations.specs.Operations.{with_constant, order, key}
 use Rattle.operations.proofs.Independent.{either}
 use Rattle.operations.proofs.inner.trials.above.Goals as goal

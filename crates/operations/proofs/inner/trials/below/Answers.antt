@@ -1,5 +1,5 @@
 -- `operations::inner::trials::below` meets its contract: by the sort of its operand. Assumes nothing.
-use Rattle.std.proofs.Common.{not, eqb, ltb, rules}
+use Rattle.std.proofs.Common.{not, eqb, ltb}
 use Rattle.operations.specs.Operations.{with_constant, order, key}
 use Rattle.operations.proofs.Independent.{either}
 use Rattle.operations.proofs.inner.trials.below.Goals as goal

@@ -1,5 +1,4 @@
 -- `operations::inner::trials::bound` meets its contract: by the sort of its operand. Assumes nothing.
-use Rattle.std.proofs.Common.{rules}
 use Rattle.operations.proofs.inner.trials.bound.Goals as goal
 
 pub returns-then-with_constant : goal.returns-then-with_constant

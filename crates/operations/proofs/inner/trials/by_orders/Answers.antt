@@ -1,6 +1,5 @@
 -- `operations::inner::trials::by_orders` meets its contract: five pairs of values are enough, and three in one order. Assumes nothing.
 use Rattle.operations.proofs.Orders.{orders_are}
-use Rattle.std.proofs.Common.{rules}
 use Rattle.operations.proofs.inner.trials.by_orders.Goals as goal
 
 pub returns-then-shown : goal.returns-then-shown

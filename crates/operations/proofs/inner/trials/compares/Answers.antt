@@ -1,5 +1,4 @@
 -- `operations::inner::trials::compares` meets its contract: by its two tests. Assumes nothing.
-use Rattle.std.proofs.Common.{rules}
 use Rattle.operations.proofs.inner.trials.compares.Goals as goal
 
 pub returns : goal.returns

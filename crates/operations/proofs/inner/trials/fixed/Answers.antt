@@ -1,5 +1,4 @@
 -- `operations::inner::trials::fixed` meets its contract: by its two tests. Assumes nothing.
-use Rattle.std.proofs.Common.{rules}
 use Rattle.operations.proofs.inner.trials.fixed.Goals as goal
 
 pub returns : goal.returns

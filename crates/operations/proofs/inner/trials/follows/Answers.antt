@@ -1,5 +1,5 @@
 -- `operations::inner::trials::follows` meets its contract: by what g can make of values where f has nothing to do with it, else by a search. Assumes nothing.
-use Rattle.std.proofs.Common.{not, sym, ap, ◌∙◌, arith, rules}
+use Rattle.std.proofs.Common.{not, sym, ap, ◌∙◌, arith}
 use Rattle.operations.proofs.Independent.{apart-implies}
 use Rattle.operations.proofs.inner.trials.follows.Goals as goal
 

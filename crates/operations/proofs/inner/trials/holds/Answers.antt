@@ -1,6 +1,5 @@
 -- `operations::inner::trials::holds` meets its contract: from its parts. Assumes nothing.
 use Rattle.operations.specs.Operations.{holds}
-use Rattle.std.proofs.Common.{rules}
 use Rattle.operations.proofs.inner.trials.holds.Goals as goal
 
 pub returns : goal.returns

@@ -1,6 +1,5 @@
 -- `operations::inner::trials::independent` meets its contract: by its three tests. Assumes nothing.
 use Rattle.operations.specs.inner.ShortWays.{independent}
-use Rattle.std.proofs.Common.{rules}
 use Rattle.operations.proofs.inner.trials.independent.Goals as goal
 
 pub returns : goal.returns

@@ -1,5 +1,4 @@
 -- `operations::inner::trials::inside` meets its contract: by its two tests. Assumes nothing.
-use Rattle.std.proofs.Common.{rules}
 use Rattle.operations.proofs.inner.trials.inside.Goals as goal
 
 pub returns-then-compares : goal.returns-then-compares

@@ -1,5 +1,4 @@
 -- `operations::inner::trials::meets_both` meets its contract: by its two tests. Assumes nothing.
-use Rattle.std.proofs.Common.{rules}
 use Rattle.operations.proofs.inner.trials.meets_both.Goals as goal
 
 pub returns-then-alike : goal.returns-then-alike

@@ -1,7 +1,6 @@
 -- `operations::inner::trials::met_by_some` meets its contract: no earlier value does. Assumes nothing.
-use Rattle.std.proofs.Common.{◌-◌, length, refl, arith, rules}
-use Rattle.operations.specs.inner.ShortWays.{meets_both}
-use Rattle.base.proofs.Lists.{NoneYet, some-here, none_here, none_at_all}
+use Rattle.std.proofs.Common.{refl, arith}
+use Rattle.base.proofs.Lists.{some-here, none_here, none_at_all}
 use Rattle.operations.proofs.inner.trials.met_by_some.Goals as goal
 
 pub loop-i-init : goal.loop-i-init

@@ -1,7 +1,7 @@
 -- `operations::inner::trials::met_by_some` meets its contract: no earlier value does. Assumes nothing.
-use Rattle.std.proofs.Common.{◌-◌, length, refl, arith, rules}
+use Rattle.std.proofs.Common.{◌-◌, length}
 use Rattle.operations.specs.inner.ShortWays.{meets_both}
-use Rattle.base.proofs.Lists.{NoneYet, some-here, none_here, none_at_all}
+use Rattle.base.proofs.Lists.{NoneYet}
 use Rattle.operations.proofs.inner.trials.met_by_some.Given as goal
 
 abbrev pub invariant-loop-i : goal.invariant-loop-i

@@ -1,5 +1,4 @@
 -- `operations::inner::trials::own` meets its contract: by the test that picks the variable. Assumes nothing.
-use Rattle.std.proofs.Common.{rules}
 use Rattle.operations.proofs.inner.trials.own.Goals as goal
 
 pub returns-then-compares : goal.returns-then-compares

@@ -1,5 +1,4 @@
 -- `operations::inner::trials::paired` meets its contract: by its three tests. Assumes nothing.
-use Rattle.std.proofs.Common.{rules}
 use Rattle.operations.proofs.inner.trials.paired.Goals as goal
 
 pub returns : goal.returns

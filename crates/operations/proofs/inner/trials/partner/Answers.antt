@@ -1,5 +1,4 @@
 -- `operations::inner::trials::partner` meets its contract: by the test that picks the variable. Assumes nothing.
-use Rattle.std.proofs.Common.{rules}
 use Rattle.operations.proofs.inner.trials.partner.Goals as goal
 
 pub returns-then-with_constant : goal.returns-then-with_constant

@@ -1,5 +1,4 @@
 -- `operations::inner::trials::points` meets its contract: the sums and differences wrap. Assumes nothing.
-use Rattle.std.proofs.Common.{rules}
 use Rattle.operations.proofs.inner.trials.points.Goals as goal
 
 pub returns : goal.returns

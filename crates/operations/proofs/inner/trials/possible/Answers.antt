@@ -1,6 +1,6 @@
 -- `operations::inner::trials::possible` meets its contract: below, at and above. Assumes nothing.
 use Rattle.operations.proofs.Independent.{possible-is}
-use Rattle.std.proofs.Common.{arith, rules}
+use Rattle.std.proofs.Common.{arith}
 use Rattle.operations.proofs.inner.trials.possible.Goals as goal
 
 pub returns : goal.returns

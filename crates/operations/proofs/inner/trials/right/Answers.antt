@@ -1,5 +1,4 @@
 -- `operations::inner::trials::right` meets its contract: by the test that picks the operand. Assumes nothing.
-use Rattle.std.proofs.Common.{rules}
 use Rattle.operations.proofs.inner.trials.right.Goals as goal
 
 pub returns-then-with_constant : goal.returns-then-with_constant

@@ -1,6 +1,5 @@
 -- `operations::inner::trials::seats_of` meets its contract: by the tests that pick the seats. Assumes nothing.
 use Rattle.operations.specs.Trials.{seats}
-use Rattle.std.proofs.Common.{rules}
 use Rattle.operations.proofs.inner.trials.seats_of.Goals as goal
 
 pub returns-then-inside : goal.returns-then-inside

@@ -1,6 +1,5 @@
 -- `operations::inner::trials::shown` meets its contract: by its two tests. Assumes nothing.
 use Rattle.operations.specs.Trials.{shown}
-use Rattle.std.proofs.Common.{rules}
 use Rattle.operations.proofs.inner.trials.shown.Goals as goal
 
 pub returns-then-alike : goal.returns-then-alike

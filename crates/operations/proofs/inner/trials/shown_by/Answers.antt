@@ -1,7 +1,6 @@
 -- `operations::inner::trials::shown_by` meets its contract: no earlier point shows it. Assumes nothing.
-use Rattle.std.proofs.Common.{◌-◌, length, refl, arith, rules}
-use Rattle.operations.specs.Trials.{shown}
-use Rattle.base.proofs.Lists.{NoneYet, some-here, none_here, none_at_all}
+use Rattle.std.proofs.Common.{refl, arith}
+use Rattle.base.proofs.Lists.{some-here, none_here, none_at_all}
 use Rattle.operations.proofs.inner.trials.shown_by.Goals as goal
 
 pub loop-i-init : goal.loop-i-init

@@ -1,7 +1,7 @@
 -- `operations::inner::trials::shown_by` meets its contract: no earlier point shows it. Assumes nothing.
-use Rattle.std.proofs.Common.{◌-◌, length, refl, arith, rules}
+use Rattle.std.proofs.Common.{◌-◌, length}
 use Rattle.operations.specs.Trials.{shown}
-use Rattle.base.proofs.Lists.{NoneYet, some-here, none_here, none_at_all}
+use Rattle.base.proofs.Lists.{NoneYet}
 use Rattle.operations.proofs.inner.trials.shown_by.Given as goal
 
 abbrev pub invariant-loop-i : goal.invariant-loop-i

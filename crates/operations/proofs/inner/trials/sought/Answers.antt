@@ -1,5 +1,5 @@
 -- `operations::inner::trials::sought` meets its contract: by the search that fits. Assumes nothing.
-use Rattle.std.proofs.Common.{sym, ◌∙◌, rules}
+use Rattle.std.proofs.Common.{sym, ◌∙◌}
 use Rattle.base.proofs.Tests.{and_true}
 use Rattle.operations.proofs.Independent.{one_shared}
 use Rattle.operations.proofs.inner.trials.sought.Goals as goal

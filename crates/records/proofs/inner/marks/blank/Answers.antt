@@ -1,7 +1,6 @@
 -- `records::inner::marks::blank` meets its contract. The invariant: what is joined is 0 exactly where each one passed is. Assumes nothing.
-use mathlib.Core.Path.{◌≡◌, refl}
-use Prim.Native.Nat.{◌+◌, ◌-◌, ◌≤◌}
-use lib.Dec.{eqb}
+use mathlib.Core.Path.{refl}
+use Prim.Native.Nat.{◌+◌}
 use lib.ListN.{get_or}
 use Rattle.base.specs.Says.{every}
 use Rattle.records.proofs.Marks.{all_next, all_taken, joined_0}

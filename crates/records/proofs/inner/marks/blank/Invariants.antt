@@ -1,12 +1,9 @@
 -- `records::inner::marks::blank` meets its contract. The invariant: what is joined is 0 exactly where each one passed is. Assumes nothing.
-use mathlib.Core.Path.{◌≡◌, refl}
+use mathlib.Core.Path.{◌≡◌}
 use Prim.Native.Nat.{◌+◌, ◌-◌, ◌≤◌}
 use lib.Dec.{eqb}
 use lib.ListN.{get_or}
 use Rattle.base.specs.Says.{every}
-use Rattle.records.proofs.Marks.{all_next, all_taken, joined_0}
-use borrow.Author.Rules.{rules}
-use native.Mathlib.Omega.{arith}
 use Rattle.records.proofs.inner.marks.blank.Given as goal
 
 abbrev pub invariant-loop-j : goal.invariant-loop-j

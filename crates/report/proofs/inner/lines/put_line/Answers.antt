@@ -1,6 +1,5 @@
 -- The four numbers are the last four fields of a record. Assumes nothing.
 use Rattle.report.proofs.Fronts.{line-put}
-use borrow.Author.Rules.{rules}
 use Rattle.report.proofs.inner.lines.put_line.Goals as goal
 
 pub returns : goal.returns

@@ -1,6 +1,5 @@
 -- What is no node has no mark. Assumes nothing.
 use Rattle.report.proofs.Rows.{no_node}
-use borrow.Author.Rules.{rules}
 use Rattle.report.proofs.inner.transitions.mark_of.Goals as goal
 
 pub returns : goal.returns

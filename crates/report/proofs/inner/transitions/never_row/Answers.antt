@@ -1,11 +1,7 @@
 -- The loop counts down the rows of the place that it passes. Assumes nothing.
-use Prim.Native.Nat.{◌-◌}
-use mathlib.Core.Path.{◌≡◌, sym, ap, ◌∙◌}
-use mathlib.Core.Logic.{⊎_elim}
+use mathlib.Core.Path.{sym, ap, ◌∙◌}
 use Rattle.operations.specs.Trials.{never_holds}
-use Rattle.chart.specs.Charts.{size}
-use Rattle.report.proofs.Rows.{Sought, sought_first, sought_one, sought_no, sought_found, sought_end}
-use borrow.Author.Rules.{rules}
+use Rattle.report.proofs.Rows.{sought_first, sought_one, sought_no, sought_found, sought_end}
 use native.Mathlib.Omega.{arith}
 use Rattle.report.proofs.inner.transitions.never_row.Goals as goal
 use Rattle.report.proofs.inner.transitions.never_row.Goals.{then-from_at-place+else-left-eq0, else-from_at-place}
@@ -21,8 +17,8 @@ returns-then-left-eq0 c =
 pub loop-i-preserved : goal.loop-i-preserved
 loop-i-preserved c =
     elim c.if-from_at-place.branch [
-      then-from_at-place+else-left-eq0 w ↦ (sought_one _ _ _ _ _ _ c.loop-i.invariant.0 (omega arith) (sym c.from_at.ensures ∙ w.if-from_at-place.true) w.if-left-eq0.false w.left-is, omega arith) |
-      else-from_at-place w ↦ (sought_no _ _ _ _ _ _ c.loop-i.invariant.0 (omega arith) (λ e. w.if-from_at-place.false (c.from_at.ensures ∙ e)) w.left-is, omega arith)
+      | then-from_at-place+else-left-eq0 w ↦ (sought_one _ _ _ _ _ _ c.loop-i.invariant.0 (omega arith) (sym c.from_at.ensures ∙ w.if-from_at-place.true) w.if-left-eq0.false w.left-is, omega arith)
+      | else-from_at-place w ↦ (sought_no _ _ _ _ _ _ c.loop-i.invariant.0 (omega arith) (λ e. w.if-from_at-place.false (c.from_at.ensures ∙ e)) w.left-is, omega arith)
     ]
 
 pub returns : goal.returns

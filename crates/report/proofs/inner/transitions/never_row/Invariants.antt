@@ -1,12 +1,8 @@
 -- The loop counts down the rows of the place that it passes. Assumes nothing.
 use Prim.Native.Nat.{◌-◌}
-use mathlib.Core.Path.{◌≡◌, sym, ap, ◌∙◌}
-use mathlib.Core.Logic.{⊎_elim}
-use Rattle.operations.specs.Trials.{never_holds}
+use mathlib.Core.Path.{◌≡◌}
 use Rattle.chart.specs.Charts.{size}
-use Rattle.report.proofs.Rows.{Sought, sought_first, sought_one, sought_no, sought_found, sought_end}
-use borrow.Author.Rules.{rules}
-use native.Mathlib.Omega.{arith}
+use Rattle.report.proofs.Rows.{Sought}
 use Rattle.report.proofs.inner.transitions.never_row.Given as goal
 
 abbrev pub invariant-loop-i : goal.invariant-loop-i

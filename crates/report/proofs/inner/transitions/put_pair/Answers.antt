@@ -1,6 +1,5 @@
 -- A pair that is not open has no transitions; an open one has those of its two rows, as read. Assumes nothing.
 use Rattle.report.proofs.Fronts.{pair-none, pair_two}
-use borrow.Author.Rules.{rules}
 use Rattle.report.proofs.inner.transitions.put_pair.Goals as goal
 
 pub returns-then-marks-pair-ne1 : goal.returns-then-marks-pair-ne1

@@ -1,10 +1,7 @@
 -- The loop has put the transitions of the pairs that it passed; whether some row never holds is known before it. Assumes
 -- nothing.
-use mathlib.Core.List.{[]}
-use Prim.Native.Nat.{◌-◌}
 use Rattle.chart.proofs.Takable.{none_never}
-use Rattle.records.specs.Records.{graph_of}
-use Rattle.report.proofs.Going.{Going, going_start, going_more, going_moved, going_done}
+use Rattle.report.proofs.Going.{going_start, going_more, going_moved, going_done}
 use borrow.Author.Rules.{rules}
 use native.Mathlib.Omega.{arith}
 use Rattle.report.proofs.inner.transitions.put_pairs.Goals as goal

@@ -2,11 +2,8 @@
 -- nothing.
 use mathlib.Core.List.{[]}
 use Prim.Native.Nat.{◌-◌}
-use Rattle.chart.proofs.Takable.{none_never}
 use Rattle.records.specs.Records.{graph_of}
-use Rattle.report.proofs.Going.{Going, going_start, going_more, going_moved, going_done}
-use borrow.Author.Rules.{rules}
-use native.Mathlib.Omega.{arith}
+use Rattle.report.proofs.Going.{Going}
 use Rattle.report.proofs.inner.transitions.put_pairs.Given as goal
 
 abbrev pub invariant-loop-n : goal.invariant-loop-n

@@ -1,6 +1,5 @@
 -- 65535 is no target. Assumes nothing.
 use Rattle.report.proofs.Fronts.{transition-none, transition-some}
-use borrow.Author.Rules.{rules}
 use Rattle.report.proofs.inner.transitions.put_transition.Goals as goal
 
 pub returns-then-target-eq65535 : goal.returns-then-target-eq65535

@@ -2,7 +2,6 @@
 -- Assumes nothing.
 use mathlib.Core.Path.{refl}
 use Rattle.report.proofs.Rows.{taken-alike, taken-never, taken_other}
-use borrow.Author.Rules.{rules}
 use Rattle.report.proofs.inner.transitions.read_target.Goals as goal
 
 pub returns-then-entry-some : goal.returns-then-entry-some

@@ -4,7 +4,6 @@ use native.Mathlib.Nat.{one-mul}
 use native.Mathlib.Omega.{arith}
 use lib.Pow.{shl_exact}
 use lib.Dec.{lit<}
-use borrow.Author.Rules.{rules}
 use Rattle.sets.specs.Sets.{alone}
 use Rattle.sets.proofs.inner.bits.alone.Goals as goal
 

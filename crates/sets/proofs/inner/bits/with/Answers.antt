@@ -1,7 +1,6 @@
 -- `sets::inner::bits::with` meets its contract: from its parts. Assumes nothing.
 use mathlib.Core.Path.{ap, ◌∙◌}
-use Rattle.sets.specs.Sets.{alone, joined, with}
-use borrow.Author.Rules.{rules}
+use Rattle.sets.specs.Sets.{joined, with}
 use Rattle.sets.proofs.inner.bits.with.Goals as goal
 
 pub returns : goal.returns

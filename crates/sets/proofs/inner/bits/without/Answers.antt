@@ -1,9 +1,8 @@
 -- `sets::inner::bits::without` meets its contract. Assumes nothing.
 use mathlib.Core.Path.{ap}
-use Rattle.sets.specs.Sets.{alone, without}
+use Rattle.sets.specs.Sets.{without}
 use Prim.Native.Nat.{ℕ, ◌-◌, ◌^◌}
 use lib.Bits.{bit_and}
-use borrow.Author.Rules.{rules}
 use Rattle.sets.proofs.inner.bits.without.Goals as goal
 
 pub returns : goal.returns

@@ -1,6 +1,5 @@
 -- `words::inner::members::add` meets its contract. Assumes nothing.
 use Rattle.words.proofs.Words.{add_is}
-use borrow.Author.Rules.{rules}
 use Rattle.words.proofs.inner.members.add.Goals as goal
 
 pub returns : goal.returns

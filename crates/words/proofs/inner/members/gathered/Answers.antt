@@ -1,8 +1,5 @@
 -- `words::inner::members::gathered` meets its contract. Assumes nothing.
-use Prim.Native.Nat.{◌-◌}
-use lib.ListN.{length}
-use Rattle.words.proofs.Words.{Gathering, gathering_none, gathering_more, gathering_all}
-use borrow.Author.Rules.{rules}
+use Rattle.words.proofs.Words.{gathering_none, gathering_more, gathering_all}
 use Rattle.words.proofs.inner.members.gathered.Goals as goal
 
 pub loop-p-init : goal.loop-p-init

@@ -1,8 +1,7 @@
 -- `words::inner::members::gathered` meets its contract. Assumes nothing.
 use Prim.Native.Nat.{◌-◌}
 use lib.ListN.{length}
-use Rattle.words.proofs.Words.{Gathering, gathering_none, gathering_more, gathering_all}
-use borrow.Author.Rules.{rules}
+use Rattle.words.proofs.Words.{Gathering}
 use Rattle.words.proofs.inner.members.gathered.Given as goal
 
 abbrev pub invariant-loop-p : goal.invariant-loop-p

@@ -1,6 +1,5 @@
 -- `words::inner::members::list` meets its contract. Assumes nothing.
 use Rattle.words.proofs.Words.{list_is}
-use borrow.Author.Rules.{rules}
 use Rattle.words.proofs.inner.members.list.Goals as goal
 
 pub returns : goal.returns

@@ -1,6 +1,5 @@
 -- `words::inner::members::remove` meets its contract. Assumes nothing.
 use Rattle.words.proofs.Words.{remove_is}
-use borrow.Author.Rules.{rules}
 use Rattle.words.proofs.inner.members.remove.Goals as goal
 
 pub returns : goal.returns
