@@ -15,10 +15,10 @@ fn page() -> String {
     fs::read_to_string(root().join("docs/ARCHITECTURE.md")).unwrap()
 }
 
-/// A line `name: other other ..`.
+/// A line `name: other other ..`; a static library has that word after its name.
 fn named(line: &str) -> Option<(String, BTreeSet<String>)> {
     let (name, others) = line.split_once(':')?;
-    Some((name.trim().to_string(), others.split_whitespace().map(str::to_string).collect()))
+    Some((name.split_whitespace().next()?.to_string(), others.split_whitespace().map(str::to_string).collect()))
 }
 
 /// The crates of crates.txt, and what each is proved with.
@@ -73,7 +73,7 @@ fn imported(name: &str, crates: &Map) -> BTreeSet<String> {
         let text = fs::read_to_string(&file).unwrap();
         let code = file.extension().is_some_and(|e| e == "rt");
         for other in crates.keys().filter(|o| *o != name) {
-            let logic = text.contains(&format!("Rattle·{other}."));
+            let logic = text.contains(&format!("Rattle.{other}."));
             let called = code && !own(other) && text.lines().any(|l| calls(l, other));
             if logic || called {
                 imports.insert(other.clone());
@@ -134,12 +134,24 @@ fn a_crate_is_proved_with_what_it_imports_and_no_more() {
     }
 }
 
+/// The `use` items of a file, each up to its last name, whatever lines it is laid out on.
+fn imports(text: &str) -> impl Iterator<Item = &str> {
+    let begins = text.match_indices("use ").map(|(at, _)| at).filter(|at| *at == 0 || text[..*at].ends_with('\n'));
+    begins.map(|at| {
+        let line = text[at..].lines().next().unwrap();
+        match line.contains('{') {
+            true => text[at..].split('}').next().unwrap(),
+            false => line,
+        }
+    })
+}
+
 /// Whether a file takes a name, or anything at all, over from a crate's file of definitions.
 fn takes(text: &str, of: &str, file: &str, name: Option<&str>) -> bool {
-    let paths = [format!("·{of}.specs.{file}"), format!("·{of}·specs.specs.{file}")];
-    let mut uses = text.lines().filter(|l| l.contains("use ") && paths.iter().any(|path| l.contains(path)));
+    let path = format!("Rattle.{of}.specs.{file}");
+    let mut uses = imports(text).filter(|l| l[4..].split(".{").next().unwrap().split(' ').next() == Some(&path));
     uses.any(|l| match (l.split_once('{'), name) {
-        (Some((_, names)), Some(name)) => names.trim_end_matches('}').split(", ").any(|n| n.split(' ').next() == Some(name)),
+        (Some((_, names)), Some(name)) => names.split(',').any(|n| n.split_whitespace().next() == Some(name)),
         _ => true,
     })
 }
