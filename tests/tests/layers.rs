@@ -134,23 +134,19 @@ fn a_crate_is_proved_with_what_it_imports_and_no_more() {
     }
 }
 
-/// The `use` items of a file, each up to its last name, whatever lines it is laid out on.
-fn imports(text: &str) -> impl Iterator<Item = &str> {
-    let begins = text.match_indices("use ").map(|(at, _)| at).filter(|at| *at == 0 || text[..*at].ends_with('\n'));
-    begins.map(|at| {
+/// The `use` items of a file, wherever they stand, each up to its last name, whatever lines it is laid out on.
+fn uses(text: &str) -> impl Iterator<Item = &str> {
+    text.match_indices("use ").map(|(at, _)| {
         let line = text[at..].lines().next().unwrap();
-        match line.contains('{') {
-            true => text[at..].split('}').next().unwrap(),
-            false => line,
-        }
+        if line.contains('{') { text[at..].split('}').next().unwrap() } else { line }
     })
 }
 
 /// Whether a file takes a name, or anything at all, over from a crate's file of definitions.
 fn takes(text: &str, of: &str, file: &str, name: Option<&str>) -> bool {
     let path = format!("Rattle.{of}.specs.{file}");
-    let mut uses = imports(text).filter(|l| l[4..].split(".{").next().unwrap().split(' ').next() == Some(&path));
-    uses.any(|l| match (l.split_once('{'), name) {
+    let names_it = |l: &&str| l.match_indices(&path).any(|(at, _)| !l[at + path.len()..].starts_with(|c: char| c.is_alphanumeric() || c == '_'));
+    uses(text).filter(names_it).any(|l| match (l.split_once('{'), name) {
         (Some((_, names)), Some(name)) => names.split(',').any(|n| n.split_whitespace().next() == Some(name)),
         _ => true,
     })
