@@ -1,7 +1,7 @@
 -- The steps of a short example, evaluated: an old chart that assigns 5 to v1, a new one that assigns 6. Assumes nothing.
 use mathlib.Core.Path.{◌≡◌, refl}
 use mathlib.Core.List.{[], ◌∷◌}
-use mathlib.Core.Option.{Option, none, some}
+use Rattle.std.specs.Prelude.{Option, None, Some}
 use Prim.Native.Nat.{ℕ}
 use Rattle.base.specs.Options.{first_of}
 use Rattle.operations.specs.declared.Operation.{Operation}
@@ -37,7 +37,7 @@ abbrev pub from-to : ℕ → ℕ → ℕ → Operation → ℕ → Option Spot
 from-to = by example
 
 abbrev pub at : ℕ → ℕ → Option Spot
-at p set = some (record { place = record { 0 = p }; set = set })
+at p set = Some (record { place = record { 0 = p }; set = set })
 
 -- v1 := 6 has no equal old row: the old place stays, v1 joins the set. v0 < 100: the old assignment is followed first, then the equal row
 -- is taken. v1 > 50 reads v1, which may differ: the step fails. v1 > 60 implies v1 > 50: with an empty set it goes to both alarms.
@@ -47,14 +47,14 @@ at p set = some (record { place = record { 0 = p }; set = set })
 -- match of v0 < 9 fails, and a failed match is not saved
 pub steps : (from-to 1 0 0 (record { code = 0; a = 1; b = 0; c = 6 }) 1 ≡ at 0 2)
     × (from-to 1 0 2 (record { code = 18; a = 0; b = 0; c = 100 }) 2 ≡ at 2 2)
-    × (from-to 1 3 2 (record { code = 20; a = 1; b = 0; c = 50 }) 5 ≡ none)
+    × (from-to 1 3 2 (record { code = 20; a = 1; b = 0; c = 50 }) 5 ≡ None)
     × (from-to 1 3 0 (record { code = 20; a = 1; b = 0; c = 60 }) 5 ≡ at 5 0)
-    × (from-to 1 3 0 (record { code = 18; a = 1; b = 0; c = 0 }) 5 ≡ none)
+    × (from-to 1 3 0 (record { code = 18; a = 1; b = 0; c = 0 }) 5 ≡ None)
     × (from-to 2 0 0 (record { code = 0; a = 1; b = 0; c = 6 }) 1 ≡ at 1 2)
-    × (by behind 1 0 0 (record { code = 18; a = 0; b = 0; c = 9 }) 3 ≡ none)
+    × (by behind 1 0 0 (record { code = 18; a = 0; b = 0; c = 9 }) 3 ≡ None)
     × (by behind 2 0 0 (record { code = 18; a = 0; b = 0; c = 9 }) 3 ≡ at 3 2)
-    × (by behind 2 0 0 (record { code = 21; a = 0; b = 0; c = 9 }) 3 ≡ none)
+    × (by behind 2 0 0 (record { code = 21; a = 0; b = 0; c = 9 }) 3 ≡ None)
     × (from-to 2 0 2 (record { code = 0; a = 1; b = 0; c = 5 }) 1 ≡ at 1 0)
-    × (by behind 2 0 1 (record { code = 18; a = 0; b = 0; c = 9 }) 3 ≡ none)
+    × (by behind 2 0 1 (record { code = 18; a = 0; b = 0; c = 9 }) 3 ≡ None)
 unfolding alone joined with without meets set_of read_set find along matching matched rewritten assigned onward follow followed counterpart assumed moved writing_row unequal at_both rescued arrived step first_of kind operand_b assigned_c operand_c reads same leaving rows_where together seats trial shown holds related
 steps = (refl, refl, refl, refl, refl, refl, refl, refl, refl, refl, refl)

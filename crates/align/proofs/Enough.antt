@@ -2,7 +2,7 @@
 use mathlib.Core.Path.{◌≡◌, refl, sym, ap, ◌∙◌}
 use mathlib.Core.Bool.{Bool, true, false}
 use mathlib.Core.Logic.{dite}
-use mathlib.Core.Option.{Option, none, some}
+use Rattle.std.specs.Prelude.{Option, None, Some}
 use Prim.Native.Nat.{ℕ, zero, suc, ◌+◌, ◌-◌, ◌^◌, ◌≤◌, ◌<◌}
 use native.Mathlib.Decide.{ℕ_discrete}
 use native.Mathlib.Omega.{arith}
@@ -46,17 +46,17 @@ unmet_less (suc k) met v l n =
 
 module _ (X : Compared) (F : FaultlessChart X.old) where
   -- one row more or less, where the rest of the walk is the same
-  further : (n k met : ℕ) (h : Spot) → ((h' : Spot) → onward X h ≡ some h' → meets met (alone h'.place.0) ≡ false
+  further : (n k met : ℕ) (h : Spot) → ((h' : Spot) → onward X h ≡ Some h' → meets met (alone h'.place.0) ≡ false
       → follow X k (with met h'.place.0) h' ≡ follow X n (with met h'.place.0) h') → follow X (suc k) met h ≡ follow X (suc n) met h
   further n k met h rest = go (onward X h) refl
     where
-      came : (h' : Spot) → onward X h ≡ some h' → (b : Bool) → meets met (alone h'.place.0) ≡ b → follow X (suc k) met h ≡ follow X (suc n) met h
+      came : (h' : Spot) → onward X h ≡ Some h' → (b : Bool) → meets met (alone h'.place.0) ≡ b → follow X (suc k) met h ≡ follow X (suc n) met h
       came h' e true t = sym (follow_twice X k met h h' refl e t) ∙ follow_twice X n met h h' refl e t
       came h' e false t = follow_on X k met h h' refl e t ∙ rest h' e t ∙ sym (follow_on X n met h h' refl e t)
 
       go : (o : Option Spot) → onward X h ≡ o → follow X (suc k) met h ≡ follow X (suc n) met h
-      go none e = sym (follow-ends X k met h refl e) ∙ follow-ends X n met h refl e
-      go (some h') e = came h' e (meets met (alone h'.place.0)) refl
+      go None e = sym (follow-ends X k met h refl e) ∙ follow-ends X n met h refl e
+      go (Some h') e = came h' e (meets met (alone h'.place.0)) refl
 
   longer : (n d met : ℕ) (h : Spot) → unmet 64 met < n → follow X (n + d) met h ≡ follow X n met h
   longer zero d met h l = absurd (omega arith)

@@ -2,7 +2,7 @@
 use mathlib.Core.Path.{◌≡◌, refl, sym, ap, subst, ◌∙◌}
 use mathlib.Core.Bool.{Bool, true, false, ◌&&◌, ◌||◌, not, or-true}
 use mathlib.Core.List.{List}
-use mathlib.Core.Option.{Option, none, some}
+use Rattle.std.specs.Prelude.{Option, None, Some}
 use Prim.Native.Nat.{ℕ, zero, suc, ◌^◌, ◌<◌}
 use lib.Dec.{T, eqb, eqb→eq}
 use lib.ListN.{get_or, set}
@@ -80,7 +80,7 @@ module _ (X : Compared) where
   pub writing-row_writes : (p : OldPlace) (a : ℕ) → OnSome (Among (rows_at X p) (Writes a)) (writing_row X p a)
   unfolding writing_row
   writing-row_writes p a =
-      picked _ (is_second X) _ none
+      picked _ (is_second X) _ None
       (λ t. found (rows_at X p) (λ o. is_assignment o && eqb o.a a) (λ o e. let z = and_true (is_assignment o) _ e in (z.0, eqb-true o.a a z.1)))
       (λ t. tt)
 
@@ -89,8 +89,8 @@ module _ (X : Compared) where
     unequal_onto : (h : Spot) (o : Operation) → is_assignment o ≡ true → (x : Option ℕ) → OnSome (Among (rows_at X h.place) (Writes o.a)) x
         → Onto (after o w) (unequal X h o.a x) → Onto w h
     unfolding unequal
-    unequal_onto h o t none q K = record { leads = λ v A. K.leads v (rw (after-assignment o w t) (write_new (agree_with A o.a) o.a (value o (var w)) (with-here o.a h.set o.a))) }
-    unequal_onto h o t (some k) q K =
+    unequal_onto h o t None q K = record { leads = λ v A. K.leads v (rw (after-assignment o w t) (write_new (agree_with A o.a) o.a (value o (var w)) (with-here o.a h.set o.a))) }
+    unequal_onto h o t (Some k) q K =
         record {
           leads = λ v A.
               (let o' = operation (rows_at X h.place) k in
@@ -105,8 +105,8 @@ module _ (X : Compared) where
     assigned_onto : (h : Spot) (o : Operation) → is_assignment o ≡ true → o.a < 64 → (x : Option ℕ) → OnSome (Among (rows_at X h.place) (λ o'. same o' o ≡ true)) x
         → Onto (after o w) (assigned X h o x) → Onto w h
     unfolding assigned rewritten
-    assigned_onto h o t l none q K = unequal_onto h o t (writing_row X h.place o.a) (writing-row_writes h.place o.a) K
-    assigned_onto h o t l (some k) q K =
+    assigned_onto h o t l None q K = unequal_onto h o t (writing_row X h.place o.a) (writing-row_writes h.place o.a) K
+    assigned_onto h o t l (Some k) q K =
         record {
           leads = λ v A.
               (let e = same→eq (operation (rows_at X h.place) k) o q.fits in
@@ -122,8 +122,8 @@ module _ (X : Compared) where
     -- line 14: an old assignment alone, its variable joins the set
     along_onto : (h : Spot) (x : Option ℕ) → OnSome (Among (rows_at X h.place) (λ o. is_assignment o ≡ true)) x → OnSome (λ h'. Onto w h' → Onto w h) (along h.set (rows_at X h.place) x)
     unfolding along
-    along_onto h none q = tt
-    along_onto h (some k) q =
+    along_onto h None q = tt
+    along_onto h (Some k) q =
         let o = operation (rows_at X h.place) k in
         let t = q.fits in
         (λ K. record {
@@ -134,7 +134,7 @@ module _ (X : Compared) where
     onward_onto : (h : Spot) → OnSome (λ h'. Onto w h' → Onto w h) (onward X h)
     unfolding onward
     onward_onto h =
-        picked _ (at_alarm X h.place) none _ (λ t. tt)
+        picked _ (at_alarm X h.place) None _ (λ t. tt)
         (λ t. along_onto h (find (rows_at X h.place) is_assignment) (found (rows_at X h.place) is_assignment (λ o t. t)))
 
     -- lines 13 and 14
@@ -142,29 +142,29 @@ module _ (X : Compared) where
     unfolding follow
     follow_onto zero met h = tt
     follow_onto (suc n) met h =
-        further _ _ (onward X h) (some h) _ (onward_onto h) (λ K. K)
-        (λ h' q. picked _ (meets met (alone h'.place.0)) none _ (λ t. tt)
+        further _ _ (onward X h) (Some h) _ (onward_onto h) (λ K. K)
+        (λ h' q. picked _ (meets met (alone h'.place.0)) None _ (λ t. tt)
         (λ t. on_map _ _ (follow X n (with met h'.place.0) h') (λ h'' f K. q (f K)) (follow_onto n (with met h'.place.0) h')))
 
     -- footnote 8: old assignments alone, up to the old alarm
     rescued_onto : (h : Spot) (q : NewPlace) → OnSome (λ h'. (Onto w h' → Onto w h) × Says (fair (heads_of X) h'.place q)) (rescued X h)
     unfolding rescued followed at_both
     rescued_onto h q =
-        picked _ (is_second X) _ none (λ t. go (follow X 64 (alone h.place.0) h) (follow_onto 64 (alone h.place.0) h)) (λ t. tt)
+        picked _ (is_second X) _ None (λ t. go (follow X 64 (alone h.place.0) h) (follow_onto 64 (alone h.place.0) h)) (λ t. tt)
       where
         both : (p : OldPlace) → T (at_alarm X p) → Says (fair (heads_of X) p q)
         both p t = says (fair (heads_of X) p q) (T_true {b = bool (fair (heads_of X) p q)} (rw (is_true (at_alarm X p) t) (or-true (not (eqb q.0 X.new.head.alarm)))))
 
         go : (x : Option Spot) → OnSome (λ h'. Onto w h' → Onto w h) x → OnSome (λ h'. (Onto w h' → Onto w h) × Says (fair (heads_of X) h'.place q)) (at_both X x)
-        go none f = tt
-        go (some h') f = when-so _ (at_alarm X h'.place) h' (λ t. (f, both h'.place t))
+        go None f = tt
+        go (Some h') f = when-so _ (at_alarm X h'.place) h' (λ t. (f, both h'.place t))
 
     -- lines 16 to 18: the set meets nothing that a matched assumption reads
     assumed_onto : (h : Spot) (o : Operation) (x : Option ℕ) → OnSome (Among (rows_at X h.place) (λ o'. (is_assumption o' ≡ true) × (holds o' (var w) ≡ true))) x
         → OnSome (λ h'. Onto w h' → Onto w h) (assumed X h o x)
     unfolding assumed matched
-    assumed_onto h o none q = (λ K. K)
-    assumed_onto h o (some k) q =
+    assumed_onto h o None q = (λ K. K)
+    assumed_onto h o (Some k) q =
         let o' = operation (rows_at X h.place) k in
         let l = q in
         when-so _ (not (meets h.set (read_set o) || meets h.set (read_set o'))) _ (λ t K. record {
@@ -180,7 +180,7 @@ module _ (X : Compared) where
         → OnSome (Among (rows_at X p) (λ o'. (is_assumption o' ≡ true) × (holds o' (var w) ≡ true))) (counterpart X p o)
     unfolding counterpart matching
     counterpart-holds p o O t h =
-        picked _ (at_alarm X p) none _ (λ e. tt) (λ e. or_on _ (find (rows_at X p) (λ o'. same o' o)) _
+        picked _ (at_alarm X p) None _ (λ e. tt) (λ e. or_on _ (find (rows_at X p) (λ o'. same o' o)) _
         (found (rows_at X p) (λ o'. same o' o) (λ o' e. subst (λ (x : Operation). (is_assumption x ≡ true) × (holds x (var w) ≡ true)) (sym (same→eq o' o e)) (t, h)))
         (λ _. on_map _ _ (find (rows_at X p) (λ o'. is_assumption o' && is_implied (implication o o')))
         (λ k q. record { inside = q.inside; fits = matched k q.inside q.fits }) (found (rows_at X p) (λ o'. is_assumption o' && is_implied (implication o o')) (λ o' e. e))))
@@ -200,7 +200,7 @@ module _ (X : Compared) where
         picked _ (is_assignment o) _ _
         (λ t. (assigned_onto w h o t O.a (find (rows_at X h.place) (λ o'. same o' o)) (found (rows_at X h.place) (λ o'. same o' o) (λ o' e. e))))
         (λ n. let z = let_other o w n l in
-        further _ _ (follow X 64 (alone h.place.0) h) none _ (follow_onto w 64 (alone h.place.0) h) tt
+        further _ _ (follow X 64 (alone h.place.0) h) None _ (follow_onto w 64 (alone h.place.0) h) tt
         (λ h' f. on_map _ _ (assumed X h' o (counterpart X h'.place o)) (λ h'' g K. f (g (subst (λ (u : List ℕ). Onto u h'') (after_other o w n) K)))
         (assumed_onto w h' o (counterpart X h'.place o) (counterpart-holds h'.place o O z.0 z.1))))
 
@@ -212,7 +212,7 @@ module _ (X : Compared) where
       where
         go : (x : Option Spot) → OnSome (λ h'. Onto (after o w) h' → Onto w h) x
             → OnSome (λ h'. (Onto (after o w) h' → Onto w h) × Says (fair (heads_of X) h'.place q)) (arrived X q x)
-        go none f = tt
-        go (some h') f =
-            picked _ (bool (fair (heads_of X) h'.place q)) (some h') (rescued X h') (λ t. (f, says (fair (heads_of X) h'.place q) (T_true t)))
+        go None f = tt
+        go (Some h') f =
+            picked _ (bool (fair (heads_of X) h'.place q)) (Some h') (rescued X h') (λ t. (f, says (fair (heads_of X) h'.place q) (T_true t)))
             (λ t. on_map _ _ (rescued X h') (λ h'' z. (λ K. f (z.0 K), z.1)) (rescued_onto (after o w) h' q))

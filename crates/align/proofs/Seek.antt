@@ -2,7 +2,7 @@
 use mathlib.Core.Path.{◌≡◌, refl, sym, ap, ◌∙◌}
 use mathlib.Core.Bool.{Bool, true, false, cond, ◌&&◌}
 use mathlib.Core.List.{List}
-use mathlib.Core.Option.{none, some}
+use Rattle.std.specs.Prelude.{None, Some}
 use Prim.Native.Nat.{ℕ, zero, suc, ◌+◌, ◌≤◌, ◌<◌}
 use native.Mathlib.Omega.{arith}
 use Rattle.base.specs.Options.{when, missing, first_of}
@@ -21,45 +21,45 @@ module _ (rows : List ℕ) (p : Operation → Bool) where
   -- no row before row k is as sought
   pub record NoneBefore (k : ℕ) : Type 0 where
     pub within : k ≤ size rows
-    pub rest : first_of k (λ k. when (p (operation rows k)) k) ≡ none
+    pub rest : first_of k (λ k. when (p (operation rows k)) k) ≡ None
 
   pub none_at_first : NoneBefore 0
   unfolding first_of
   none_at_first = record { within = omega arith; rest = refl }
 
   module _ {k : ℕ} (N : NoneBefore k) where
-    pub found_here : k < size rows → {r : Bool} → r ≡ p (operation rows k) → r ≡ true → some k ≡ find rows p
+    pub found_here : k < size rows → {r : Bool} → r ≡ p (operation rows k) → r ≡ true → Some k ≡ find rows p
     unfolding find
     found_here l e t = sym (first_at_lem (λ k. when (p (operation rows k)) k) (size rows) k l N.rest (ap (λ (b : Bool). missing (when b k)) (sym e ∙ t)) ∙ ap (λ (b : Bool). when b k) (sym e ∙ t))
 
     pub not_here : k < size rows → {r : Bool} → r ≡ p (operation rows k) → r ≡ false → NoneBefore (k + 1)
     not_here l e t = record { within = omega arith; rest = none_at (λ k. when (p (operation rows k)) k) k N.rest (ap (λ (b : Bool). missing (when b k)) (sym e ∙ t)) }
 
-    pub nowhere : size rows ≤ k → none ≡ find rows p
+    pub nowhere : size rows ≤ k → None ≡ find rows p
     unfolding find
     nowhere l = none_all (λ k. when (p (operation rows k)) k) (size rows) k N.within l N.rest
 
   -- the first row is not, and no later one
-  pub only_first : {r : Bool} → r ≡ p (operation rows 0) → r ≡ false → ((k : ℕ) → 0 < k → k < size rows → p (operation rows k) ≡ false) → none ≡ find rows p
+  pub only_first : {r : Bool} → r ≡ p (operation rows 0) → r ≡ false → ((k : ℕ) → 0 < k → k < size rows → p (operation rows k) ≡ false) → None ≡ find rows p
   unfolding find
   only_first e t later = sym (none_everywhere (λ k. when (p (operation rows k)) k) (size rows) each)
     where
-      each : (i : ℕ) → i < size rows → when (p (operation rows i)) i ≡ none
+      each : (i : ℕ) → i < size rows → when (p (operation rows i)) i ≡ None
       each zero l = ap (λ (b : Bool). when b 0) (sym e ∙ t)
       each (suc i) l = ap (λ (b : Bool). when b (suc i)) (later (suc i) (omega arith) l)
 
   -- no operation is
-  pub none_sought : ((o : Operation) → p o ≡ false) → none ≡ find rows p
+  pub none_sought : ((o : Operation) → p o ≡ false) → None ≡ find rows p
   unfolding find
   none_sought h = sym (none_everywhere (λ k. when (p (operation rows k)) k) (size rows) (λ i l. ap (λ (b : Bool). when b i) (h (operation rows i))))
 
   -- what is found is a row, and as sought
-  pub found_inside : (k : ℕ) → some k ≡ find rows p → k < size rows
+  pub found_inside : (k : ℕ) → Some k ≡ find rows p → k < size rows
   found_inside k e = (on_at _ (found rows p {P = λ o. p o ≡ true} (λ o t. t)) (sym e)).inside
 
 -- ---- what an assumption implies
 -- nothing, where no values meet it
-pub never-implies : (rows : List ℕ) (o : Operation) → never o ≡ true → none ≡ find rows (λ o2. is_assumption o2 && is_implied (implication o o2))
+pub never-implies : (rows : List ℕ) (o : Operation) → never o ≡ true → None ≡ find rows (λ o2. is_assumption o2 && is_implied (implication o o2))
 never-implies rows o n = none_sought rows (λ o2. is_assumption o2 && is_implied (implication o o2)) (λ o2. rw n (and_false (is_assumption o2)))
 
 -- else what all values that meet it meet

@@ -4,7 +4,7 @@ use mathlib.Core.Path.{◌≡◌, refl, ap, ◌∙◌}
 use mathlib.Core.Bool.{Bool, true, false, ◌&&◌}
 use mathlib.Core.Logic.{◌⊎◌, inl, inr}
 use mathlib.Core.List.{List}
-use mathlib.Core.Option.{some}
+use Rattle.std.specs.Prelude.{Some}
 use Prim.Native.Nat.{ℕ, ◌<◌}
 use Rattle.base.proofs.OnSome.{OnSome, on_at, or_on}
 use Rattle.base.proofs.Tests.{T_true, and_true}
@@ -40,7 +40,7 @@ module _ (rows : List ℕ) (operands : (k : ℕ) → k < size rows → Operands 
       go Implied t m true e = absurd (m.0 (λ v W h. ((never-holds_means o' F).0 e).1 v W (m.1 v W h)))
       go Implied t m false e = refl
 
-  pub never-matched : (k : ℕ) → matching rows o ≡ some k → never_holds (operation rows k) ≡ false
+  pub never-matched : (k : ℕ) → matching rows o ≡ Some k → never_holds (operation rows k) ≡ false
   never-matched k e =
       let A = on_at _ matches e in
       by A.fits A.inside

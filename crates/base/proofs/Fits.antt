@@ -1,12 +1,12 @@
 -- Refusals that are due fit, and so do those of answers that are made of others. Assumes nothing.
 use mathlib.Core.Path.{◌≡◌, refl}
 use mathlib.Core.Bool.{Bool}
-use mathlib.Core.Option.{Option, none, some}
+use Rattle.std.specs.Prelude.{Option, None, Some, Ok, Err}
 use Prim.Native.Nat.{ℕ, ◌^◌, ◌<◌}
 use native.Mathlib.Omega.{arith}
 use lib.Dec.{T, leb, leb→le}
 use Rattle.base.specs.declared.Refusal.{Refusal}
-use Rattle.base.specs.Answers.{Answer, given, refused}
+use Rattle.base.specs.Answers.{Answer}
 use Rattle.base.specs.Chains.{and_then, mapped}
 use Rattle.base.specs.Refusals.{due_in, unless}
 use Rattle.base.specs.Tests.{within}
@@ -25,15 +25,15 @@ due-fits k b n p t c h = when_on Fits b (record { number = n; chart = k; positio
 
 -- ---- answers
 module _ {A : Type 0} (P : A → Type 0) where
-  pub unless-fits : (o : Option Refusal) (x : A) → OnSome Fits o → (o ≡ none → P x) → FitsOr P (unless o x)
-  unless-fits none x h g = g refl
-  unless-fits (some r) x h g = h
+  pub unless-fits : (o : Option Refusal) (x : A) → OnSome Fits o → (o ≡ None → P x) → FitsOr P (unless o x)
+  unless-fits None x h g = g refl
+  unless-fits (Some r) x h g = h
 
   module _ {B : Type 0} (Q : B → Type 0) where
     pub then_fits : (a : Answer A) (f : A → Answer B) → FitsOr P a → ((x : A) → P x → FitsOr Q (f x)) → FitsOr Q (and_then a f)
-    then_fits (given x) f h g = g x h
-    then_fits (refused r) f h g = h
+    then_fits (Ok x) f h g = g x h
+    then_fits (Err r) f h g = h
 
     pub mapped-fits : (a : Answer A) (f : A → B) → FitsOr P a → ((x : A) → P x → Q (f x)) → FitsOr Q (mapped f a)
-    mapped-fits (given x) f h g = g x h
-    mapped-fits (refused r) f h g = h
+    mapped-fits (Ok x) f h g = g x h
+    mapped-fits (Err r) f h g = h

@@ -1,7 +1,8 @@
 -- What a choice by a test, or by a value that may be missing, comes to. Assumes nothing.
 use mathlib.Core.Path.{◌≡◌, refl, sym}
 use mathlib.Core.Bool.{Bool, true, false}
-use mathlib.Core.Option.{Option, none, some, none-ne-some, some-injective}
+use Rattle.std.specs.Prelude.{Option, None, Some}
+use Rattle.std.proofs.lemmas.Option.{none-some, same_Some}
 use Rattle.base.proofs.Tests.{T_true}
 
 module _ {A : Type 0} where
@@ -14,10 +15,10 @@ module _ {A : Type 0} where
   pick_false false x y e = refl
 
 module _ {A B : Type 0} where
-  pub pick_none : (o : Option A) (d : B) (f : A → B) → o ≡ none → elim o [ none ↦ d | some x ↦ f x ] ≡ d
-  pick_none none d f e = refl
-  pick_none (some x) d f e = absurd (none-ne-some x (sym e))
+  pub pick_none : (o : Option A) (d : B) (f : A → B) → o ≡ None → elim o [ None ↦ d | Some x ↦ f x ] ≡ d
+  pick_none None d f e = refl
+  pick_none (Some x) d f e = absurd (none-some x (sym e))
 
-  pub pick_some : (o : Option A) (d : B) (f : A → B) (x : A) → o ≡ some x → elim o [ none ↦ d | some y ↦ f y ] ≡ f x
-  pick_some none d f x e = absurd (none-ne-some x e)
-  pick_some (some y) d f x e = rw (some-injective y x e)
+  pub pick_some : (o : Option A) (d : B) (f : A → B) (x : A) → o ≡ Some x → elim o [ None ↦ d | Some y ↦ f y ] ≡ f x
+  pick_some None d f x e = absurd (none-some x e)
+  pick_some (Some y) d f x e = rw (same_Some y x e)

@@ -2,7 +2,8 @@
 use mathlib.Core.Path.{◌≡◌, refl, sym, ap, ◌∙◌}
 use mathlib.Core.Bool.{Bool, true, false}
 use mathlib.Core.List.{List, [], ◌∷◌}
-use mathlib.Core.Option.{none, some, none-ne-some, some-injective}
+use Rattle.std.specs.Prelude.{None, Some}
+use Rattle.std.proofs.lemmas.Option.{none-some, same_Some}
 use Prim.Native.Nat.{ℕ, zero, suc, ◌+◌, ◌≤◌, ◌<◌}
 use native.Mathlib.Numerals.{add-one}
 use native.Mathlib.Omega.{arith}
@@ -69,7 +70,7 @@ first_not : (p : ℕ → ℕ → Bool) (i x : ℕ) (l : List ℕ) → p i x ≡ 
 unfolding first_from
 first_not p i x l e = rw (e, first_from)
 
-first-here : (p : ℕ → ℕ → Bool) (i x : ℕ) (l : List ℕ) → p i x ≡ true → first_from p i (x ∷ l) ≡ some i
+first-here : (p : ℕ → ℕ → Bool) (i x : ℕ) (l : List ℕ) → p i x ≡ true → first_from p i (x ∷ l) ≡ Some i
 unfolding first_from
 first-here p i x l e = rw (e, first_from)
 
@@ -86,17 +87,17 @@ module _ (p : ℕ → ℕ → Bool) where
     passes : p (i + k) (get_or l k 0) ≡ true
     lowest : (j : ℕ) → j < k → p (i + j) (get_or l j 0) ≡ false
 
-  passes_from : (l : List ℕ) (i n : ℕ) → first_from p i l ≡ some n → (k : ℕ) × FirstFrom l i n k
+  passes_from : (l : List ℕ) (i n : ℕ) → first_from p i l ≡ Some n → (k : ℕ) × FirstFrom l i n k
   unfolding first_from
-  passes_from [] i n e = absurd (none-ne-some n e)
+  passes_from [] i n e = absurd (none-some n e)
   passes_from (x ∷ l) i n e = go (passes_from l (i + 1) n) (p i x) refl
     where
       same : i + 0 ≡ i
       same = omega arith
 
-      go : (first_from p (i + 1) l ≡ some n → (k : ℕ) × FirstFrom l (i + 1) n k) → (b : Bool) → p i x ≡ b → (k : ℕ) × FirstFrom (x ∷ l) i n k
+      go : (first_from p (i + 1) l ≡ Some n → (k : ℕ) × FirstFrom l (i + 1) n k) → (b : Bool) → p i x ≡ b → (k : ℕ) × FirstFrom (x ∷ l) i n k
       go ih true f =
-          let q : i ≡ n = some-injective i n (sym (first-here p i x l f) ∙ e) in
+          let q : i ≡ n = same_Some i n (sym (first-here p i x l f) ∙ e) in
           (0, record { at = omega arith; below = omega arith; passes = rw same f; lowest = λ j l. absurd (omega arith) })
       go ih false f =
           let (k, r) = ih (sym (first_not p i x l f) ∙ e) in
@@ -107,7 +108,7 @@ module _ (p : ℕ → ℕ → Bool) where
           low k h zero m = rw same f
           low k h (suc j) m = let up : i + 1 + j ≡ i + suc j = omega arith in rw (← up) (h j (omega arith))
 
-  pub first-is : (l : List ℕ) (n : ℕ) → first_from p 0 l ≡ some n → First p l n
+  pub first-is : (l : List ℕ) (n : ℕ) → first_from p 0 l ≡ Some n → First p l n
   first-is l n e =
       let (k, r) = passes_from l 0 n e in
       let z : (j : ℕ) → 0 + j ≡ j = λ j. omega arith in
@@ -118,28 +119,28 @@ module _ (p : ℕ → ℕ → Bool) where
         lowest = λ j m. rw (z j) at (r.lowest j (omega arith));
       }
 
-  none_from : (l : List ℕ) (i : ℕ) → first_from p i l ≡ none → (j : ℕ) → j < length l → p (i + j) (get_or l j 0) ≡ false
+  none_from : (l : List ℕ) (i : ℕ) → first_from p i l ≡ None → (j : ℕ) → j < length l → p (i + j) (get_or l j 0) ≡ false
   unfolding first_from
   none_from [] i e j m = absurd (omega arith)
   none_from (x ∷ l) i e j m = go (none_from l (i + 1)) (p i x) refl j m
     where
-      go : (first_from p (i + 1) l ≡ none → (j : ℕ) → j < length l → p (i + 1 + j) (get_or l j 0) ≡ false) → (b : Bool) → p i x ≡ b
+      go : (first_from p (i + 1) l ≡ None → (j : ℕ) → j < length l → p (i + 1 + j) (get_or l j 0) ≡ false) → (b : Bool) → p i x ≡ b
           → (j : ℕ) → j < suc (length l) → p (i + j) (get_or (x ∷ l) j 0) ≡ false
-      go ih true f j m = absurd (none-ne-some i (sym e ∙ first-here p i x l f))
+      go ih true f j m = absurd (none-some i (sym e ∙ first-here p i x l f))
       go ih false f zero m = let z : i + 0 ≡ i = omega arith in rw z f
       go ih false f (suc j) m = let up : i + 1 + j ≡ i + suc j = omega arith in rw (← up) (ih (sym (first_not p i x l f) ∙ e) j (omega arith))
 
   -- where none is found, none passes
-  pub none_passes : (l : List ℕ) → first_from p 0 l ≡ none → (j : ℕ) → j < length l → p j (get_or l j 0) ≡ false
+  pub none_passes : (l : List ℕ) → first_from p 0 l ≡ None → (j : ℕ) → j < length l → p j (get_or l j 0) ≡ false
   none_passes l e j m = let z : 0 + j ≡ j = omega arith in rw z at (none_from l 0 e j m)
 
   -- ---- the loop that looks for it
   pub skip_at : (l : List ℕ) (i : ℕ) → i < length l → p i (get_or l i 0) ≡ false → first_from p i (drop i l) ≡ first_from p (i + 1) (drop (i + 1) l)
   skip_at l i b e = rw (drop-cons l i 0) (first_not p i (get_or l i 0) (drop (suc i) l) e ∙ rw (add-one i) refl)
 
-  pub stop_at : (l : List ℕ) (i : ℕ) → i < length l → p i (get_or l i 0) ≡ true → first_from p i (drop i l) ≡ some i
+  pub stop_at : (l : List ℕ) (i : ℕ) → i < length l → p i (get_or l i 0) ≡ true → first_from p i (drop i l) ≡ Some i
   stop_at l i b e = rw (drop-cons l i 0) (first-here p i (get_or l i 0) (drop (suc i) l) e)
 
-  pub end_at : (l : List ℕ) (i : ℕ) → length l ≤ i → first_from p i (drop i l) ≡ none
+  pub end_at : (l : List ℕ) (i : ℕ) → length l ≤ i → first_from p i (drop i l) ≡ None
   unfolding first_from
   end_at l i b = rw (drop_of_length-le l b) refl

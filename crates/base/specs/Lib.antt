@@ -5,6 +5,7 @@ pub mod Lists
 pub mod Options
 pub mod Tests
 pub mod Says
+pub mod Reasons
 pub mod Refusals
 pub mod Walks
 pub mod Repeat

@@ -1,8 +1,7 @@
 -- What a refusal tells ("Who can cause a refusal"): the struct `Refusal` of the code is the record of the definitions.
-use Rattle.std.specs.Prelude.{Bool, ℕ}
-use Rattle.std.proofs.Math.Option.{Option, none, some}
+use Rattle.std.specs.Prelude.{Bool, ℕ, Option, None, Some, Ok, Err}
 use Rattle.base.specs.declared.Refusal.{Refusal}
-use Rattle.base.specs.Answers.{Answer, given, refused}
+use Rattle.base.specs.Answers.{Answer}
 use Rattle.base.specs.Options.{when}
 
 -- the refusal with this number and position: "chart (0 old or sole, 1 new)", and 0 where none is named
@@ -20,5 +19,5 @@ due = due_in 0
 
 -- what is answered, unless a refusal is due: that of "a whole build without refusal", else the refusal
 abbrev pub unless : {A : Type 0} → Option Refusal → A → Answer A
-unless none x = given x
-unless (some r) x = refused r
+unless None x = Ok x
+unless (Some r) x = Err r

@@ -1,3 +1,2 @@
 -- What only proofs and the contracts of inner functions need.
 pub mod Fits
-pub mod Found

@@ -2,10 +2,9 @@
 use mathlib.Core.Path.{◌≡◌, sym, ap, subst, ◌∙◌}
 use mathlib.Core.Bool.{Bool, true}
 use mathlib.Core.List.{List}
-use mathlib.Core.Option.{Option, none, some}
+use Rattle.std.specs.Prelude.{Option, None, Some, Ok, Err}
 use Prim.Native.Nat.{ℕ}
 use native.Mathlib.Omega.{arith}
-use Rattle.base.specs.Answers.{given, refused}
 use Rattle.base.specs.declared.Refusal.{Refusal}
 use Rattle.base.specs.Says.{bool}
 use Rattle.base.proofs.Answers.{different}
@@ -43,10 +42,10 @@ pub record Accepted (X : Compared) (g : Buffers) : Type 0 where
   pub old-faultless : FaultlessChart X.old
   pub new-faultless : FaultlessChart X.new
   pub named : edition_named X.edition ≡ true
-  pub none-due : refusal X g ≡ none
+  pub none-due : refusal X g ≡ None
 
 module _ (X : Compared) (g : Buffers) where
-  pub accepted : refusal X g ≡ none → Accepted X g
+  pub accepted : refusal X g ≡ None → Accepted X g
   unfolding refusal
   accepted e =
       let a = both-faultless (bool (lent g)) X e in
@@ -65,10 +64,10 @@ module _ (X : Compared) (g : Buffers) where
     unfolding refusal
     is-due = sym (e ∙ ap (λ (b : Bool). judged b X) l)
 
-    pub none-judged : o ≡ none → Accepted X g
+    pub none-judged : o ≡ None → Accepted X g
     none-judged q = accepted (is-due ∙ q)
 
-    pub some-judged : {r : Refusal} → o ≡ some r → refusal X g ≡ some r
+    pub some-judged : {r : Refusal} → o ≡ Some r → refusal X g ≡ Some r
     some-judged q = is-due ∙ q
 
 -- ---- both algorithms
@@ -84,9 +83,9 @@ module _ (X : Compared) {m t s w : List ℕ} (a : buffers m t s w ≡ explored X
 -- ---- a build
 module _ (X : Compared) (g : Buffers) (A : Accepted X g) {m₁ t₁ s₁ w₁ : List ℕ} {sm : Summary}
     (b : buffers m₁ t₁ s₁ w₁ ≡ built X) (d : sm ≡ summary (recorded X).start m₁) where
-  pub done_answers : given sm ≡ answered X g
+  pub done_answers : Ok sm ≡ answered X g
   unfolding answered recorded
-  done_answers = ap given d ∙ (λ i. given (summary (recorded X).start (b i).marks)) ∙ rw A.none-due
+  done_answers = ap Ok d ∙ (λ i. Ok (summary (recorded X).start (b i).marks)) ∙ rw A.none-due
 
   pub done_leaves : buffers m₁ t₁ s₁ w₁ ≡ left X g
   unfolding left
@@ -101,15 +100,15 @@ module _ (X : Compared) (g : Buffers) (A : Accepted X g) {m₁ t₁ s₁ w₁ : 
         let y : x.start ≡ (recorded X).start = ap (λ (q : Summary). q.start) (z ∙ d) in
         λ i. record_of (y i) (b i).marks (b i).targets (b i).sets
 
-    pub done_passes : check_refusal X (record_of x.start m₁ t₁ s₁) ≡ none
+    pub done_passes : check_refusal X (record_of x.start m₁ t₁ s₁) ≡ None
     done_passes = ap (check_refusal X) record_is ∙ record_passes X A.old-faultless A.new-faultless A.named
 
     pub done_returned : Words X.old.table → Words X.new.table → Returned X (record_of x.start m₁ t₁ s₁)
     done_returned wo wn = subst (Returned X) (sym record_is) (demand_2 X A.old-faultless A.new-faultless wo wn)
 
 -- ---- a refusal
-module _ (X : Compared) (g : Buffers) {r : Refusal} (e : refusal X g ≡ some r) where
-  pub refused_answers : refused r ≡ answered X g
+module _ (X : Compared) (g : Buffers) {r : Refusal} (e : refusal X g ≡ Some r) where
+  pub refused_answers : Err r ≡ answered X g
   unfolding answered
   refused_answers = rw e
 

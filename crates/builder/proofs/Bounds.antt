@@ -1,7 +1,7 @@
 -- The numbers of a build are small, and its refusals fit. Assumes nothing.
 use mathlib.Core.Path.{◌≡◌, sym, ap, subst, ◌∙◌}
 use mathlib.Core.Logic.{⊎_elim}
-use mathlib.Core.Option.{none}
+use Rattle.std.specs.Prelude.{None}
 use Prim.Native.Nat.{ℕ, ◌≤◌}
 use native.Mathlib.Omega.{arith}
 use Rattle.base.specs.declared.Refusal.{Refusal}
@@ -28,7 +28,7 @@ use Rattle.builder.proofs.Passing.{record_passes}
 use Rattle.builder.proofs.Answering.{accepted}
 
 -- ---- a record that passes
-module _ (X : Compared) (R : Record) (e : check_refusal X R ≡ none) where
+module _ (X : Compared) (R : Record) (e : check_refusal X R ≡ None) where
   few_marked : (v : ℕ) → count v R.graph.marks ≤ 4160
   few_marked v = omega (arith, count_most v R.graph.marks, (lengths X R e).0)
 

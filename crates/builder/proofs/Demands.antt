@@ -5,8 +5,7 @@
 -- `builder::build` say each half of the code. Assumes nothing.
 use mathlib.Core.Path.{◌≡◌, ap, ◌∙◌}
 use mathlib.Core.Bool.{true}
-use mathlib.Core.Option.{none}
-use Rattle.base.specs.Answers.{given}
+use Rattle.std.specs.Prelude.{None, Ok}
 use Rattle.base.specs.Says.{bool}
 use Rattle.base.proofs.Says.{said}
 use Rattle.base.proofs.Tests.{is_true}
@@ -27,7 +26,7 @@ use Rattle.builder.specs.Answers.{lent, refusal, answered, left}
 use Rattle.builder.proofs.Answering.{accepted}
 
 pub first_half : (X : Compared) → Words X.old.table → Words X.new.table → (R : Record)
-    → check_refusal X R ≡ none → Promise X R
+    → check_refusal X R ≡ None → Promise X R
 first_half = demand_3_first
 
 module _ (X : Compared) (g : Buffers) where
@@ -36,22 +35,22 @@ module _ (X : Compared) (g : Buffers) where
   left_with s = record_of s.start (left X g).marks (left X g).targets (left X g).sets
 
   -- faultless charts and buffers of the stated lengths are not refused, in either edition
-  pub never-refused : FaultlessChart X.old → FaultlessChart X.new → edition_named X.edition ≡ true → Sized g → refusal X g ≡ none
+  pub never-refused : FaultlessChart X.old → FaultlessChart X.new → edition_named X.edition ≡ true → Sized g → refusal X g ≡ None
   unfolding refusal
   never-refused F H n S =
       none-judged (bool (lent g)) X
       (is_true (bool (lent g)) (said (lent g) (S.waiting, (S.marks, (S.targets, S.sets)))), F, H, n)
 
   -- where none is refused, a build answers, and what it leaves in g, with the start that it answers, the check passes
-  module _ (e : refusal X g ≡ none) where
+  module _ (e : refusal X g ≡ None) where
     abbrev Answers : Summary → Type 0
-    Answers s = answered X g ≡ given s
+    Answers s = answered X g ≡ Ok s
 
     answers : (s : Summary) × Answers s × (left_with s ≡ recorded X)
     unfolding answered left recorded summary
     answers = (summary (recorded X).start (recorded X).graph.marks, rw e, rw (e, left))
 
-    pub second_half : (s : Summary) × Answers s × (check_refusal X (left_with s) ≡ none)
+    pub second_half : (s : Summary) × Answers s × (check_refusal X (left_with s) ≡ None)
     second_half =
         let a = answers in
         let A = accepted X g e in

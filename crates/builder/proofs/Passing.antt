@@ -3,7 +3,7 @@ use mathlib.Core.Path.{◌≡◌, refl, sym, subst, ◌∙◌}
 use mathlib.Core.Bool.{Bool, true, false}
 use mathlib.Core.Logic.{◌≢◌, ◌⊎◌, inl, inr, ⊎_elim, dite}
 use mathlib.Core.List.{List}
-use mathlib.Core.Option.{Option, none}
+use Rattle.std.specs.Prelude.{Option, None}
 use Prim.Native.Nat.{ℕ, ◌/◌, ◌%◌, ◌≤◌, ◌<◌}
 use native.Mathlib.Omega.{arith}
 use native.Mathlib.Decide.{ℕ_discrete, dec_lt}
@@ -116,7 +116,7 @@ module _ (X : Compared) (F : FaultlessChart X.old) (H : FaultlessChart X.new) (j
           (λ l. inl (dite (ℕ_discrete (get_or (explored X).marks (kept_number (new_of t)) 0) 0) (λ z. omega (arith, not_kept (explored X).marks t l z)) (λ z. omega (arith, to-kept (explored X).marks t l (omega arith)))))
           (λ l. rw (far (explored X).marks t (omega arith)) d)
 
-  joint_passes : edition_named X.edition ≡ true → refusal X (record_of (first_pair X) marks (final_targets (explored X)) (explored X).sets) ≡ none
+  joint_passes : edition_named X.edition ≡ true → refusal X (record_of (first_pair X) marks (final_targets (explored X)) (explored X).sets) ≡ None
   unfolding shaped marks_fit targets_fit start_fits
   joint_passes n =
       passes X (record_of (first_pair X) marks (final_targets (explored X)) (explored X).sets)
@@ -139,7 +139,7 @@ module _ (X : Compared) (F : FaultlessChart X.old) (H : FaultlessChart X.new) wh
   single_length : length single.marks ≡ 4160
   single_length = let zeros : List ℕ = replicate 4160 0 in length-set zeros (first_kept X) 2 ∙ length-replicate {A = ℕ} 4160 0
 
-  single_passes : edition_named X.edition ≡ true → refusal X (record_of (first_kept X) (set (replicate 4160 0) (first_kept X) 2) (replicate 8192 65535) (replicate 4096 0)) ≡ none
+  single_passes : edition_named X.edition ≡ true → refusal X (record_of (first_kept X) (set (replicate 4160 0) (first_kept X) 2) (replicate 8192 65535) (replicate 4096 0)) ≡ None
   unfolding shaped marks_fit targets_fit start_fits
   single_passes n =
       passes X (record_of (first_kept X) (set (replicate 4160 0) (first_kept X) 2) (replicate 8192 65535) (replicate 4096 0))
@@ -149,9 +149,9 @@ module _ (X : Compared) (F : FaultlessChart X.old) (H : FaultlessChart X.new) wh
       (λ m k b p c a. absurd (let z = only_kept m p in omega arith))
 
 -- for any two faultless charts no refusal of the check is due for what a build leaves
-pub record_passes : (X : Compared) → FaultlessChart X.old → FaultlessChart X.new → edition_named X.edition ≡ true → refusal X (recorded X) ≡ none
+pub record_passes : (X : Compared) → FaultlessChart X.old → FaultlessChart X.new → edition_named X.edition ≡ true → refusal X (recorded X) ≡ None
 record_passes X F H n = go (alone (heads_of X) (explored X).marks) refl
   where
-    go : (b : Bool) → alone (heads_of X) (explored X).marks ≡ b → refusal X (recorded X) ≡ none
+    go : (b : Bool) → alone (heads_of X) (explored X).marks ≡ b → refusal X (recorded X) ≡ None
     go true e = rw (recorded-lone X e) (single_passes X F H n)
     go false e = rw (recorded_joint X e) (joint_passes X F H e n)

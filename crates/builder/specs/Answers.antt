@@ -1,8 +1,7 @@
 -- What a build answers, and what it leaves in the four buffers ("Who can cause a refusal", "Four questions for each
 -- public call").
-use Rattle.std.proofs.Math.Option.{Option, none, some}
-use Rattle.std.specs.Prelude.{length}
-use Rattle.base.specs.Answers.{Answer, given, refused}
+use Rattle.std.specs.Prelude.{Option, None, Some, length, Ok, Err}
+use Rattle.base.specs.Answers.{Answer}
 use Rattle.base.specs.declared.Refusal.{Refusal}
 use Rattle.base.specs.Refusals.{unless}
 use Rattle.base.specs.Says.{Test, eq, ◌and◌, bool}
@@ -17,8 +16,8 @@ use Rattle.graph.specs.Buffers.{Buffers, graph_in}
 
 -- what the code's answer says, "for each of the enum's cases"
 abbrev pub told : Built → Answer Summary
-told (builts.Done s) = given s
-told (builts.Refused r) = refused r
+told (builts.Done s) = Ok s
+told (builts.Refused r) = Err r
 
 -- "Lent: marks (4,160 bytes), targets (8,192 u16, [..]), sets (4,096 u64, [..]), waiting (4,096 bytes)": the stated
 -- lengths
@@ -37,4 +36,4 @@ module _ (X : Compared) (g : Buffers) where
 
   -- "lent memory is untouched" by a refusal; else "What these held before has no effect."
   unfoldable pub left : Buffers
-  left = elim refusal [ none ↦ built X | some r ↦ g ]
+  left = elim refusal [ None ↦ built X | Some r ↦ g ]

@@ -2,8 +2,7 @@
 // bad input itself.
 #![tactic(auto)]
 
-ghost use Rattle.std.specs.Prelude.{◌≡◌};
-ghost use Rattle.std.proofs.Math.Option.{none};
+ghost use Rattle.std.specs.Prelude.{◌≡◌, None};
 ghost use Rattle.base.specs.Says.{bool};
 ghost use Rattle.chart.specs.Compared.{compared};
 ghost use Rattle.chart.specs.Faultless.{FaultlessChart};
@@ -84,7 +83,7 @@ pub fn build<'a>(
         (buffers marks.old targets.old sets.old waiting.old) }
     ensures passes { (s : Summary) → result ≡ Done s
         → check_refusal (compared heads old_rows.now new_rows.now)
-        (record_of s.start marks.new targets.new sets.new) ≡ none }
+        (record_of s.start marks.new targets.new sets.new) ≡ None }
     ensures algorithms { (s : Summary) → result ≡ Done s
         → Returned (compared heads old_rows.now new_rows.now)
         (record_of s.start marks.new targets.new sets.new) }

@@ -1,7 +1,7 @@
 -- The refusals of charts fit: they have a number, and a position below 128. Assumes nothing.
 use mathlib.Core.Path.{◌≡◌}
 use mathlib.Core.Bool.{Bool, ◌&&◌, not}
-use mathlib.Core.Option.{none}
+use Rattle.std.specs.Prelude.{None}
 use Prim.Native.Nat.{ℕ, ◌≤◌, ◌<◌}
 use native.Mathlib.Omega.{arith}
 use borrow.Author.Tests.{ltb-false}
@@ -29,7 +29,7 @@ module _ (k : ℕ) (near : k < 2) where
   whole-due b n t = row-due b n 0 t (omega arith)
 
   module _ (C : Chart) where
-    few_rows : count_fault k C ≡ none → size C.table ≤ 128
+    few_rows : count_fault k C ≡ None → size C.table ≤ 128
     unfolding count_fault
     few_rows e =
         let a = both-missing (due_in k (lacks C) 1 0) _ e in

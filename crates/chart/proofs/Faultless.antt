@@ -2,7 +2,7 @@
 use mathlib.Core.Path.{◌≡◌, sym, ◌∙◌}
 use mathlib.Core.Bool.{Bool, true, false, ◌&&◌, not}
 use mathlib.Core.Logic.{◌↔◌}
-use mathlib.Core.Option.{Option, none}
+use Rattle.std.specs.Prelude.{Option, None}
 use Prim.Native.Nat.{ℕ, zero, suc, ◌+◌, ◌-◌, ◌≤◌, ◌<◌}
 use native.Mathlib.Nat.{add-suc, add-zero, add-sub_of_le, le_refl}
 use native.Mathlib.Decide.{ℕ_discrete}
@@ -25,7 +25,7 @@ use Rattle.chart.specs.inner.Faulty.{faulty}
 use Rattle.chart.proofs.Faults.{rows_by}
 
 -- ---- from the tests to what they say
-pub faultless-row : (k : ℕ) (C : Chart) (i : ℕ) → row_fault k C i ≡ none → FaultlessRow C i
+pub faultless-row : (k : ℕ) (C : Chart) (i : ℕ) → row_fault k C i ≡ None → FaultlessRow C i
 unfolding row_fault
 faultless-row k C i e =
     let a = both-missing (due_in k (strays C i) 4 i) _ e in
@@ -52,7 +52,7 @@ ascending C R = record { order = λ i j l u. (let r = rise i (j - i) (omega arit
         rw add-suc (omega arith)
 
 -- so do those among which no fault 4 to 7 is found
-pub unfound : (C : Chart) {o : Option ℕ} → o ≡ first_of (size C.table) (λ i. when (faulty C i) i) → o ≡ none → Ascending C.table
+pub unfound : (C : Chart) {o : Option ℕ} → o ≡ first_of (size C.table) (λ i. when (faulty C i) i) → o ≡ None → Ascending C.table
 unfound C e q = ascending C (λ i l. faultless-row 0 C i (none_of (row_fault 0 C) (size C.table) i (rows_by 0 C (sym q ∙ e)) l))
 
 -- rows of one place that do not clash are apart
@@ -64,9 +64,9 @@ apart-rows C i j e s =
     let b = and_true (is_assumption (operation C.table i)) _ a.1 in
     record { earlier = a.0; later = b.0; one = b.1 }
 
-module _ (k : ℕ) (C : Chart) (w : whole C.table ≡ true) (e : fault k C ≡ none) where
-  parts : (count_fault k C ≡ none) × (alarm_fault k C ≡ none)
-      × (first_of (size C.table) (row_fault k C) ≡ none) × (first_of (size C.table) (conflict_fault k C.table) ≡ none)
+module _ (k : ℕ) (C : Chart) (w : whole C.table ≡ true) (e : fault k C ≡ None) where
+  parts : (count_fault k C ≡ None) × (alarm_fault k C ≡ None)
+      × (first_of (size C.table) (row_fault k C) ≡ None) × (first_of (size C.table) (conflict_fault k C.table) ≡ None)
   unfolding fault rows_fault
   parts =
       let a = both-missing (count_fault k C) _ e in
@@ -93,7 +93,7 @@ module _ (k : ℕ) (C : Chart) (w : whole C.table ≡ true) (e : fault k C ≡ n
         apart = λ i j h l s. apart-rows C i j (none-below_at (clash C.table i) i j (not_due _ _ (none_of (conflict_fault k C.table) (size C.table) i parts.3 l)) h) s;
       }
 
-pub faultless : (C : Chart) → refusal C ≡ none → FaultlessChart C
+pub faultless : (C : Chart) → refusal C ≡ None → FaultlessChart C
 unfolding refusal
 faultless C e =
     let a = both-missing (due (not (whole C.table)) 21 0) (fault 0 C) e in
@@ -104,7 +104,7 @@ ascends C F = ascending C F.rows
 
 -- ---- and back
 module _ (C : Chart) where
-  row-none : (k i : ℕ) → FaultlessRow C i → row_fault k C i ≡ none
+  row-none : (k i : ℕ) → FaultlessRow C i → row_fault k C i ≡ None
   unfolding row_fault
   row-none k i R =
       rw (
@@ -127,7 +127,7 @@ module _ (C : Chart) where
     is_whole : whole C.table ≡ true
     is_whole = eq-eqb _ _ F.whole
 
-    pub no_fault : (k : ℕ) → fault k C ≡ none
+    pub no_fault : (k : ℕ) → fault k C ≡ None
     unfolding fault count_fault alarm_fault rows_fault conflict_fault
     no_fault k =
         rw (
@@ -141,21 +141,21 @@ module _ (C : Chart) where
         (none_everywhere (conflict_fault k C.table) (size C.table)
         (λ i l. none_if _ _ (none_below (clash C.table i) i (λ j h. no_clash i j (F.apart i j h l)))))
 
-    pub no_refusal : refusal C ≡ none
+    pub no_refusal : refusal C ≡ None
     unfolding refusal
     no_refusal = rw is_whole (no_fault 0)
 
   -- no refusal is due exactly where the chart is faultless
-  pub faultless_exactly : (refusal C ≡ none) ↔ FaultlessChart C
+  pub faultless_exactly : (refusal C ≡ None) ↔ FaultlessChart C
   faultless_exactly = (faultless C, no_refusal)
 
 -- ---- two charts
 module _ (lent : Bool) (X : Compared) where
-  pub none-judged : (lent ≡ true) × FaultlessChart X.old × FaultlessChart X.new × (edition_named X.edition ≡ true) → judged lent X ≡ none
+  pub none-judged : (lent ≡ true) × FaultlessChart X.old × FaultlessChart X.new × (edition_named X.edition ≡ true) → judged lent X ≡ None
   unfolding judged
   none-judged (l, F, H, n) = rw (l, n, is_whole X.old F, is_whole X.new H, no_fault X.old F 0) (no_fault X.new H 1)
 
-  pub both-faultless : judged lent X ≡ none → (lent ≡ true) × FaultlessChart X.old × FaultlessChart X.new × (edition_named X.edition ≡ true)
+  pub both-faultless : judged lent X ≡ None → (lent ≡ true) × FaultlessChart X.old × FaultlessChart X.new × (edition_named X.edition ≡ true)
   unfolding judged
   both-faultless e =
       let a = both-missing (due (not (lent && (edition_named X.edition && (whole X.old.table && whole X.new.table)))) 21 0) _ e in
@@ -166,7 +166,7 @@ module _ (lent : Bool) (X : Compared) where
       (l.0, unfaulted 0 X.old w.0 b.0, unfaulted 1 X.new w.1 b.1, n.0)
 
   -- none is due exactly where the lengths are the stated ones, both charts are faultless and the edition is one of the two
-  pub judged_exactly : (judged lent X ≡ none) ↔ ((lent ≡ true) × FaultlessChart X.old × FaultlessChart X.new × (edition_named X.edition ≡ true))
+  pub judged_exactly : (judged lent X ≡ None) ↔ ((lent ≡ true) × FaultlessChart X.old × FaultlessChart X.new × (edition_named X.edition ≡ true))
   judged_exactly = (both-faultless, none-judged)
 
 -- the rows of a faultless chart can be indexed

@@ -2,7 +2,7 @@
 use mathlib.Core.Path.{◌≡◌, refl, sym, ap, ap₂, subst, ◌∙◌}
 use mathlib.Core.Bool.{Bool, true, false, cond, ◌&&◌, ◌||◌, not}
 use mathlib.Core.List.{List}
-use mathlib.Core.Option.{Option, none, some}
+use Rattle.std.specs.Prelude.{Option, None, Some}
 use Prim.Native.Nat.{ℕ, zero, suc, ◌+◌, ◌-◌, ◌≤◌, ◌<◌}
 use native.Mathlib.Decide.{ℕ_discrete}
 use native.Mathlib.Omega.{arith}
@@ -39,28 +39,28 @@ module _ (t : List ℕ) (i : ℕ) where
 
 -- ---- the first row that has a fault, by its index
 -- an index that is found is below the bound
-pub found_below : (p : ℕ → Bool) (n i : ℕ) → some i ≡ first_of n (λ i. when (p i) i) → i < n
+pub found_below : (p : ℕ → Bool) (n i : ℕ) → Some i ≡ first_of n (λ i. when (p i) i) → i < n
 found_below p n i e =
     subst (OnSome (λ (j : ℕ). j < n)) (sym e) (first_on (λ j. j < n) n (λ i. when (p i) i) (λ j l. when_on (λ j. j < n) (p j) j l))
 
 -- the loop that looks for it
-module _ (p : ℕ → Bool) (i : ℕ) (e : first_of i (λ i. when (p i) i) ≡ none) {r : Bool} (h : r ≡ p i) where
-  pub found_here : {n : ℕ} → i < n → r ≡ true → some i ≡ first_of n (λ i. when (p i) i)
+module _ (p : ℕ → Bool) (i : ℕ) (e : first_of i (λ i. when (p i) i) ≡ None) {r : Bool} (h : r ≡ p i) where
+  pub found_here : {n : ℕ} → i < n → r ≡ true → Some i ≡ first_of n (λ i. when (p i) i)
   found_here {n} l t = let q : p i ≡ true = sym h ∙ t in sym (first_at_lem (λ i. when (p i) i) n i l e (rw q) ∙ rw q)
 
-  pub not_here : r ≡ false → first_of (i + 1) (λ i. when (p i) i) ≡ none
+  pub not_here : r ≡ false → first_of (i + 1) (λ i. when (p i) i) ≡ None
   not_here t = none_at (λ i. when (p i) i) i e (rw (sym h ∙ t))
 
 -- values that are there where a test passes: the first is at the first index that passes
 module _ {A : Type 0} (x : ℕ → A) where
   abbrev pub value_at : Option ℕ → Option A
-  value_at none = none
-  value_at (some i) = some (x i)
+  value_at None = None
+  value_at (Some i) = Some (x i)
 
   value_or : (o : Option ℕ) (b : Bool) (n : ℕ) → or_else (value_at o) (when b (x n)) ≡ value_at (or_else o (when b n))
-  value_or none true n = refl
-  value_or none false n = refl
-  value_or (some i) b n = refl
+  value_or None true n = refl
+  value_or None false n = refl
+  value_or (Some i) b n = refl
 
   pub first_by : (p : ℕ → Bool) (f : ℕ → Option A) → ((i : ℕ) → f i ≡ when (p i) (x i)) → (n : ℕ)
       → first_of n f ≡ value_at (first_of n (λ i. when (p i) i))
@@ -94,23 +94,23 @@ module _ (k : ℕ) (C : Chart) where
     pub rows_by : first_of (size C.table) (row_fault k C) ≡ value_at fault_at o
     rows_by = first_by fault_at (faulty C) (row_fault k C) row_is (size C.table) ∙ ap (value_at fault_at) (sym e)
 
-    pub row_told : {i n : ℕ} {r : Option Refusal} → o ≡ some i → n ≡ row_number C i
-        → r ≡ some (record { number = n; chart = k; position = i }) → r ≡ rows_fault k C
+    pub row_told : {i n : ℕ} {r : Option Refusal} → o ≡ Some i → n ≡ row_number C i
+        → r ≡ Some (record { number = n; chart = k; position = i }) → r ≡ rows_fault k C
     unfolding rows_fault
     row_told q h g = g ∙ rw (rows_by, q, h)
 
     -- and where none is
-    module _ (q : o ≡ none) {o' : Option ℕ} (e' : o' ≡ first_of (size C.table) (λ i. when (conflicts C.table i) i)) where
+    module _ (q : o ≡ None) {o' : Option ℕ} (e' : o' ≡ first_of (size C.table) (λ i. when (conflicts C.table i) i)) where
       after-rows : value_at conflict_at o' ≡ rows_fault k C
       unfolding rows_fault conflict_fault
       after-rows =
           rw (rows_by, q, e')
           (sym (first_by conflict_at (conflicts C.table) (conflict_fault k C.table) (λ i. refl) (size C.table)))
 
-      pub conflict_told : {i : ℕ} {r : Option Refusal} → o' ≡ some i → r ≡ some (conflict_at i) → r ≡ rows_fault k C
+      pub conflict_told : {i : ℕ} {r : Option Refusal} → o' ≡ Some i → r ≡ Some (conflict_at i) → r ≡ rows_fault k C
       conflict_told h g = g ∙ sym (ap (value_at conflict_at) h) ∙ after-rows
 
-      pub none_told : o' ≡ none → none ≡ rows_fault k C
+      pub none_told : o' ≡ None → None ≡ rows_fault k C
       none_told h = sym (ap (value_at conflict_at) h) ∙ after-rows
 
 -- ---- conflicts

@@ -8,7 +8,6 @@ pub mod Taken
 pub mod Parts
 pub mod Reach
 pub mod Bounds
-pub mod Told
 pub mod Starts
 pub mod Words
 pub mod Takable

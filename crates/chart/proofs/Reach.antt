@@ -3,7 +3,7 @@ use mathlib.Core.Path.{◌≡◌, refl, sym, subst}
 use mathlib.Core.Bool.{Bool, true, false, ◌&&◌}
 use mathlib.Core.Logic.{◌⊎◌, inl, inr}
 use mathlib.Core.List.{List, [], ◌∷◌}
-use mathlib.Core.Option.{Option, none, some}
+use Rattle.std.specs.Prelude.{Option, None, Some}
 use Prim.Native.Nat.{ℕ, ◌<◌}
 use lib.Dec.{T, eqb, eqb→eq, ltb, lt→ltb}
 use Rattle.base.proofs.Tests.{T_both, T_or, T_or_l, T_or_r, T_true, is_true}
@@ -15,8 +15,8 @@ use Rattle.chart.proofs.Parts.{row_of, row_same}
 -- ---- runs from any state
 module _ (C : Chart) where
   abbrev pub ever_there : Option (List State) → Bool
-  ever_there none = false
-  ever_there (some seen) = alarmed C seen
+  ever_there None = false
+  ever_there (Some seen) = alarmed C seen
 
   -- the rows are a run from here, and it is at the alarm here or later
   abbrev pub reaches_from : State → List ℕ → Bool
@@ -26,23 +26,23 @@ module _ (C : Chart) where
   unfolding reaches
   from-begin v is = go (run C (begin C v) is)
     where
-      go : (o : Option (List State)) → elim o [ none ↦ false | some seen ↦ alarmed C seen ] ≡ ever_there o
-      go none = refl
-      go (some seen) = refl
+      go : (o : Option (List State)) → elim o [ None ↦ false | Some seen ↦ alarmed C seen ] ≡ ever_there o
+      go None = refl
+      go (Some seen) = refl
 
   pub reaches_here : (s : State) → s.place ≡ C.head.alarm → T (reaches_from s [])
   unfolding run alarmed
   reaches_here s e = T_or_l (eqb s.place C.head.alarm) false (eqb←eq e)
 
-  pub run_none : (s : State) (i : ℕ) (is : List ℕ) → ready C s i ≡ false → run C s (i ∷ is) ≡ none
+  pub run_none : (s : State) (i : ℕ) (is : List ℕ) → ready C s i ≡ false → run C s (i ∷ is) ≡ None
   unfolding run
   run_none s i is t = rw (t, run)
 
-  pub run_ends : (s : State) (i : ℕ) (is : List ℕ) → ready C s i ≡ true → run C (taken (row C.table i) s) is ≡ none → run C s (i ∷ is) ≡ none
+  pub run_ends : (s : State) (i : ℕ) (is : List ℕ) → ready C s i ≡ true → run C (taken (row C.table i) s) is ≡ None → run C s (i ∷ is) ≡ None
   unfolding run
   run_ends s i is t e = rw (t, e, run)
 
-  run-some : (s : State) (i : ℕ) (is : List ℕ) (seen : List State) → ready C s i ≡ true → run C (taken (row C.table i) s) is ≡ some seen → run C s (i ∷ is) ≡ some (s ∷ seen)
+  run-some : (s : State) (i : ℕ) (is : List ℕ) (seen : List State) → ready C s i ≡ true → run C (taken (row C.table i) s) is ≡ Some seen → run C s (i ∷ is) ≡ Some (s ∷ seen)
   unfolding run
   run-some s i is seen t e = rw (t, e, run)
 
@@ -52,8 +52,8 @@ module _ (C : Chart) where
   reaches_on s i is t h = go (run C (taken (row C.table i) s) is) refl h
     where
       go : (o : Option (List State)) → run C (taken (row C.table i) s) is ≡ o → T (ever_there o) → T (reaches_from s (i ∷ is))
-      go none e h = absurd h
-      go (some seen) e h = subst (λ (o : Option (List State)). T (ever_there o)) (sym (run-some s i is seen t e)) (T_or_r (eqb s.place C.head.alarm) (alarmed C seen) h)
+      go None e h = absurd h
+      go (Some seen) e h = subst (λ (o : Option (List State)). T (ever_there o)) (sym (run-some s i is seen t e)) (T_or_r (eqb s.place C.head.alarm) (alarmed C seen) h)
 
   pub reaches_nil : (s : State) → T (reaches_from s []) → s.place ≡ C.head.alarm
   unfolding run alarmed
@@ -67,8 +67,8 @@ module _ (C : Chart) where
       go : (b : Bool) → ready C s i ≡ b → (o : Option (List State)) → run C (taken (row C.table i) s) is ≡ o
           → (s.place ≡ C.head.alarm) ⊎ ((ready C s i ≡ true) × T (reaches_from (taken (row C.table i) s) is))
       go false e o f = absurd (subst (λ (o : Option (List State)). T (ever_there o)) (run_none s i is e) t)
-      go true e none f = absurd (subst (λ (o : Option (List State)). T (ever_there o)) (run_ends s i is e f) t)
-      go true e (some seen) f = elim (T_or (eqb s.place C.head.alarm) (alarmed C seen) (subst (λ (o : Option (List State)). T (ever_there o)) (run-some s i is seen e f) t)) [ inl a ↦ inl (eqb→eq s.place C.head.alarm a) | inr h ↦ inr (e, subst (λ (o : Option (List State)). T (ever_there o)) (sym f) h) ]
+      go true e None f = absurd (subst (λ (o : Option (List State)). T (ever_there o)) (run_ends s i is e f) t)
+      go true e (Some seen) f = elim (T_or (eqb s.place C.head.alarm) (alarmed C seen) (subst (λ (o : Option (List State)). T (ever_there o)) (run-some s i is seen e f) t)) [ inl a ↦ inl (eqb→eq s.place C.head.alarm a) | inr h ↦ inr (e, subst (λ (o : Option (List State)). T (ever_there o)) (sym f) h) ]
 
   -- some rows lead from here to the alarm
   pub record Hits (p : ℕ) (v : List ℕ) : Type 0 where

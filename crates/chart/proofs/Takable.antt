@@ -3,7 +3,8 @@
 use mathlib.Core.Path.{◌≡◌, refl, sym, ap, ◌∙◌}
 use mathlib.Core.Bool.{Bool, true, false, not}
 use mathlib.Core.List.{List, [], ◌∷◌}
-use mathlib.Core.Option.{Option, none, some, none-ne-some}
+use Rattle.std.specs.Prelude.{Option, None, Some}
+use Rattle.std.proofs.lemmas.Option.{none-some}
 use Prim.Native.Nat.{ℕ, ◌+◌, ◌*◌, ◌≤◌, ◌<◌}
 use lib.Dec.{eqb, ltb}
 use borrow.Author.Tests.{lt-ltb, le-ltb, ltb-true, eqb-true, not-true}
@@ -46,11 +47,11 @@ module _ (t : List ℕ) where
   nevers i = never_holds (operation t i)
 
   -- where none of all is found, there is none
-  pub none_never : {some : Bool} → some ≡ some_below (size t) nevers → NoneNever some t
+  pub none_never : {Some : Bool} → Some ≡ some_below (size t) nevers → NoneNever Some t
   none_never e f i l = none-below_at nevers (size t) i (sym e ∙ f) l
 
 -- the rows of a place are rows of the chart
-pub part_none : {some : Bool} (t : List ℕ) (p : ℕ) → NoneNever some t → NoneNever some (leaving t p)
+pub part_none : {Some : Bool} (t : List ℕ) (p : ℕ) → NoneNever Some t → NoneNever Some (leaving t p)
 part_none t p N f k l = let (i, r) = row_of t p k l in ap never_holds (row_same t p r).operation-same ∙ N f i r.inside
 
 -- an operation that the values let be taken is none that never holds
@@ -78,16 +79,16 @@ module _ (C : Chart) (F : FaultlessChart C) (words : Words C.table) where
       let r = is-ready C s i e in
       by_test C.table i r.0 ∙ ap not (let_takable (operation C.table i) s.values W (operands C F words.small i r.0) r.2)
 
-  pub run_takable : (is : List ℕ) (s : State) (seen : List State) → Values s.values → run C s is ≡ some seen → All (λ i. can_be_taken C.table i ≡ true) is
+  pub run_takable : (is : List ℕ) (s : State) (seen : List State) → Values s.values → run C s is ≡ Some seen → All (λ i. can_be_taken C.table i ≡ true) is
   run_takable [] s seen W e = tt
   run_takable (i ∷ is) s seen W e = go (run_takable is) (ready C s i) refl (run C (taken (row C.table i) s) is) refl
     where
-      go : ((s : State) (seen : List State) → Values s.values → run C s is ≡ some seen → All (λ k. can_be_taken C.table k ≡ true) is)
+      go : ((s : State) (seen : List State) → Values s.values → run C s is ≡ Some seen → All (λ k. can_be_taken C.table k ≡ true) is)
           → (b : Bool) → ready C s i ≡ b → (x : Option (List State)) → run C (taken (row C.table i) s) is ≡ x
           → (can_be_taken C.table i ≡ true) × All (λ k. can_be_taken C.table k ≡ true) is
-      go later false d x f = absurd (none-ne-some seen (sym (run_none C s i is d) ∙ e))
-      go later true d none f = absurd (none-ne-some seen (sym (run_ends C s i is d f) ∙ e))
-      go later true d (some more) f = (
+      go later false d x f = absurd (none-some seen (sym (run_none C s i is d) ∙ e))
+      go later true d None f = absurd (none-some seen (sym (run_ends C s i is d f) ∙ e))
+      go later true d (Some more) f = (
         ready_takable s i W d,
         later (taken (row C.table i) s) more (values-after (operation C.table i) s.values (words.small (i * 6 + 5)) W) f,
       )

@@ -1,15 +1,12 @@
 -- The faults of a chart, by number, chart and position, and what the calls that judge say ("Who can cause a
 -- refusal": the chart's author).
-use Rattle.std.specs.Prelude.{Bool, ◌&&◌, ◌||◌, not, List, ℕ, zero, suc, ◌%◌, eqb, leb, ltb, length}
-use Rattle.std.proofs.Math.Option.{Option, none, some}
+use Rattle.std.specs.Prelude.{Bool, ◌&&◌, ◌||◌, not, List, ℕ, zero, suc, ◌%◌, eqb, leb, ltb, length, Option}
 use Rattle.base.specs.Options.{or_else, first_of}
 use Rattle.base.specs.declared.Refusal.{Refusal}
 use Rattle.base.specs.Refusals.{due_in, due}
 use Rattle.base.specs.Tests.{some_below}
 use Rattle.operations.specs.Operations.{is_known, is_assumption, operands_fit}
 use Rattle.operations.specs.Trials.{exclusive}
-use Rattle.chart.specs.declared.charts.Judged.{Judged}
-use Rattle.chart.specs.declared.charts.Judged.TheVariants.{Faultless, Refused}
 use Rattle.chart.specs.declared.charts.Head.{Head}
 use Rattle.chart.specs.Charts.{Chart, size, from, to, operation}
 use Rattle.chart.specs.Compared.{Compared, edition_named}
@@ -97,8 +94,3 @@ unfoldable pub judged : Bool → Compared → Option Refusal
 judged lent X =
     or_else (due (not (lent && (edition_named X.edition && (whole X.old.table && whole X.new.table)))) 21 0)
     (or_else (fault 0 X.old) (fault 1 X.new))
-
--- what the code's answer says, "for each of the enum's cases"
-abbrev pub told : Judged → Option Refusal
-told Faultless = none
-told (Refused r) = some r

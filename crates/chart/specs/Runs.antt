@@ -1,6 +1,5 @@
 -- Runs of a chart from given values ("Charts and rows").
-use Rattle.std.specs.Prelude.{Bool, true, false, ◌&&◌, ◌||◌, List, [], ◌∷◌, ℕ, eqb, ltb, set}
-use Rattle.std.proofs.Math.Option.{Option, none, some}
+use Rattle.std.specs.Prelude.{Bool, true, false, ◌&&◌, ◌||◌, List, [], ◌∷◌, ℕ, eqb, ltb, set, Option, None, Some}
 use Rattle.operations.specs.declared.Operation.{Operation}
 use Rattle.operations.specs.Operations.{kind, by_kind, value, holds}
 use Rattle.operations.specs.Values.{var}
@@ -37,12 +36,12 @@ ready C s i =
 -- "A list with a row that can't be taken so is no run." The states of a run, the first and the one after each row: none
 -- where the rows are no run
 unfoldable pub run : Chart → State → List ℕ → Option (List State)
-run C s [] = some (s ∷ [])
-run C s (i ∷ is) = elim (ready C s i) [ true ↦ onward s (run C (taken (row C.table i) s) is) | false ↦ none ]
+run C s [] = Some (s ∷ [])
+run C s (i ∷ is) = elim (ready C s i) [ true ↦ onward s (run C (taken (row C.table i) s) is) | false ↦ None ]
   where
     onward : State → Option (List State) → Option (List State)
-    onward s none = none
-    onward s (some seen) = some (s ∷ seen)
+    onward s None = None
+    onward s (Some seen) = Some (s ∷ seen)
 
 -- "it reaches the alarm if it is ever there, its start included"
 unfoldable pub alarmed : Chart → List State → Bool
@@ -52,4 +51,4 @@ alarmed C (s ∷ seen) = eqb s.place C.head.alarm || alarmed C seen
 -- "A run is a list of rows of one chart, of any length, none included, from any 64 values": these rows are one from v,
 -- and it reaches the alarm
 unfoldable pub reaches : Chart → List ℕ → List ℕ → Bool
-reaches C v is = elim (run C (begin C v) is) [ none ↦ false | some seen ↦ alarmed C seen ]
+reaches C v is = elim (run C (begin C v) is) [ None ↦ false | Some seen ↦ alarmed C seen ]

@@ -1,9 +1,8 @@
-// The heads of charts, and what judging a chart answers.
+// The heads of charts.
 ghost use Rattle.std.specs.Prelude.{◌≡◌};
 ghost use Rattle.chart.specs.Compared.{sole_old, sole_new, both_heads};
 
 use crate::places::{NewPlace, OldPlace};
-use base::Refusal;
 
 // What a chart is beside its rows, whichever chart it is.
 #[derive(Clone, Copy)]
@@ -32,14 +31,6 @@ pub struct Heads {
     pub edition: u32,
     pub old: OldHead,
     pub new: NewHead,
-}
-
-// What judging a chart finds: no refusal is due, or the first that is. A table that is not whole rows is the caller's
-// mistake, 21.
-#[derive(Clone, Copy)]
-pub enum Judged {
-    Faultless,
-    Refused(Refusal),
 }
 
 // Both heads, of charts that came one by one, with the edition that is named.

@@ -3,85 +3,75 @@
 #![tactic(auto)]
 
 ghost use Rattle.std.specs.Prelude.{◌≡◌, cond, eqb, [], ◌<◌};
-ghost use Rattle.std.proofs.Math.Option.{some};
+ghost use Rattle.std.specs.Result.{result_err};
+ghost use Rattle.base.specs.Reasons.{number_of};
 ghost use Rattle.chart.specs.Charts.{charted, size, leaving};
 ghost use Rattle.chart.specs.Compared.{compared};
-ghost use Rattle.chart.specs.Faults.{told, rows_fault, fault, refusal, judged};
+ghost use Rattle.chart.specs.Faults.{rows_fault, fault, refusal, judged};
 ghost use Rattle.chart.specs.inner.Faulty.{row_number};
 ghost use Rattle.chart.specs.Lookup.{open_to, lookup, Stands};
 
-use base::{Found, Refusal};
-use charts::{Head, Heads, Judged};
+use base::{Reason, Refusal, sole};
+use charts::{Head, Heads};
 use inner::faults;
 
 pub mod places; // places.rt: places of the old and of the new chart
-pub mod charts; // charts.rt: the heads of charts, and what judging a chart answers
+pub mod charts; // charts.rt: the heads of charts
 pub mod inner; // inner.rt: for the crates above
 
-// The refusal with this number and position, of the chart with this number.
-fn refused(chart: u32, number: u32, position: usize) -> Judged
-    ensures { told result ≡ some (record { number = number; chart = chart; position = position }) }
-{
-    Judged::Refused(Refusal {
-        number,
-        chart,
-        position,
-    })
-}
-
 // Which of 4 to 7 row i has, where it has one: asked once, of the first row that has.
-fn row_number(head: Head, rows: &[u32], i: usize) -> u32
+fn row_reason(head: Head, rows: &[u32], i: usize) -> Reason
     requires { i < size rows.now }
-    ensures { result ≡ row_number (charted head rows.now) i }
+    ensures { number_of result ≡ row_number (charted head rows.now) i }
 {
     if faults::strays(head, rows, i) {
-        return 4;
+        return Reason::Straying;
     }
     if faults::descends(rows, i) {
-        return 5;
+        return Reason::Descending;
     }
     if operations::is_known(inner::rows::operation_at(rows, i)) {
-        return 7;
+        return Reason::WrongOperand;
     }
-    6
+    Reason::UnknownCode
 }
 
 // 4 to 8, of the chart with this number.
-fn rows_fault(chart: u32, head: Head, rows: &[u32]) -> Judged
-    ensures { told result ≡ rows_fault chart (charted head rows.now) }
+fn rows_fault(chart: u32, head: Head, rows: &[u32]) -> Result<(), Refusal>
+    ensures { result_err result ≡ rows_fault chart (charted head rows.now) }
 {
-    if let Found::At(i) = faults::first_faulty(head, rows) {
-        return refused(chart, row_number(head, rows, i), i);
+    if let Some(i) = faults::first_faulty(head, rows) {
+        return Err(Refusal::new(row_reason(head, rows, i), chart, i));
     }
     match faults::first_conflict(rows) {
-        Found::At(i) => refused(chart, 8, i),
-        Found::Nothing => Judged::Faultless,
+        Some(i) => Err(Refusal::new(Reason::Conflicting, chart, i)),
+        None => Ok(()),
     }
 }
 
 // 1 to 8, of the chart with this number.
-fn fault(chart: u32, head: Head, rows: &[u32]) -> Judged
-    ensures { told result ≡ fault chart (charted head rows.now) }
+fn fault(chart: u32, head: Head, rows: &[u32]) -> Result<(), Refusal>
+    ensures { result_err result ≡ fault chart (charted head rows.now) }
 {
     if faults::lacks(head, rows) {
-        return refused(chart, 1, 0);
+        return Err(Refusal::new(Reason::Lacking, chart, 0));
     }
     if faults::exceeds(head, rows) {
-        return refused(chart, 2, 0);
+        return Err(Refusal::new(Reason::Exceeding, chart, 0));
     }
     if faults::alarm_outside(head) {
-        return refused(chart, 3, 0);
+        return Err(Refusal::new(Reason::AlarmOutside, chart, 0));
     }
     rows_fault(chart, head, rows)
 }
 
 // The refusal that is due for a chart: 21, the caller's, for a table that is not whole rows, else the first fault, 1 to
 // 8, with its row.
-pub fn judge(head: Head, rows: &[u32]) -> Judged
-    ensures { told result ≡ refusal (charted head rows.now) }
+pub fn judge(head: Head, rows: &[u32]) -> Result<(), Refusal>
+    ensures { result_err result ≡ refusal (charted head rows.now) }
 {
     if !faults::whole(rows) {
-        return refused(0, 21, 0);
+        return Err(sole(Reason::WrongCall, 0));
     }
     fault(0, head, rows)
 }
@@ -89,27 +79,27 @@ pub fn judge(head: Head, rows: &[u32]) -> Judged
 // The refusal that is due for two charts: 21, where another length of the caller's is not the stated one, the edition
 // is neither 1 nor 2, or a table is not whole rows, else the old chart's first fault, with chart 0, else the new one's,
 // with chart 1.
-pub fn judged<'a>(lent: bool, heads: Heads, old_rows: &'a [u32], new_rows: &'a [u32]) -> Judged
-    ensures { told result ≡ judged lent (compared heads old_rows.now new_rows.now) }
+pub fn judged<'a>(
+    lent: bool,
+    heads: Heads,
+    old_rows: &'a [u32],
+    new_rows: &'a [u32],
+) -> Result<(), Refusal>
+    ensures { result_err result ≡ judged lent (compared heads old_rows.now new_rows.now) }
 {
     let named = faults::edition_named(heads.edition);
     if !(lent & (named & (faults::whole(old_rows) & faults::whole(new_rows)))) {
-        return refused(0, 21, 0);
+        return Err(sole(Reason::WrongCall, 0));
     }
-    match fault(0, heads.old.head(), old_rows) {
-        Judged::Refused(r) => Judged::Refused(r),
-        Judged::Faultless => fault(1, heads.new.head(), new_rows),
-    }
+    fault(0, heads.old.head(), old_rows)?;
+    fault(1, heads.new.head(), new_rows)
 }
 
 // Whether a chart is faultless and has the place.
 fn open_to(head: Head, rows: &[u32], place: u32) -> bool
     ensures { result ≡ open_to (charted head rows.now) place }
 {
-    match judge(head, rows) {
-        Judged::Faultless => place < head.places,
-        Judged::Refused(_) => false,
-    }
+    judge(head, rows).is_ok() & (place < head.places)
 }
 
 // The rows that leave a place of a chart, as a part of its table; an empty part where the chart is faulty or has no

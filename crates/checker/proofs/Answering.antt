@@ -1,6 +1,7 @@
 -- The refusal that is due, step by step, as the code comes upon it. Assumes nothing.
 use Rattle.std.proofs.Common.{◌≡◌, ℕ, Bool, true, false, List, sym, refl, ap, ◌∙◌}
-use mathlib.Core.Option.{Option, none, some, none-ne-some, some-injective}
+use Rattle.std.specs.Prelude.{Option, None, Some}
+use Rattle.std.proofs.lemmas.Option.{none-some, same_Some}
 use Rattle.base.specs.Options.{first_of}
 use Rattle.base.specs.declared.Refusal.{Refusal}
 use Rattle.base.specs.Refusals.{sole}
@@ -25,14 +26,14 @@ use Rattle.chart.specs.Compared.{Compared, heads_of}
 -- answers that say the same are the same
 pub told-one : (x y : Checked) → told x ≡ told y → x ≡ y
 told-one Passed Passed e = refl
-told-one Passed (Refused s) e = absurd (none-ne-some s e)
-told-one (Refused r) Passed e = absurd (none-ne-some r (sym e))
-told-one (Refused r) (Refused s) e = ap Refused (some-injective r s e)
+told-one Passed (Refused s) e = absurd (none-some s e)
+told-one (Refused r) Passed e = absurd (none-some r (sym e))
+told-one (Refused r) (Refused s) e = ap Refused (same_Some r s e)
 
 module _ (X : Compared) (R : Record) where
   -- ---- refusal 32
   module _ {b : Bool} (e : b ≡ bool (start_fits (heads_of X) R.start R.graph.marks)) where
-    pub start-broken : b ≡ false → some 8192 ≡ broken X R
+    pub start-broken : b ≡ false → Some 8192 ≡ broken X R
     unfolding broken
     start-broken u = rw (sym e ∙ u)
 
@@ -42,7 +43,7 @@ module _ (X : Compared) (R : Record) where
 
   -- ---- refusal 31
   module _ {b : Bool} (e : b ≡ bool (shaped (heads_of X) R.start R.graph.marks R.graph.targets)) where
-    pub shape_refused : b ≡ false → some (sole 31 0) ≡ record_fault X R
+    pub shape_refused : b ≡ false → Some (sole 31 0) ≡ record_fault X R
     unfolding record_fault
     shape_refused u = rw (sym e ∙ u) refl
 
@@ -67,12 +68,12 @@ module _ (X : Compared) (R : Record) where
     charts : o ≡ judged (bool (sized R.graph)) X
     charts = e ∙ ap (λ (b : Bool). judged b X) l
 
-    pub charts_refused : {r : Refusal} → o ≡ some r → some r ≡ refusal X R
+    pub charts_refused : {r : Refusal} → o ≡ Some r → Some r ≡ refusal X R
     unfolding refusal
     charts_refused q = rw (sym charts ∙ q)
 
-    module _ (q : o ≡ none) where
-      none-due : judged (bool (sized R.graph)) X ≡ none
+    module _ (q : o ≡ None) where
+      none-due : judged (bool (sized R.graph)) X ≡ None
       none-due = sym charts ∙ q
 
       pub accepted : FaultlessChart X.old × FaultlessChart X.new × Says (sized R.graph)
@@ -85,5 +86,5 @@ module _ (X : Compared) (R : Record) where
       record_judged h = rw none-due h
 
   -- ---- the answer with its promise
-  pub promised : {r : Option Refusal} → Words X.old.table → Words X.new.table → r ≡ refusal X R → (r ≡ refusal X R) × (r ≡ none → Promise X R)
+  pub promised : {r : Option Refusal} → Words X.old.table → Words X.new.table → r ≡ refusal X R → (r ≡ refusal X R) × (r ≡ None → Promise X R)
   promised ow nw e = (e, λ z. demand_3_first X ow nw R (sym e ∙ z))

@@ -1,6 +1,6 @@
 -- The refusals of the check fit: a position is at most 8,192. Assumes nothing.
 use Rattle.std.proofs.Common.{ℕ, ◌^◌, ◌<◌, Bool, true, false, not, ◌&&◌, eqb, List, arith}
-use mathlib.Core.Option.{Option, none, some}
+use Rattle.std.specs.Prelude.{Option, None, Some}
 use Rattle.base.specs.Options.{when, first_of}
 use Rattle.base.specs.Refusals.{due}
 use Rattle.base.specs.Says.{bool}
@@ -35,13 +35,13 @@ module _ (X : Compared) (G : Graph) where
   unfolding pair_fault
   pair-near m l = go (eqb (mark G m) 0)
     where
-      go : (b : Bool) → OnSome Near (elim b as (λ _. Option ℕ) [ true ↦ none | false ↦ rows_fault X G m (leaving X.new.table (new_of m).0) ])
+      go : (b : Bool) → OnSome Near (elim b as (λ _. Option ℕ) [ true ↦ None | false ↦ rows_fault X G m (leaving X.new.table (new_of m).0) ])
       go true = tt
       go false = rows-near m (leaving X.new.table (new_of m).0) l
 
 rule_fits : (o : Option ℕ) → OnSome Near o → OnSome Fits (rule_at o)
-rule_fits none h = tt
-rule_fits (some i) h = named_fits 32 0 i tt (omega arith) h
+rule_fits None h = tt
+rule_fits (Some i) h = named_fits 32 0 i tt (omega arith) h
 
 module _ (X : Compared) (R : Record) where
   broken-near : OnSome Near (broken X R)

@@ -1,7 +1,7 @@
 -- Demand 3, first half: a run of the new chart that reaches the new alarm and is covered by a record that the check
 -- passes has a run of the old chart from the same values that reaches the old alarm. Assumes nothing.
 use Rattle.std.proofs.Common.{◌≡◌, ℕ, ◌+◌, ◌*◌, ◌/◌, ◌%◌, ◌<◌, ◌≤◌, Bool, true, false, T, eqb, ◌≢◌, ◌⊎◌, List, [], ◌∷◌, sym, ◌∙◌, subst, subst₂, inl, inr, arith, eqb→eq}
-use mathlib.Core.Option.{Option, none, some}
+use Rattle.std.specs.Prelude.{Option, None, Some}
 use native.Mathlib.Decide.{ℕ_discrete}
 use Rattle.base.specs.Lists.{any}
 use Rattle.base.specs.Says.{Says, bool}
@@ -95,8 +95,8 @@ module _ (X : Compared) (old-words : Words X.old.table) (new-words : Words X.new
   -- a target that joins the step's pair
   joined_step : (q : NewPlace) (t : ℕ) {P : Spot → Type 0} (o : Option Spot) → OnSome P o → T (joins_step G.marks G.sets q t o) → (h : Spot) × Says (joins G.marks G.sets q t h) × P h
   unfolding joins_step
-  joined_step q t none h x = absurd x
-  joined_step q t (some s) h x = (s, says (joins G.marks G.sets q t s) x, h)
+  joined_step q t None h x = absurd x
+  joined_step q t (Some s) h x = (s, says (joins G.marks G.sets q t s) x, h)
 
   -- one row from a pair that is not at the old alarm
   module _ (m i : ℕ) (is : List ℕ) (w : List ℕ) (off : m / 64 ≢ X.old.head.alarm) (W : Values w)
@@ -161,7 +161,7 @@ module _ (X : Compared) (old-words : Words X.old.table) (new-words : Words X.new
       ]
 
 -- DEMAND 3, FIRST HALF
-pub demand_3_first : (X : Compared) → Words X.old.table → Words X.new.table → (R : Record) → refusal X R ≡ none → Promise X R
+pub demand_3_first : (X : Compared) → Words X.old.table → Words X.new.table → (R : Record) → refusal X R ≡ None → Promise X R
 unfolding start_fits covered Going Claim
 demand_3_first X ow nw R e v is W re c =
     let ok = passed X R e in

@@ -2,7 +2,7 @@
 -- 02, #101): two records that differ only in such targets are judged and followed alike. Assumes nothing.
 use Rattle.std.proofs.Common.{◌≡◌, ℕ, ◌<◌, Bool, true, false, not, ◌&&◌, eqb, List, [], ◌∷◌, length, get_or, sym, refl, ap, ◌∙◌, inl, inr, arith, le-ltb}
 use mathlib.Core.Logic.{dite}
-use mathlib.Core.Option.{Option, none}
+use Rattle.std.specs.Prelude.{Option, None}
 use native.Mathlib.Decide.{dec_lt}
 use Rattle.base.specs.Lists.{any}
 use Rattle.base.specs.Options.{when, or_else}
@@ -58,7 +58,7 @@ module _ (X : Compared) (s : ℕ) (marks sets ts ts' : List ℕ) where
     unfolding pair_fault rows_fault
     same-pair m l =
         let both : rows_fault X R.graph m (leaving X.new.table (new_of m).0) ≡ rows_fault X R'.graph m (leaving X.new.table (new_of m).0) = rw (same_target m 0 l (omega arith), same_target m 1 l (omega arith)) in
-        ap (λ (o : Option ℕ). elim (eqb (mark R.graph m) 0) as (λ _. Option ℕ) [ true ↦ none | false ↦ o ]) both
+        ap (λ (o : Option ℕ). elim (eqb (mark R.graph m) 0) as (λ _. Option ℕ) [ true ↦ None | false ↦ o ]) both
 
     same-broken : broken X R ≡ broken X R'
     unfolding broken

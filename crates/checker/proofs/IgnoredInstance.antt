@@ -2,7 +2,7 @@
 -- alarm, and one with a covered pair for a target there, which passes too and covers no more. Assumes nothing.
 use Rattle.std.proofs.Common.{◌≡◌, ℕ, zero, suc, ◌<◌, true, false, not, T, List, [], ◌∷◌, get_or, set, replicate, sym, refl, ap, ◌∙◌, subst, inl, inr, arith, get_or-set_other}
 use mathlib.Core.Logic.{dite}
-use mathlib.Core.Option.{none}
+use Rattle.std.specs.Prelude.{None}
 use native.Mathlib.Decide.{ℕ_discrete}
 use lib.ListN.{get_or-replicate}
 use Rattle.base.specs.Says.{Says, bool}
@@ -68,7 +68,7 @@ sized-so : Says (sized R.graph)
 unfolding marks targets
 sized-so = says (sized R.graph) tt
 
-none-due : faults.refusal C ≡ none
+none-due : faults.refusal C ≡ None
 unfolding faults.refusal options.first_of tests.some_below charts.rows_where charts.leaving faults.count_fault faults.alarm_fault faults.row_fault faults.clash faults.conflict_fault faults.rows_fault faults.fault operations.kind operations.operand_b operations.assigned_c operations.operand_c operations.operands_fit operations.reads operations.related operations.holds trials.seats trials.trial trials.shown trials.together
 none-due = refl
 
@@ -101,7 +101,7 @@ rules_so m k l h two can =
     nowhere : k < size (leaving C.table (new_of 65).0) → ⊥
     nowhere u = omega arith
 
-pub first_passes : refusal X R ≡ none
+pub first_passes : refusal X R ≡ None
 unfolding shaped marks_fit targets_fit start_fits marks
 first_passes =
     passes X R sized-so sound sound refl (inl refl, (marks-so, targets-so)) (inl (refl, (refl, inl (λ e. omega arith))))
@@ -121,7 +121,7 @@ others_so i l =
     dite (ℕ_discrete i 0) (λ a. rw a (inl (omega arith)))
     (λ a. subst (λ (x : ℕ). Says (target_fits x)) (sym (get_or-set_other targets 0 i 65 0 a)) (targets-so i l))
 
-pub second_passes : refusal X R' ≡ none
+pub second_passes : refusal X R' ≡ None
 unfolding targets_fit targets others
 second_passes = sym (ignored_by_check X 0 marks (replicate 4096 0) targets others alike refl targets-so others_so) ∙ first_passes
 

@@ -2,7 +2,7 @@
 -- is covered, so that there is an old run; one that is not covered; and a list of rows that is no run. Assumes nothing.
 use Rattle.std.proofs.Common.{◌≡◌, ℕ, zero, suc, ◌^◌, ◌<◌, Bool, true, false, ◌&&◌, T, ltb, ◌≢◌, ◌⊎◌, List, [], ◌∷◌, get_or, set, replicate, sym, refl, ◌∙◌, subst, inl, inr, arith, ltb→lt, get_or-set_other}
 use mathlib.Core.Logic.{dite}
-use mathlib.Core.Option.{none}
+use Rattle.std.specs.Prelude.{None}
 use native.Mathlib.Decide.{ℕ_discrete}
 use lib.ListN.{get_or-replicate}
 use Rattle.base.specs.Says.{Says, bool}
@@ -77,7 +77,7 @@ sized-so : Says (sized R.graph)
 unfolding marks targets
 sized-so = says (sized R.graph) tt
 
-none-due : faults.refusal C ≡ none
+none-due : faults.refusal C ≡ None
 unfolding faults.refusal options.first_of tests.some_below charts.rows_where charts.leaving faults.count_fault faults.alarm_fault faults.row_fault faults.clash faults.conflict_fault faults.rows_fault faults.fault operations.kind operations.operand_b operations.assigned_c operations.operand_c operations.operands_fit operations.reads operations.related operations.holds trials.seats trials.trial trials.shown trials.together
 none-due = refl
 
@@ -124,7 +124,7 @@ rules_so m k l h two there =
     nowhere : k < size (leaving C.table (new_of 65).0) → ⊥
     nowhere u = omega arith
 
-pub instance_passes : refusal X R ≡ none
+pub instance_passes : refusal X R ≡ None
 unfolding shaped marks_fit targets_fit start_fits marks
 instance_passes =
     passes X R sized-so sound sound refl (inl refl, (marks-so, targets-so)) (inl (refl, (refl, inl (λ e. omega arith))))
@@ -183,6 +183,6 @@ unfolding marks targets charts.rows_where charts.leaving operations.kind operati
 not_covered = refl
 
 -- row 1 cannot be taken from zeros: the list is no run
-pub no_run : run C (begin C zeros) (1 ∷ []) ≡ none
+pub no_run : run C (begin C zeros) (1 ∷ []) ≡ None
 unfolding zeros ones operations.kind operations.value operations.related operations.holds runs.lets runs.after runs.ready runs.run runs.alarmed runs.reaches
 no_run = refl

@@ -1,6 +1,6 @@
 -- What a record is known by for which no refusal is due. Assumes nothing.
 use Rattle.std.proofs.Common.{◌≡◌, ℕ, zero, suc, ◌<◌, true, not, ◌≢◌, List, refl, arith, ne_eqb}
-use mathlib.Core.Option.{Option, none, some}
+use Rattle.std.specs.Prelude.{Option, None, Some}
 use native.Mathlib.Decide.{dec_lt}
 use borrow.Author.Tests.{not-false}
 use lib.ListN.{get_or-eq_default}
@@ -28,22 +28,22 @@ pub record Passed (X : Compared) (R : Record) : Type 0 where
   pub rules : (m k : ℕ) → m < 4096 → mark R.graph m ≢ 0 → k < 2 → can_be_taken (leaving X.new.table (new_of m).0) k ≡ true
       → Says (row_fits X R.graph m (leaving X.new.table (new_of m).0) k)
 
-no_rule : (o : Option ℕ) → rule_at o ≡ none → o ≡ none
-no_rule none e = refl
-no_rule (some i) e = let z : ◌≡◌ {A = ℕ} 0 1 = cc in absurd (omega arith)
+no_rule : (o : Option ℕ) → rule_at o ≡ None → o ≡ None
+no_rule None e = refl
+no_rule (Some i) e = let z : ◌≡◌ {A = ℕ} 0 1 = cc in absurd (omega arith)
 
 -- a test whose failure is not due has passed
-passed_test : {A : Type 0} (t : Test) (r : A) → when (not (bool t)) r ≡ none → Says t
+passed_test : {A : Type 0} (t : Test) (r : A) → when (not (bool t)) r ≡ None → Says t
 passed_test t r e = says t (T_true (not-false (bool t) (not_due (not (bool t)) r e)))
 
-module _ (X : Compared) (R : Record) (e : refusal X R ≡ none) where
+module _ (X : Compared) (R : Record) (e : refusal X R ≡ None) where
   abbrev shape : Test
   shape = shaped (heads_of X) R.start R.graph.marks R.graph.targets
 
   abbrev begins : Test
   begins = start_fits (heads_of X) R.start R.graph.marks
 
-  judged_parts : (judged (bool (sized R.graph)) X ≡ none) × (record_fault X R ≡ none)
+  judged_parts : (judged (bool (sized R.graph)) X ≡ None) × (record_fault X R ≡ None)
   unfolding refusal
   judged_parts = both-missing (judged (bool (sized R.graph)) X) (record_fault X R) e
 
@@ -53,7 +53,7 @@ module _ (X : Compared) (R : Record) (e : refusal X R ≡ none) where
   pub lengths : Says (sized R.graph)
   lengths = says (sized R.graph) (T_true charts.0)
 
-  parts : Says shape × Says begins × (first_of 4096 (pair_fault X R.graph) ≡ none)
+  parts : Says shape × Says begins × (first_of 4096 (pair_fault X R.graph) ≡ None)
   unfolding record_fault rule_fault broken
   parts =
       let a = both-missing _ (rule_fault X R) judged_parts.1 in
@@ -64,13 +64,13 @@ module _ (X : Compared) (R : Record) (e : refusal X R ≡ none) where
   below_end : (n : ℕ) → mark R.graph n ≢ 0 → n < 4160
   below_end n h = elim (dec_lt n 4160) [ yes l ↦ l | no l ↦ absurd (h (get_or-eq_default R.graph.marks 0 {n = n} (omega (arith, lengths.0)))) ]
 
-  target_passed : (m k : ℕ) (rows : List ℕ) → can_be_taken rows k ≡ true → target_fault X R.graph m rows k ≡ none → Says (row_fits X R.graph m rows k)
+  target_passed : (m k : ℕ) (rows : List ℕ) → can_be_taken rows k ≡ true → target_fault X R.graph m rows k ≡ None → Says (row_fits X R.graph m rows k)
   unfolding target_fault
   target_passed m k rows l t = says (row_fits X R.graph m rows k) (T_true (not_both (can_be_taken rows k) (bool (row_fits X R.graph m rows k)) (not_due _ _ t) l))
 
-  pair_passed : (m : ℕ) → m < 4096 → mark R.graph m ≢ 0 → rows_fault X R.graph m (leaving X.new.table (new_of m).0) ≡ none
+  pair_passed : (m : ℕ) → m < 4096 → mark R.graph m ≢ 0 → rows_fault X R.graph m (leaving X.new.table (new_of m).0) ≡ None
   unfolding pair_fault
-  pair_passed m l n = let t : pair_fault X R.graph m ≡ none = none_of (pair_fault X R.graph) 4096 m parts.2 l in rw (ne_eqb (mark R.graph m) 0 n, pair_fault) at t
+  pair_passed m l n = let t : pair_fault X R.graph m ≡ None = none_of (pair_fault X R.graph) 4096 m parts.2 l in rw (ne_eqb (mark R.graph m) 0 n, pair_fault) at t
 
   row_passed : (m k : ℕ) → m < 4096 → mark R.graph m ≢ 0 → k < 2 → can_be_taken (leaving X.new.table (new_of m).0) k ≡ true → Says (row_fits X R.graph m (leaving X.new.table (new_of m).0) k)
   unfolding rows_fault

@@ -1,7 +1,7 @@
 -- A record of which every part is as the check asks is passed. Assumes nothing.
 use Rattle.std.proofs.Common.{◌≡◌, ℕ, ◌<◌, Bool, true, false, not, ◌&&◌, ◌≢◌, refl, arith, eq-eqb, ne_eqb}
 use mathlib.Core.Logic.{dite}
-use mathlib.Core.Option.{none}
+use Rattle.std.specs.Prelude.{None}
 use native.Mathlib.Decide.{ℕ_discrete}
 use Rattle.base.specs.Options.{when}
 use Rattle.base.specs.Says.{Test, bool, Says}
@@ -28,18 +28,18 @@ Rules X G =
     → Says (row_fits X G m (leaving X.new.table (new_of m).0) k)
 
 module _ (X : Compared) (G : Graph) (rules : Rules X G) where
-  row_off : (m k : ℕ) → m < 4096 → mark G m ≢ 0 → k < 2 → target_fault X G m (leaving X.new.table (new_of m).0) k ≡ none
+  row_off : (m k : ℕ) → m < 4096 → mark G m ≢ 0 → k < 2 → target_fault X G m (leaving X.new.table (new_of m).0) k ≡ None
   unfolding target_fault
   row_off m k b p c = go (can_be_taken (leaving X.new.table (new_of m).0) k) refl
     where
       fits : Test
       fits = row_fits X G m (leaving X.new.table (new_of m).0) k
 
-      go : (t : Bool) → can_be_taken (leaving X.new.table (new_of m).0) k ≡ t → when (t && not (bool fits)) (index m k) ≡ none
+      go : (t : Bool) → can_be_taken (leaving X.new.table (new_of m).0) k ≡ t → when (t && not (bool fits)) (index m k) ≡ None
       go true e = rw (met fits (rules m k b p c e))
       go false e = refl
 
-  pair_off : (m : ℕ) → m < 4096 → pair_fault X G m ≡ none
+  pair_off : (m : ℕ) → m < 4096 → pair_fault X G m ≡ None
   unfolding pair_fault rows_fault
   pair_off m b =
       dite (ℕ_discrete (mark G m) 0) (λ e. rw (eq-eqb (mark G m) 0 e, pair_fault))
@@ -50,7 +50,7 @@ module _ (X : Compared) (R : Record) where
       → Says (shaped (heads_of X) R.start R.graph.marks R.graph.targets)
       → Says (start_fits (heads_of X) R.start R.graph.marks)
       → Rules X R.graph
-      → refusal X R ≡ none
+      → refusal X R ≡ None
   unfolding refusal record_fault rule_fault broken
   passes z F H n sh st rules =
       rw (

@@ -1,6 +1,6 @@
 -- The rules for a target, test by test, as the code comes upon them. Assumes nothing.
 use Rattle.std.proofs.Common.{◌≡◌, ℕ, ◌/◌, ◌%◌, ◌<◌, ◌≤◌, Bool, true, false, not, eqb, List, get_or, sym, refl, ap, ◌∙◌, subst, inl, inr, arith, le-ltb, lt-ltb, eq-eqb, ne_eqb}
-use mathlib.Core.Option.{Option, none, some}
+use Rattle.std.specs.Prelude.{Option, None, Some}
 use native.Mathlib.Decide.{ℕ_discrete, dec_lt}
 use Rattle.base.specs.Options.{missing, first_of}
 use Rattle.base.specs.Says.{bool, Says}
@@ -59,14 +59,14 @@ pub rests-none : (marks : List ℕ) (q : NewPlace) (t : ℕ) → t ≡ 65535 →
 unfolding rests_at
 rests-none marks q t e = rw (eq-eqb t 65535 e)
 
-module _ (marks : List ℕ) (q : NewPlace) (t : ℕ) {k : Bool} (some : t ≡ 65535 → ⊥) (e : k ≡ bool (keeps marks q t)) where
+module _ (marks : List ℕ) (q : NewPlace) (t : ℕ) {k : Bool} (Some : t ≡ 65535 → ⊥) (e : k ≡ bool (keeps marks q t)) where
   pub rests-kept : k ≡ true → true ≡ bool (rests_at marks q t)
   unfolding rests_at
-  rests-kept u = rw (ne_eqb t 65535 some, sym e ∙ u)
+  rests-kept u = rw (ne_eqb t 65535 Some, sym e ∙ u)
 
   pub rests_nowhere : k ≡ false → 4096 ≤ t → false ≡ bool (rests_at marks q t)
   unfolding rests_at
-  rests_nowhere u l = rw (ne_eqb t 65535 some, sym e ∙ u, le-ltb t 4096 l)
+  rests_nowhere u l = rw (ne_eqb t 65535 Some, sym e ∙ u, le-ltb t 4096 l)
 
   -- the target is a pair of q exactly if its new place is q
   module _ {p : NewPlace} {a : Bool} (u : k ≡ false) (l : t < 4096) (f : p ≡ new_of t) (g : a ≡ eqb p.0 q.0) where
@@ -75,25 +75,25 @@ module _ (marks : List ℕ) (q : NewPlace) (t : ℕ) {k : Bool} (some : t ≡ 65
 
     pub rests_elsewhere : a ≡ false → false ≡ bool (rests_at marks q t)
     unfolding rests_at
-    rests_elsewhere v = rw (ne_eqb t 65535 some, sym e ∙ u, lt-ltb t 4096 l, of_q ∙ v)
+    rests_elsewhere v = rw (ne_eqb t 65535 Some, sym e ∙ u, lt-ltb t 4096 l, of_q ∙ v)
 
     pub rests_present : {r : Bool} → a ≡ true → r ≡ not (eqb (get_or marks t 0) 0) → r ≡ bool (rests_at marks q t)
     unfolding rests_at
-    rests_present v h = rw (ne_eqb t 65535 some, sym e ∙ u, lt-ltb t 4096 l, of_q ∙ v) h
+    rests_present v h = rw (ne_eqb t 65535 Some, sym e ∙ u, lt-ltb t 4096 l, of_q ∙ v) h
 
 -- ---- marks in order
 pub ranked-none : (marks : List ℕ) (m t : ℕ) → t ≡ 65535 → true ≡ bool (ranked marks m t)
 unfolding ranked
 ranked-none marks m t e = rw (eq-eqb t 65535 e)
 
-module _ (marks : List ℕ) (m t : ℕ) {r : Bool} (some : t ≡ 65535 → ⊥) where
+module _ (marks : List ℕ) (m t : ℕ) {r : Bool} (Some : t ≡ 65535 → ⊥) where
   pub ranked_open : get_or marks m 0 ≡ 1 → r ≡ within 1 3 (get_or marks t 0) → r ≡ bool (ranked marks m t)
   unfolding ranked
-  ranked_open e h = h ∙ sym (rw (ne_eqb t 65535 some, eq-eqb (get_or marks m 0) 1 e) (or_none (within 1 3 (get_or marks t 0))))
+  ranked_open e h = h ∙ sym (rw (ne_eqb t 65535 Some, eq-eqb (get_or marks m 0) 1 e) (or_none (within 1 3 (get_or marks t 0))))
 
   pub ranked-covered : (get_or marks m 0 ≡ 1 → ⊥) → r ≡ within 3 4 (get_or marks t 0) → r ≡ bool (ranked marks m t)
   unfolding ranked
-  ranked-covered e h = rw (ne_eqb t 65535 some, ne_eqb (get_or marks m 0) 1 e) h
+  ranked-covered e h = rw (ne_eqb t 65535 Some, ne_eqb (get_or marks m 0) 1 e) h
 
 -- ---- the aligned step
 -- a row of the part that leaves a new place
@@ -112,14 +112,14 @@ module _ (X : Compared) (G : Graph) (m : ℕ) (o : Operation) (x t : ℕ) {p : O
   same_step : a ≡ step X (spot G m) o (record { 0 = x })
   same_step = s ∙ ap (λ (p : OldPlace). step X (record { place = p; set = set_at G m }) o (record { 0 = x })) e
 
-  pub stepped_below : (h : Spot) → FaultlessChart X.old → m < 4096 → a ≡ some h → h.place.0 < 64
+  pub stepped_below : (h : Spot) → FaultlessChart X.old → m < 4096 → a ≡ Some h → h.place.0 < 64
   stepped_below h F l z = on_at _ (step-below X F (spot G m) o (record { 0 = x }) (omega arith)) (sym same_step ∙ z)
 
-  pub joins_failed : a ≡ none → false ≡ joins_step G.marks G.sets (record { 0 = x }) t (step X (spot G m) o (record { 0 = x }))
+  pub joins_failed : a ≡ None → false ≡ joins_step G.marks G.sets (record { 0 = x }) t (step X (spot G m) o (record { 0 = x }))
   unfolding joins_step
   joins_failed z = ap (joins_step G.marks G.sets (record { 0 = x }) t) (sym (sym same_step ∙ z))
 
-  pub joins_stepped : (h : Spot) {q : NewPlace} {r : Bool} → a ≡ some h → q.0 ≡ x → r ≡ bool (joins G.marks G.sets q t h)
+  pub joins_stepped : (h : Spot) {q : NewPlace} {r : Bool} → a ≡ Some h → q.0 ≡ x → r ≡ bool (joins G.marks G.sets q t h)
       → r ≡ joins_step G.marks G.sets (record { 0 = x }) t (step X (spot G m) o (record { 0 = x }))
   unfolding joins_step
   joins_stepped h {q} z w k =
@@ -160,16 +160,16 @@ module _ (X : Compared) (G : Graph) (m : ℕ) (rows : List ℕ) (k : ℕ) {l : B
 
 -- ---- the fault of a target and of a pair
 module _ (X : Compared) (G : Graph) (m : ℕ) (rows : List ℕ) (k : ℕ) where
-  pub not_asked : can_be_taken rows k ≡ false → none ≡ target_fault X G m rows k
+  pub not_asked : can_be_taken rows k ≡ false → None ≡ target_fault X G m rows k
   unfolding target_fault
   not_asked n = rw n
 
   module _ {r : Bool} (e : r ≡ bool (row_fits X G m rows k)) where
-    pub row_fine : r ≡ true → none ≡ target_fault X G m rows k
+    pub row_fine : r ≡ true → None ≡ target_fault X G m rows k
     unfolding target_fault
     row_fine u = rw (sym e ∙ u, and_false (can_be_taken rows k))
 
-    pub row_fails : r ≡ false → can_be_taken rows k ≡ true → some (index m k) ≡ target_fault X G m rows k
+    pub row_fails : r ≡ false → can_be_taken rows k ≡ true → Some (index m k) ≡ target_fault X G m rows k
     unfolding target_fault
     row_fails u c = rw (c, sym e ∙ u)
 
@@ -177,16 +177,16 @@ pub part_of : (t : List ℕ) (m : ℕ) {q : NewPlace} {rows : List ℕ} → q �
 part_of t m e h = h ∙ ap (λ (q : NewPlace). leaving t q.0) e
 
 module _ (X : Compared) (G : Graph) (m : ℕ) where
-  pub absent : mark G m ≡ 0 → none ≡ pair_fault X G m
+  pub absent : mark G m ≡ 0 → None ≡ pair_fault X G m
   unfolding pair_fault
-  absent e = sym (pick_true (eqb (mark G m) 0) none (rows_fault X G m (leaving X.new.table (new_of m).0)) (eq-eqb (mark G m) 0 e))
+  absent e = sym (pick_true (eqb (mark G m) 0) None (rows_fault X G m (leaving X.new.table (new_of m).0)) (eq-eqb (mark G m) 0 e))
 
   pub present : {q : NewPlace} {rows : List ℕ} {r : Option ℕ} → (mark G m ≡ 0 → ⊥) → q ≡ new_of m → rows ≡ leaving X.new.table q.0
       → r ≡ rows_fault X G m rows → r ≡ pair_fault X G m
   unfolding pair_fault
   present n e h f =
       f ∙ ap (rows_fault X G m) (part_of X.new.table m e h)
-      ∙ sym (pick_false (eqb (mark G m) 0) none (rows_fault X G m (leaving X.new.table (new_of m).0)) (ne_eqb (mark G m) 0 n))
+      ∙ sym (pick_false (eqb (mark G m) 0) None (rows_fault X G m (leaving X.new.table (new_of m).0)) (ne_eqb (mark G m) 0 n))
 
 pub node-below : (t : ℕ) → Says (target_fits t) → (t ≡ 65535 → ⊥) → t < 4160
 node-below t (inl l) n = l
@@ -198,11 +198,11 @@ unfolding first_of rows_fault
 both-rows X G m rows = refl
 
 -- the walk over the pairs: one that has no fault, and absent ones after it
-pub passed_over : (X : Compared) (G : Graph) (m r : ℕ) {o : Option ℕ} → first_of m (pair_fault X G) ≡ none → o ≡ pair_fault X G m
-    → missing o ≡ true → ((i : ℕ) → m < i → i < r → mark G i ≡ 0) → first_of r (pair_fault X G) ≡ none
+pub passed_over : (X : Compared) (G : Graph) (m r : ℕ) {o : Option ℕ} → first_of m (pair_fault X G) ≡ None → o ≡ pair_fault X G m
+    → missing o ≡ true → ((i : ℕ) → m < i → i < r → mark G i ≡ 0) → first_of r (pair_fault X G) ≡ None
 passed_over X G m r {o} e h t a = none_everywhere (pair_fault X G) r (λ i l. go i l (dec_lt i m) (ℕ_discrete i m))
   where
-    go : (i : ℕ) → i < r → Dec (i < m) → Dec (i ≡ m) → pair_fault X G i ≡ none
+    go : (i : ℕ) → i < r → Dec (i < m) → Dec (i ≡ m) → pair_fault X G i ≡ None
     go i l (yes u) d = none_of (pair_fault X G) m i e u
     go i l (no n) (yes q) = rw q (sym h ∙ missing-none o t)
     go i l (no n) (no d) = sym (absent X G i (a i (omega arith) l))

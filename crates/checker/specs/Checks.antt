@@ -1,6 +1,5 @@
 -- What the check answers ("The checker", "Who can cause a refusal").
-use Rattle.std.specs.Prelude.{ℕ, true, false, not, ◌&&◌, List, length, ◌==◌}
-use Rattle.std.proofs.Math.Option.{Option, none, some}
+use Rattle.std.specs.Prelude.{ℕ, true, false, not, ◌&&◌, List, length, ◌==◌, Option, None, Some}
 use Rattle.base.specs.Options.{when, or_else, first_of}
 use Rattle.base.specs.declared.Refusal.{Refusal}
 use Rattle.base.specs.Refusals.{sole, due}
@@ -16,8 +15,8 @@ use Rattle.checker.specs.Rules.{shaped, start_fits, row_fits}
 
 -- what the code's answer says, "for each of the enum's cases"
 abbrev pub told : Checked → Option Refusal
-told Passed = none
-told (Refused r) = some r
+told Passed = None
+told (Refused r) = Some r
 
 -- "marks (4,160 bytes), targets (8,192 u16, [..]), sets (4,096 u64, [..])": the stated lengths of a record
 abbrev pub sized : Graph → Test
@@ -25,8 +24,8 @@ sized G = eq (length G.marks) 4160 and eq (length G.targets) 8192 and eq (length
 
 -- refusal 32, where a position is given: "32, a rule fails; position [..]"
 abbrev pub rule_at : Option ℕ → Option Refusal
-rule_at none = none
-rule_at (some i) = some (sole 32 i)
+rule_at None = None
+rule_at (Some i) = Some (sole 32 i)
 
 module _ (X : Compared) (G : Graph) where
   -- the index of the target of row k of the pair's new place, if it is at fault. "Targets without a row aren't looked
@@ -40,7 +39,7 @@ module _ (X : Compared) (G : Graph) where
 
   -- "For each present pair"
   unfoldable pub pair_fault : ℕ → Option ℕ
-  pair_fault m = elim (mark G m == 0) [ true ↦ none | false ↦ rows_fault m (leaving X.new.table (new_of m).0) ]
+  pair_fault m = elim (mark G m == 0) [ true ↦ None | false ↦ rows_fault m (leaving X.new.table (new_of m).0) ]
 
 module _ (X : Compared) (R : Record) where
   -- "position 8,192 for the start, else the lowest target index at fault"

@@ -1,7 +1,6 @@
 -- What a record must be like: its shape (refusal 31) and the rules of refusal 32 ("The checker", "Who can cause a
 -- refusal").
-use Rattle.std.specs.Prelude.{ℕ, Bool, false, List, slice_index}
-use Rattle.std.proofs.Math.Option.{Option, none, some}
+use Rattle.std.specs.Prelude.{ℕ, Bool, false, List, slice_index, Option, None, Some}
 use Rattle.base.specs.Says.{Test, eq, ne, le, so, ◌and◌, ◌or◌, each, below, bool}
 use Rattle.operations.specs.declared.Operation.{Operation}
 use Rattle.chart.specs.declared.charts.Heads.{Heads}
@@ -67,8 +66,8 @@ joins marks sets q t h =
 
 -- "the pair that the aligned step under its set gives": a failed step gives no pair
 unfoldable pub joins_step : List ℕ → List ℕ → NewPlace → ℕ → Option Spot → Bool
-joins_step marks sets q t none = false
-joins_step marks sets q t (some h) = bool (joins marks sets q t h)
+joins_step marks sets q t None = false
+joins_step marks sets q t (Some h) = bool (joins marks sets q t h)
 
 -- "For each present pair at the old alarm, and each of its rows q→q2, the target is 65535, or kept q2, marked 2, or a
 -- present pair with new place q2."

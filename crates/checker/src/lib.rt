@@ -3,8 +3,7 @@
 // right.
 #![tactic(auto)]
 
-ghost use Rattle.std.specs.Prelude.{◌≡◌};
-ghost use Rattle.std.proofs.Math.Option.{none, some};
+ghost use Rattle.std.specs.Prelude.{◌≡◌, None, Some};
 ghost use Rattle.base.specs.Refusals.{sole};
 ghost use Rattle.base.specs.Says.{Says};
 ghost use Rattle.chart.specs.Compared.{compared};
@@ -26,7 +25,7 @@ pub mod inner; // inner.rt: for the crates above
 
 // The refusal with this number and position, of no chart that could be named.
 fn refused(number: u32, position: usize) -> Checked
-    ensures { told result ≡ some (sole number position) }
+    ensures { told result ≡ Some (sole number position) }
 {
     Checked::Refused(sole(number, position))
 }
@@ -74,7 +73,7 @@ pub fn check<'a>(
     ensures is { told result
         ≡ refusal (compared heads old_rows.now new_rows.now)
         (record_of start marks.now targets.now sets.now) }
-    ensures promise { told result ≡ none
+    ensures promise { told result ≡ None
         → Promise (compared heads old_rows.now new_rows.now)
         (record_of start marks.now targets.now sets.now) }
 {

@@ -2,7 +2,7 @@
 use mathlib.Core.Path.{◌≡◌, ap, subst}
 use mathlib.Core.Bool.{true, false}
 use mathlib.Core.Logic.{◌≢◌, ◌⊎◌, ⊎_elim, dite}
-use mathlib.Core.Option.{some}
+use Rattle.std.specs.Prelude.{Some}
 use Prim.Native.Nat.{ℕ, ◌+◌, ◌<◌}
 use native.Mathlib.Omega.{arith}
 use native.Mathlib.Decide.{ℕ_discrete}
@@ -36,7 +36,7 @@ module _ (X : Compared) (F : FaultlessChart X.old) (H : FaultlessChart X.new) (j
   pub record Leads (i r : ℕ) : Type 0 where
     pub to-kept : mark (left X F H joint) (kept_number (leads_to X.new i r)) ≡ 2 → target (left X F H joint) i r ≡ kept_number (leads_to X.new i r)
     pub to-pair : (mark (left X F H joint) (kept_number (leads_to X.new i r)) ≡ 2 → ⊥)
-        → (h : Spot) × (step_of X i (set_at (explored X) i) r ≡ some h) × (target (left X F H joint) i r ≡ pair_number h.place (leads_to X.new i r))
+        → (h : Spot) × (step_of X i (set_at (explored X) i) r ≡ Some h) × (target (left X F H joint) i r ≡ pair_number h.place (leads_to X.new i r))
 
   pub row-leads : (i r : ℕ) → i < 4096 → mark (left X F H joint) i ≢ 0 → ((old_of i).0 ≡ X.old.head.alarm → ⊥) → r < 2 → can_be_taken (rows_of X.new i) r ≡ true → Leads i r
   row-leads i r b p n c a =

@@ -1,7 +1,7 @@
 -- The loop of a build's turns, in the form in which the code meets it. Assumes nothing.
 use mathlib.Core.Path.{◌≡◌, refl, sym, ap, ◌∙◌}
 use mathlib.Core.List.{List}
-use mathlib.Core.Option.{some}
+use Rattle.std.specs.Prelude.{Some}
 use Prim.Native.Nat.{ℕ, ◌^◌, ◌<◌}
 use native.Mathlib.Omega.{arith}
 use lib.ListN.{length, set, replicate}
@@ -96,7 +96,7 @@ module _ (X : Compared) {g : Buffers} {waits seen : List ℕ} (B : Building X g 
   build_tracks L = record { lists = L; covers = B.tracks.covers }
 
   module _ {f : Found} {waits₁ : List ℕ} (e : (told_found f ≡ lowest g.waiting) × Lists waits₁ g.waiting) where
-    found : {n : ℕ} → f ≡ founds.At n → next g ≡ some n
+    found : {n : ℕ} → f ≡ founds.At n → next g ≡ Some n
     unfolding next
     found a = sym e.0 ∙ ap told_found a
 

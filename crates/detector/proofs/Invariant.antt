@@ -5,7 +5,7 @@ use mathlib.Core.Path.{◌≡◌, refl, sym, ap, subst, ◌∙◌}
 use mathlib.Core.Bool.{Bool, true, false}
 use mathlib.Core.Logic.{◌⊎◌, inl, inr, ⊎_elim}
 use mathlib.Core.List.{List}
-use mathlib.Core.Option.{some}
+use Rattle.std.specs.Prelude.{Some}
 use Prim.Native.Nat.{ℕ, suc, ◌/◌, ◌%◌, ◌^◌, ◌≤◌, ◌<◌}
 use native.Mathlib.Omega.{arith}
 use native.Mathlib.Decide.{ℕ_discrete}
@@ -60,7 +60,7 @@ module _ (X : Compared) where
   -- or the pair that the step under the present set gives, whose set holds the step's
   pub record ToStep (m s : List ℕ) (n r t : ℕ) : Type 0 where
     pub spot : Spot
-    pub step : step_of X n (get_or s n 0) r ≡ some spot
+    pub step : step_of X n (get_or s n 0) r ≡ Some spot
     pub is : t ≡ pair_number spot.place (leads_to X.new n r)
     pub pair : ToPair m n r t
     pub small : spot.set < 2 ^ 64
@@ -391,7 +391,7 @@ module _ (X : Compared) (F : FaultlessChart X.old) (G : FaultlessChart X.new) wh
         aim_inv g n r (kept_number (leads_to X.new n r)) l c a (omega (arith, leads_64 n r a)) (inr (inl K)) (λ p z q. inl K) I)
         (λ a h e f. arrives a h e f (step_of_fits X F G n v r a X.old.head.places (omega arith) lo w h e))
       where
-        arrives : can_be_taken (rows_of X.new n) r ≡ true → (h : Spot) → step_of X n v r ≡ some h → mark_at g (kept_number (leads_to X.new n r)) ≡ 0 → Fits X.old.head.places h
+        arrives : can_be_taken (rows_of X.new n) r ≡ true → (h : Spot) → step_of X n v r ≡ Some h → mark_at g (kept_number (leads_to X.new n r)) ≡ 0 → Fits X.old.head.places h
             → Inv X (Hand n (suc r)) (aim (join X.old.head.alarm g (pair_number h.place (leads_to X.new n r)) h.set) n r (pair_number h.place (leads_to X.new n r)))
         arrives a h e f T =
             aim_inv (join X.old.head.alarm g m h.set) n r m l c a (omega (arith, below)) (inr (inr pair)) (λ p z q. inr (stepped p z q (ℕ_discrete n m)))
@@ -455,7 +455,7 @@ module _ (X : Compared) (F : FaultlessChart X.old) (G : FaultlessChart X.new) wh
       still i b p (yes e) = absurd (omega (arith, rw e at p, get_or-set_same g.waiting n 0 0 (omega (arith, I.shaped.sized.waiting))))
       still i b p (no e) = I.waiters i b (omega (arith, get_or-set_other g.waiting n i 0 0 e))
 
-  pub turn_inv : (g : Buffers) (n : ℕ) → Inv X Every g → next g ≡ some n → Inv X Every (taken X g n)
+  pub turn_inv : (g : Buffers) (n : ℕ) → Inv X Every g → next g ≡ Some n → Inv X Every (taken X g n)
   unfolding taken second_done unwait
   turn_inv g n I e =
       let L = next-waits g n e in

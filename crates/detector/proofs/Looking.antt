@@ -3,7 +3,7 @@ use mathlib.Core.Path.{◌≡◌, refl, sym, ap, subst, ◌∙◌}
 use mathlib.Core.Bool.{not}
 use mathlib.Core.Logic.{dite}
 use mathlib.Core.List.{List}
-use mathlib.Core.Option.{none, some}
+use Rattle.std.specs.Prelude.{None, Some}
 use Prim.Native.Nat.{ℕ, zero, suc, ◌+◌, ◌*◌, ◌/◌, ◌%◌, ◌≤◌, ◌<◌}
 use native.Mathlib.Numerals.{add-one}
 use native.Mathlib.Decide.{ℕ_discrete, dec_lt}
@@ -76,7 +76,7 @@ module _ (w : List ℕ) (p : ℕ) where
 
   -- the lowest bit waits: it is the lowest pair that does. Below it none has a bit
   pub word_found : {x q : ℕ} → Word x → LowestFrom x 0 q × (q < 64) → (get_or w (64 * p + q) 0 ≡ 0 → ⊥)
-      → LowestOf w p (some (64 * p + q))
+      → LowestOf w p (Some (64 * p + q))
   word_found {x} {q} H (M, b) s = (omega arith, omega arith, below)
     where
       below : (i : ℕ) → 64 * p ≤ i → i < 64 * p + q → get_or w i 0 ≡ 0
@@ -87,7 +87,7 @@ module _ (w : List ℕ) (p : ℕ) where
   pub word_none : {x : ℕ} → Word x → x ≡ 0 → Word 0
   word_none H e = rw e at H
 
-  pub word_empty : {x : ℕ} → Word x → x ≡ 0 → LowestOf w p none
+  pub word_empty : {x : ℕ} → Word x → x ≡ 0 → LowestOf w p None
   word_empty {x} H e i c d =
       let z : i ≡ 64 * p + i % 64 = omega arith in
       rw z (lacks H (i % 64) (omega arith) (ap (λ (y : ℕ). bit y (i % 64)) e ∙ bit-none (i % 64)))
@@ -102,7 +102,7 @@ module _ (w : List ℕ) (long : length w ≡ 4096) where
       look_from k (omega arith) (λ i b. h i (omega arith))
       ∙ (skip_at (λ k x. not (eqb x 0)) w k (omega arith) (rw (eq-eqb (get_or w k 0) 0 (h k (omega arith)))) ∙ rw (add-one k) refl)
 
-  lowest-is : (n : ℕ) → n < 4096 → 0 < get_or w n 0 → ((i : ℕ) → i < n → get_or w i 0 ≡ 0) → some n ≡ lowest w
+  lowest-is : (n : ℕ) → n < 4096 → 0 < get_or w n 0 → ((i : ℕ) → i < n → get_or w i 0 ≡ 0) → Some n ≡ lowest w
   lowest-is n b s h =
       sym (look_from n (omega arith) h
       ∙ stop_at (λ k x. not (eqb x 0)) w n (omega arith) (rw (ne_eqb (get_or w n 0) 0 (λ e. omega arith))))
@@ -112,7 +112,7 @@ module _ (w : List ℕ) (long : length w ≡ 4096) where
     idle : (i : ℕ) → i < 4096 → bit (get_or l 64 0) (i / 64) ≡ 0 → get_or w i 0 ≡ 0
     idle i b e = dite (ℕ_discrete (get_or w i 0) 0) (λ z. z) (λ z. absurd (omega (arith, e, (L.each i b (omega arith)).1)))
 
-    pub look_end : get_or l 64 0 ≡ 0 → none ≡ lowest w
+    pub look_end : get_or l 64 0 ≡ 0 → None ≡ lowest w
     look_end e =
         sym (look_from 4096 (omega arith) (λ i b. idle i b (ap (λ (x : ℕ). bit x (i / 64)) e ∙ bit-none (i / 64)))
         ∙ end_at (λ k x. not (eqb x 0)) w 4096 (omega arith))
@@ -132,10 +132,10 @@ module _ (w : List ℕ) (long : length w ≡ 4096) where
 
       -- f was found there
       module _ {f : Found} (F : LowestOf w p (told_found f)) where
-        pub look_here : {n : ℕ} → f ≡ founds.At n → some n ≡ lowest w
+        pub look_here : {n : ℕ} → f ≡ founds.At n → Some n ≡ lowest w
         look_here {n} e = go (subst (λ (x : Found). LowestOf w p (told_found x)) e F)
           where
-            go : LowestOf w p (some n) → some n ≡ lowest w
+            go : LowestOf w p (Some n) → Some n ≡ lowest w
             go (a, s, h) =
                 lowest-is n (omega (arith, M.1)) s
                 (λ i b. dite (dec_lt i (64 * p)) (λ d. before i d) (λ d. h i (omega arith) b))
@@ -144,7 +144,7 @@ module _ (w : List ℕ) (long : length w ≡ 4096) where
         pub look_on : {l' : List ℕ} {x : ℕ} → f ≡ founds.Nothing → Lists l' w → x ≡ without (get_or l' 64 0) p → Lists (set l' 64 x) w
         look_on {l'} {x} e N z = record { long = length-set l' 64 x ∙ N.long; each = each }
           where
-            nobody : LowestOf w p none
+            nobody : LowestOf w p None
             nobody = subst (λ (y : Found). LowestOf w p (told_found y)) e F
 
             other : (i : ℕ) → i / 64 ≡ p → get_or w i 0 ≡ 0

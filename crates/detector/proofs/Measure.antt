@@ -2,7 +2,7 @@
 use mathlib.Core.Path.{◌≡◌, refl, ◌∙◌}
 use mathlib.Core.Bool.{Bool, true, false}
 use mathlib.Core.Logic.{◌⊎◌, inl, inr, ⊎_elim}
-use mathlib.Core.Option.{none, some}
+use Rattle.std.specs.Prelude.{None, Some}
 use Prim.Native.Nat.{ℕ, ◌+◌, ◌*◌, ◌-◌, ◌%◌, ◌^◌, ◌≤◌, ◌<◌}
 use native.Mathlib.Omega.{arith}
 use native.Mathlib.Decide.{ℕ_discrete}
@@ -168,7 +168,7 @@ module _ (X : Compared) (F : FaultlessChart X.old) (G : FaultlessChart X.new) wh
         less = λ g n S e. omega (arith, weight_unwait g n S.sized (below g n S e) (next-waits g n e).waits, (turn_lighter g n (below g n S e) S).less);
       }
     where
-      below : (g : Buffers) (n : ℕ) → Shaped g → next g ≡ some n → n < 4096
+      below : (g : Buffers) (n : ℕ) → Shaped g → next g ≡ Some n → n < 4096
       below g n S e = omega (arith, (next-waits g n e).below, S.sized.waiting)
 
   pub begun-shaped : Shaped (begun (heads_of X))
@@ -196,7 +196,7 @@ module _ (X : Compared) (F : FaultlessChart X.old) (G : FaultlessChart X.new) wh
       )
 
   -- the turns suffice: nothing waits at the end
-  pub explored-rests : next (explored X) ≡ none
+  pub explored-rests : next (explored X) ≡ None
   unfolding explored
   explored-rests = rests next (taken X) weight Shaped turns (2 ^ 80) (begun (heads_of X)) begun-shaped begun_weight
 

@@ -3,7 +3,7 @@ use mathlib.Core.Path.{◌≡◌, refl, sym, ap, subst, ◌∙◌}
 use mathlib.Core.Bool.{Bool, true, false, ◌&&◌, not}
 use mathlib.Core.Logic.{dite}
 use mathlib.Core.List.{List}
-use mathlib.Core.Option.{some}
+use Rattle.std.specs.Prelude.{Some}
 use Prim.Native.Nat.{ℕ, zero, suc, ◌+◌, ◌%◌, ◌^◌, ◌≤◌, ◌<◌}
 use native.Mathlib.Decide.{dec_lt}
 use native.Mathlib.Omega.{arith}
@@ -97,7 +97,7 @@ module _ (X : Compared) (n r : ℕ) {q' : NewPlace} {part : List ℕ} (a : q' �
     unfolding step_of
     stepped = s ∙ (λ i. step X (record { place = o i; set = v }) (operation (is i) r) (record { 0 = to (is i) r }))
 
-    pub came_fits : FaultlessChart X.old → FaultlessChart X.new → n < 4096 → v < 2 ^ 64 → (h : Spot) → told came ≡ some h → h.place.0 < 64
+    pub came_fits : FaultlessChart X.old → FaultlessChart X.new → n < 4096 → v < 2 ^ 64 → (h : Spot) → told came ≡ Some h → h.place.0 < 64
     came_fits F G l w h e = (step_of_fits X F G n v r (can y) 64 F.few_places (omega arith) w h (sym stepped ∙ e)).place
 
     pub row-there : (g : Buffers) {g' : Buffers} (q : NewPlace) → q.0 ≡ to part r → g' ≡ processed X.old.head.alarm g n r q (told came) → g' ≡ row_done X g n v r

@@ -1,6 +1,5 @@
 -- Algorithm 2 ("The builder"): begin, take the lowest waiting pair and its rows, until none waits.
-use Rattle.std.specs.Prelude.{true, false, not, List, ℕ, ◌^◌, eqb, get_or, set, replicate}
-use Rattle.std.proofs.Math.Option.{Option, none, some}
+use Rattle.std.specs.Prelude.{true, false, not, List, ℕ, ◌^◌, eqb, get_or, set, replicate, Option, None, Some}
 use Rattle.base.specs.Walks.{first_from}
 use Rattle.base.specs.Repeat.{repeated}
 use Rattle.chart.specs.declared.places.NewPlace.{NewPlace}
@@ -45,8 +44,8 @@ arrived alarm g n r q h =
 -- PROCESS, lines 22 to 33. "Failed step: q2 becomes kept, all pairs with new place q2 leave the graph and the waiting
 -- list; the row's target is kept q2." (lines 23 to 25)
 unfoldable pub processed : ℕ → Buffers → ℕ → ℕ → NewPlace → Option Spot → Buffers
-processed alarm g n r q none = aim (keep g q) n r (kept_number q)
-processed alarm g n r q (some h) = arrived alarm g n r q h
+processed alarm g n r q None = aim (keep g q) n r (kept_number q)
+processed alarm g n r q (Some h) = arrived alarm g n r q h
 
 -- line 1: "Waiting: node 0, set empty, in the graph, even where place 0 is the old alarm." "What these held before has
 -- no effect."

@@ -5,7 +5,7 @@ use mathlib.Core.Path.{◌≡◌, refl, sym, subst, ◌∙◌}
 use mathlib.Core.Bool.{Bool, true, false}
 use mathlib.Core.Logic.{◌⊎◌, inl, inr, ⊎_elim, dite}
 use mathlib.Core.List.{List, [], ◌∷◌}
-use mathlib.Core.Option.{some}
+use Rattle.std.specs.Prelude.{Some}
 use Prim.Native.Nat.{ℕ, suc, ◌≤◌, ◌<◌}
 use native.Mathlib.Omega.{arith}
 use native.Mathlib.Decide.{ℕ_discrete, dec_lt}
@@ -42,7 +42,7 @@ module _ (m t : List ℕ) (lm : length m ≡ 4160) (S : ℕ → Type 0) where
       kept : get_or x k 0 ≡ 2 → (4096 ≤ k) × (0 < get_or m k 0)
       kept a = (rank-node m x W.ranks k a, (rank-there m x W.ranks k (omega arith)).1)
 
-  opened_in : Closed → (x : List ℕ) (n : ℕ) → Within x → next_opening t x ≡ some n → Within (opened x n)
+  opened_in : Closed → (x : List ℕ) (n : ℕ) → Within x → next_opening t x ≡ Some n → Within (opened x n)
   unfolding opening
   opened_in C x n W e =
       let w = opening_why t x n W.ranks.long e in

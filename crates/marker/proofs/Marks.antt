@@ -3,7 +3,7 @@ use mathlib.Core.Path.{◌≡◌, refl, sym, ap, ◌∙◌}
 use mathlib.Core.Bool.{Bool, true, false}
 use mathlib.Core.Logic.{◌⊎◌, inl, inr, ⊎_elim, dite}
 use mathlib.Core.List.{List, [], ◌∷◌}
-use mathlib.Core.Option.{none, some}
+use Rattle.std.specs.Prelude.{None, Some}
 use Prim.Native.Nat.{ℕ, zero, suc, ◌≤◌, ◌<◌}
 use native.Mathlib.Omega.{arith}
 use native.Mathlib.Decide.{ℕ_discrete, dec_lt}
@@ -127,7 +127,7 @@ pub record Opens (m : List ℕ) (n : ℕ) (x : List ℕ) : Type 0 where
 
 module _ (t : List ℕ) where
   -- what is opened was beyond, and has an open or kept target
-  pub opening_why : (x : List ℕ) (n : ℕ) → length x ≡ 4160 → next_opening t x ≡ some n → (n < 4096) × (get_or x n 0 ≡ 4) × (opening t x n 4 ≡ true)
+  pub opening_why : (x : List ℕ) (n : ℕ) → length x ≡ 4160 → next_opening t x ≡ Some n → (n < 4096) × (get_or x n 0 ≡ 4) × (opening t x n 4 ≡ true)
   unfolding next_opening opening
   opening_why x n l e =
       let f = first-is (opening t x) (take 4096 x) n e in
@@ -136,7 +136,7 @@ module _ (t : List ℕ) where
       let q : get_or x n 0 ≡ 4 = eqb-true (get_or x n 0) 4 (and_true (eqb (get_or x n 0) 4) _ p).0 in
       (b, q, rw q at p)
 
-  opens_more : (m : List ℕ) (s : ℕ) (x : List ℕ) (n : ℕ) → Opens m s x → next_opening t x ≡ some n → Opens m s (opened x n)
+  opens_more : (m : List ℕ) (s : ℕ) (x : List ℕ) (n : ℕ) → Opens m s x → next_opening t x ≡ Some n → Opens m s (opened x n)
   opens_more m s x n O e =
       let w = opening_why x n O.ranks.long e in
       let b : n < length x = omega (arith, O.ranks.long, w.0) in
@@ -181,7 +181,7 @@ module _ (t : List ℕ) where
         less = λ x n l e. (let w = opening_why x n l e in open_less x n l w.0 w.1);
       }
 
-  pub all_rest : (x : List ℕ) → length x ≡ 4160 → next_opening t (all_opened t x) ≡ none
+  pub all_rest : (x : List ℕ) → length x ≡ 4160 → next_opening t (all_opened t x) ≡ None
   unfolding all_opened
   all_rest x l =
       rests (next_opening t) opened fours (λ x. length x ≡ 4160) openings 4096 x l (fours_most x)
@@ -191,7 +191,7 @@ module _ (t : List ℕ) where
   all_opens m s x O = repeated-keeps (next_opening t) opened (Opens m s) (λ y n p e. opens_more m s y n p e) 4096 x O
 
   -- a pair that is left beyond has no open or kept target
-  pub left_beyond : (x : List ℕ) → length x ≡ 4160 → next_opening t x ≡ none → (i : ℕ) → i < 4096 → get_or x i 0 ≡ 4 → (r : ℕ) → r < 2
+  pub left_beyond : (x : List ℕ) → length x ≡ 4160 → next_opening t x ≡ None → (i : ℕ) → i < 4096 → get_or x i 0 ≡ 4 → (r : ℕ) → r < 2
       → (get_or x (get_or t (index i r) 0) 0 ≡ 1 → ⊥) × (get_or x (get_or t (index i r) 0) 0 ≡ 2 → ⊥)
   unfolding next_opening opening in_q
   left_beyond x l e i b f r c =
@@ -314,7 +314,7 @@ module _ (m t : List ℕ) (s : ℕ) (lm : length m ≡ 4160) (lt : length t ≡ 
       let rest = all_rest t (set (plain_marks m) s 1) first_opens.ranks.long in
       close (all_opened t (set (plain_marks m) s 1)) O rest
     where
-      close : (y : List ℕ) → Opens m s y → next_opening t y ≡ none → Final m t s (covered y (transitions y t))
+      close : (y : List ℕ) → Opens m s y → next_opening t y ≡ None → Final m t s (covered y (transitions y t))
       close y O rest =
           record {
             ranks = covered_ranks m (transitions y t) y O.ranks;

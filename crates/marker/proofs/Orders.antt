@@ -3,7 +3,7 @@ use mathlib.Core.Path.{◌≡◌, refl, sym, subst, ◌∙◌}
 use mathlib.Core.Bool.{Bool, true, false}
 use mathlib.Core.Logic.{◌⊎◌, inl, inr, ⊎_elim, dite}
 use mathlib.Core.List.{List, [], ◌∷◌}
-use mathlib.Core.Option.{none, some}
+use Rattle.std.specs.Prelude.{None, Some}
 use Prim.Native.Nat.{ℕ, suc, ◌+◌, ◌-◌, ◌≤◌, ◌<◌}
 use native.Mathlib.Nat.{add-suc}
 use native.Mathlib.Omega.{arith}
@@ -21,7 +21,7 @@ use Rattle.marker.specs.inner.Openings.{Opened, none_yet, one_more, Tried, Swept
 use Rattle.marker.proofs.Marks.{opening_why, fours, open_less, left_beyond, all_rest}
 
 -- none is found where none passes
-first-from : (p : ℕ → ℕ → Bool) (i : ℕ) (l : List ℕ) → ((j : ℕ) → j < length l → p (i + j) (get_or l j 0) ≡ false) → first_from p i l ≡ none
+first-from : (p : ℕ → ℕ → Bool) (i : ℕ) (l : List ℕ) → ((j : ℕ) → j < length l → p (i + j) (get_or l j 0) ≡ false) → first_from p i l ≡ None
 unfolding first_from
 first-from p i [] h = refl
 first-from p i (x ∷ l) h =
@@ -29,7 +29,7 @@ first-from p i (x ∷ l) h =
     let f : p i x ≡ false = rw z at (h 0 (omega arith)) in
     rw (f, first_from) (first-from p (i + 1) l (λ j b. let w : i + 1 + j ≡ i + suc j = omega arith in rw w (h (suc j) (omega arith))))
 
-first-none : (p : ℕ → ℕ → Bool) (l : List ℕ) → ((j : ℕ) → j < length l → p j (get_or l j 0) ≡ false) → first_from p 0 l ≡ none
+first-none : (p : ℕ → ℕ → Bool) (l : List ℕ) → ((j : ℕ) → j < length l → p j (get_or l j 0) ≡ false) → first_from p 0 l ≡ None
 first-none p l h = first-from p 0 l (λ j b. let z : 0 + j ≡ j = omega arith in rw z (h j b))
 
 module _ (t : List ℕ) where
@@ -73,7 +73,7 @@ module _ (t : List ℕ) where
         inr (⊎_elim (λ s. sym s ∙ f) (λ s. s.0) (opened_at o k), rw z (get_or-set_same y i 1 0 (omega (arith, opened-long o)))))
         (λ z. rw (get_or-set_other y i k 1 0 z) (opened_at o k))
 
-    module _ {z : List ℕ} {m : ℕ} (p : Opened t x m z) (rest : next_opening t z ≡ none) where
+    module _ {z : List ℕ} {m : ℕ} (p : Opened t x m z) (rest : next_opening t z ≡ None) where
       -- what one order opens, an order that leaves nothing to open has opened
       under : {y : List ℕ} {n : ℕ} → Opened t x n y → (k : ℕ) → get_or y k 0 ≡ 1 → get_or z k 0 ≡ 1
       under none_yet k e = ⊎_elim (λ s. s ∙ e) (λ s. s.1) (opened_at p k)
@@ -97,7 +97,7 @@ module _ (t : List ℕ) where
                   ⊎_elim (λ q. n.0 (ih (get_or t (index i r) 0) q)) (λ q. n.1 (kept (get_or t (index i r) 0) q)) d
 
     -- two orders that both leave nothing to open
-    pub same_end : {y z : List ℕ} {n m : ℕ} → Opened t x n y → next_opening t y ≡ none → Opened t x m z → next_opening t z ≡ none → y ≡ z
+    pub same_end : {y z : List ℕ} {n m : ℕ} → Opened t x n y → next_opening t y ≡ None → Opened t x m z → next_opening t z ≡ None → y ≡ z
     same_end {y} {z} o f p g = ext_get_or 0 y z (opened-long o ∙ sym (opened-long p)) (λ k b. go k (opened_at o k) (opened_at p k))
       where
         go : (k : ℕ) → (get_or y k 0 ≡ get_or x k 0) ⊎ ((get_or x k 0 ≡ 4) × (get_or y k 0 ≡ 1)) → (get_or z k 0 ≡ get_or x k 0) ⊎ ((get_or x k 0 ≡ 4) × (get_or z k 0 ≡ 1)) → get_or y k 0 ≡ get_or z k 0
@@ -111,13 +111,13 @@ module _ (t : List ℕ) where
     some-opened =
         repeated-keeps (next_opening t) opened (λ y. (n : ℕ) × Opened t x n y) (λ y i s e. next y i s e) 4096 x (0, none_yet)
       where
-        next : (y : List ℕ) (i : ℕ) → (n : ℕ) × Opened t x n y → next_opening t y ≡ some i → (n : ℕ) × Opened t x n (set y i 1)
+        next : (y : List ℕ) (i : ℕ) → (n : ℕ) × Opened t x n y → next_opening t y ≡ Some i → (n : ℕ) × Opened t x n (set y i 1)
         next y i (n, o) e =
             let w = opening_why t y i (opened-long o ∙ l) e in
             (suc n, one_more i o w.0 (rw w.1 w.2))
 
     -- any order comes to what the definition says
-    pub any_order : {y : List ℕ} {n : ℕ} → Opened t x n y → next_opening t y ≡ none → y ≡ all_opened t x
+    pub any_order : {y : List ℕ} {n : ℕ} → Opened t x n y → next_opening t y ≡ None → y ≡ all_opened t x
     any_order o f = same_end o f some-opened.1 (all_rest t x l)
 
 -- ---- one pass, in the form in which the code meets it
@@ -177,7 +177,7 @@ module _ (t : List ℕ) where
         swept_both a c S R (omega (arith, S.near, R.near)) (omega (arith, S.near, R.near)) (λ k p q. dite (dec_lt k b) (λ h. inr (p, h)) (λ h. inl (omega arith, q)))
 
   -- a pass that opened none leaves none to open
-  pub swept_rests : {x y : List ℕ} → length x ≡ 4160 → Swept t x 0 4096 0 y → next_opening t y ≡ none
+  pub swept_rests : {x y : List ℕ} → length x ≡ 4160 → Swept t x 0 4096 0 y → next_opening t y ≡ None
   unfolding next_opening
   swept_rests {x} {y} l S =
       let q = S.else_not refl in

@@ -1,6 +1,5 @@
 -- Algorithm 1: the marks ("Marks, from Algorithm 1").
-use Rattle.std.specs.Prelude.{Bool, true, false, ◌&&◌, ◌||◌, List, [], ◌∷◌, ℕ, eqb, ltb, get_or, set, take}
-use Rattle.std.proofs.Math.Option.{Option}
+use Rattle.std.specs.Prelude.{Bool, true, false, ◌&&◌, ◌||◌, List, [], ◌∷◌, ℕ, eqb, ltb, get_or, set, take, Option}
 use Rattle.base.specs.Walks.{pass, first_from}
 use Rattle.base.specs.Repeat.{repeated}
 use Rattle.records.specs.Records.{index}

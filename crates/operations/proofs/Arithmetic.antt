@@ -1,7 +1,7 @@
 -- What codes 4 and 5 write (document 02, #105): code 4 stops at nought, code 5 wraps. Each for all values, and by
 -- numbers, as `value_written` answers them. Assumes nothing.
 use Rattle.std.proofs.Common.{◌≡◌, ℕ, ◌+◌, ◌-◌, ◌%◌, ◌^◌, ◌<◌, ◌≤◌, List, set, replicate, refl, arith}
-use Rattle.base.specs.Answers.{given}
+use Rattle.std.specs.Prelude.{Ok}
 use Rattle.operations.specs.declared.Operation.{Operation}
 use Rattle.operations.specs.Operations.{value}
 use Rattle.operations.specs.Operations as operations
@@ -35,8 +35,8 @@ abbrev holding : ℕ → ℕ → List ℕ
 holding x y = set (set (replicate 64 0) 1 x) 2 y
 
 -- fuel of 5 less a burn of 100; fuel of 100 less a burn of 5; 0 − 1, by code 5
-pub by_numbers : (written_by (with_v1 4 2) (holding 5 100) ≡ given 0)
-    × (written_by (with_v1 4 2) (holding 100 5) ≡ given 95)
-    × (written_by (with_v1 5 0) (holding 1 0) ≡ given 4294967295)
+pub by_numbers : (written_by (with_v1 4 2) (holding 5 100) ≡ Ok 0)
+    × (written_by (with_v1 4 2) (holding 100 5) ≡ Ok 95)
+    × (written_by (with_v1 5 0) (holding 1 0) ≡ Ok 4294967295)
 unfolding operations.kind operations.operand_b operations.assigned_c operations.operand_c operations.operands_fit operations.value answers.operation_fault answers.written_by
 by_numbers = (refl, refl, refl)

@@ -2,7 +2,7 @@
 use mathlib.Core.Path.{◌≡◌, refl, sym, ap, ap₂, subst, ◌∙◌}
 use mathlib.Core.Bool.{Bool, true, false, ◌||◌, not}
 use mathlib.Core.Logic.{◌⊎◌, inl, inr, ⊎_elim}
-use mathlib.Core.Option.{Option, none, some}
+use Rattle.std.specs.Prelude.{Option, None, Some}
 use Prim.Native.Nat.{ℕ, suc, ◌-◌, ◌^◌, ◌<◌}
 use native.Mathlib.Omega.{arith}
 use borrow.Author.Tests.{eqb-true, eqb-false}
@@ -42,7 +42,7 @@ module _ (X : Compared) (F : FaultlessChart X.old) (words : Words X.old.table) w
     -- it has come to a place twice
     record Twice (been : SetOf OldPlace) (ℓₚ : OldPlace) : Type 0 where
       again : ℓₚ is_in been
-      fails : followed X (at ℓ₁ Vδ) ≡ none
+      fails : followed X (at ℓ₁ Vδ) ≡ None
 
     -- or it has not, and what is left of the walk is the step's
     record Once (been : SetOf OldPlace) (ℓₚ : OldPlace) (Vdiff : ℕ) : Type 0 where
@@ -98,8 +98,8 @@ module _ (X : Compared) (F : FaultlessChart X.old) (words : Words X.old.table) w
       next-below : ℓₛ.0 < 64
       next-below = omega (arith, (F.rows M.edge.row M.edge.there).to_below, F.few_places, M.edge.to)
 
-      goes : onward X (at ℓₚ Vdiff) ≡ some (at ℓₛ Vdiff')
-      goes = onward-is X F words ℓₚ Vdiff opₐ ℓₛ M ∙ ap (λ (s : ℕ). some (at ℓₛ s)) (sym gains)
+      goes : onward X (at ℓₚ Vdiff) ≡ Some (at ℓₛ Vdiff')
+      goes = onward-is X F words ℓₚ Vdiff opₐ ℓₛ M ∙ ap (λ (s : ℕ). Some (at ℓₛ s)) (sym gains)
 
       -- where the loop has been, one goes on
       goes_on : (q : OldPlace) → q is_in more → GoesOn more ℓₛ q
@@ -115,10 +115,10 @@ module _ (X : Compared) (F : FaultlessChart X.old) (words : Words X.old.table) w
           (in_either (been q) _ e)
 
       -- the place is not new: the step fails
-      stops : ℓₛ is_in more → followed X (at ℓ₁ Vδ) ≡ none
+      stops : ℓₛ is_in more → followed X (at ℓ₁ Vδ) ≡ None
       stops e = ⊎_elim (λ T. T.fails) (λ O. twice O) A.walked
         where
-          twice : Once been ℓₚ Vdiff → followed X (at ℓ₁ Vδ) ≡ none
+          twice : Once been ℓₚ Vdiff → followed X (at ℓ₁ Vδ) ≡ None
           twice O =
               let z : O.left ≡ suc (O.left - 1) = omega (arith, O.enough) in
               let t = ⊎_elim (λ y. y) (λ y. absurd (meet_none O.met (alone ℓₛ.0) ℓₛ.0 y (O.had ℓₛ e) (alone-here ℓₛ.0))) (in_or_not (meets O.met (alone ℓₛ.0))) in
@@ -165,15 +165,15 @@ module _ (X : Compared) (F : FaultlessChart X.old) (words : Words X.old.table) w
 
     -- the loop has ended
     pub ended : {been : SetOf OldPlace} {ℓₚ : OldPlace} {Vdiff : ℕ} → Looped been ℓₚ Vdiff → ((op : Operation) (q : OldPlace) → Line13 X ℓₚ op q → ⊥)
-        → followed X (at ℓ₁ Vδ) ≡ some (at ℓₚ Vdiff)
+        → followed X (at ℓ₁ Vδ) ≡ Some (at ℓₚ Vdiff)
     ended {been} {ℓₚ} {Vdiff} A n = ⊎_elim (λ T. absurd (let G = A.on ℓₚ T.again in n G.op G.succ G.line)) (λ O. once O) A.walked
       where
-        once : Once been ℓₚ Vdiff → followed X (at ℓ₁ Vδ) ≡ some (at ℓₚ Vdiff)
+        once : Once been ℓₚ Vdiff → followed X (at ℓ₁ Vδ) ≡ Some (at ℓₚ Vdiff)
         once O =
             let z : O.left ≡ suc (O.left - 1) = omega (arith, O.enough) in
             O.rest ∙ ap (λ (k : ℕ). follow X k O.met (at ℓₚ Vdiff)) z ∙ sym (follow-ends X (O.left - 1) O.met (at ℓₚ Vdiff) refl (onward-none X F words ℓₚ Vdiff n))
 
-    cut : {been : SetOf OldPlace} {ℓₚ : OldPlace} {Vdiff : ℕ} → Looped been ℓₚ Vdiff → ℓₚ is_in been → followed X (at ℓ₁ Vδ) ≡ none
+    cut : {been : SetOf OldPlace} {ℓₚ : OldPlace} {Vdiff : ℕ} → Looped been ℓₚ Vdiff → ℓₚ is_in been → followed X (at ℓ₁ Vδ) ≡ None
     cut A i = ⊎_elim (λ T. T.fails) (λ O. absurd (not_in i O.first)) A.walked
 
     -- ---- all of them
@@ -183,24 +183,24 @@ module _ (X : Compared) (F : FaultlessChart X.old) (words : Words X.old.table) w
       rewrites m e = rw (e, rewritten)
 
       -- lines 6 to 9: an equal row
-      by_equal : (q : OldPlace) (W : ℕ) → Lines5and6 X ℓ₁ Vδ o q → W ≡ rewritten Vδ o → some (at q W) ≡ moved X (at ℓ₁ Vδ) o
+      by_equal : (q : OldPlace) (W : ℕ) → Lines5and6 X ℓ₁ Vδ o q → W ≡ rewritten Vδ o → Some (at q W) ≡ moved X (at ℓ₁ Vδ) o
       unfolding assigned
       by_equal q W L e = moved-assigned X (at ℓ₁ Vδ) o L.assignment (go (find (rows_at X ℓ₁) (λ o'. same o' o)) refl)
         where
           go : (x : Option ℕ) → find (rows_at X ℓ₁) (λ o'. same o' o) ≡ x → at q W ≡ assigned X (at ℓ₁ Vδ) o x
-          go none f = absurd (T_true (sym (no_edge X ℓ₁ (λ o'. same o' o) f o q L.edge) ∙ same_self o))
-          go (some k) f =
+          go None f = absurd (T_true (sym (no_edge X ℓ₁ (λ o'. same o' o) f o q L.edge) ∙ same_self o))
+          go (Some k) f =
               let r = an_edge X ℓ₁ (λ o'. same o' o) k f in
               ap₂ at (one-assignment X F words L.edge (row-edge X ℓ₁ k r.0) L.assignment).1 e
 
       -- line 10 and footnote 6: none
-      by_none : (h : Spot) → NoEqual X ℓ₁ Vδ o → ((x : Option ℕ) → writing_row X ℓ₁ o.a ≡ x → h ≡ unequal X (at ℓ₁ Vδ) o.a x) → some h ≡ moved X (at ℓ₁ Vδ) o
+      by_none : (h : Spot) → NoEqual X ℓ₁ Vδ o → ((x : Option ℕ) → writing_row X ℓ₁ o.a ≡ x → h ≡ unequal X (at ℓ₁ Vδ) o.a x) → Some h ≡ moved X (at ℓ₁ Vδ) o
       unfolding assigned
       by_none h n e = moved-assigned X (at ℓ₁ Vδ) o n.assignment (go (find (rows_at X ℓ₁) (λ o'. same o' o)) refl)
         where
           go : (x : Option ℕ) → find (rows_at X ℓ₁) (λ o'. same o' o) ≡ x → h ≡ assigned X (at ℓ₁ Vδ) o x
-          go none f = e (writing_row X ℓ₁ o.a) refl
-          go (some k) f =
+          go None f = e (writing_row X ℓ₁ o.a) refl
+          go (Some k) f =
               let r = an_edge X ℓ₁ (λ o'. same o' o) k f in
               absurd
               (n.none (old_to (rows_at X ℓ₁) k)
@@ -209,14 +209,14 @@ module _ (X : Compared) (F : FaultlessChart X.old) (words : Words X.old.table) w
       -- line 10: and none that writes the same
       by_unwritten : (W : ℕ) → W ≡ with Vδ o.a → ((op : Operation) (q : OldPlace) → Footnote6 X ℓ₁ Vδ o op q → ⊥) → (x : Option ℕ) → writing_row X ℓ₁ o.a ≡ x → at ℓ₁ W ≡ unequal X (at ℓ₁ Vδ) o.a x
       unfolding unequal
-      by_unwritten W w n none e = ap (at ℓ₁) w
-      by_unwritten W w n (some k) e = absurd (n (operation (rows_at X ℓ₁) k) (old_to (rows_at X ℓ₁) k) (writing-edge X ℓ₁ Vδ o k e))
+      by_unwritten W w n None e = ap (at ℓ₁) w
+      by_unwritten W w n (Some k) e = absurd (n (operation (rows_at X ℓ₁) k) (old_to (rows_at X ℓ₁) k) (writing-edge X ℓ₁ Vδ o k e))
 
       -- footnote 6: one that does
       by_written : (q : OldPlace) (W : ℕ) → W ≡ with Vδ o.a → (op : Operation) → Footnote6 X ℓ₁ Vδ o op q → (x : Option ℕ) → writing_row X ℓ₁ o.a ≡ x → at q W ≡ unequal X (at ℓ₁ Vδ) o.a x
       unfolding unequal
-      by_written q W w op N none e = absurd (no_writing X ℓ₁ Vδ o e op q N)
-      by_written q W w op N (some k) e = ap₂ at (one-assignment X F words N.edge (writing-edge X ℓ₁ Vδ o k e).edge N.assignment).1 w
+      by_written q W w op N None e = absurd (no_writing X ℓ₁ Vδ o e op q N)
+      by_written q W w op N (Some k) e = ap₂ at (one-assignment X F words N.edge (writing-edge X ℓ₁ Vδ o k e).edge N.assignment).1 w
 
       -- lines 15 to 18, where the loop has ended at ℓ_p with V_diff
       module _ (ℓₚ : OldPlace) (Vdiff : ℕ) (E : Lines11to14 X ℓ₁ Vδ o ℓₚ Vdiff) where
@@ -226,13 +226,13 @@ module _ (X : Compared) (F : FaultlessChart X.old) (words : Words X.old.table) w
         on : {x : Option Spot} → x ≡ assumed X (at ℓₚ Vdiff) o (counterpart X ℓₚ o) → x ≡ moved X (at ℓ₁ Vδ) o
         on e = moved_assumed X (at ℓ₁ Vδ) o (at ℓₚ Vdiff) E.assumption refl (ended (looped E.loop) E.ends) e
 
-        matches_at : (k : ℕ) → matching (rows_at X ℓₚ) o ≡ some k → at_alarm X ℓₚ ≡ false → Line15 X ℓ₁ Vδ o ℓₚ (operation (rows_at X ℓₚ) k) (old_to (rows_at X ℓₚ) k)
+        matches_at : (k : ℕ) → matching (rows_at X ℓₚ) o ≡ Some k → at_alarm X ℓₚ ≡ false → Line15 X ℓ₁ Vδ o ℓₚ (operation (rows_at X ℓₚ) k) (old_to (rows_at X ℓₚ) k)
         matches_at k e a = a_match X F words ℓ₁ Vδ o fits (at ℓₚ Vdiff) E small k e (eqb-false ℓₚ.0 X.old.head.alarm a)
 
         -- the row that line 15 finds is the step's
         record Found (op : Operation) (q : OldPlace) : Type 0 where
           row : ℕ
-          is : counterpart X ℓₚ o ≡ some row
+          is : counterpart X ℓₚ o ≡ Some row
           operation : operation (rows_at X ℓₚ) row ≡ op
           to : old_to (rows_at X ℓₚ) row ≡ q
 
@@ -242,31 +242,31 @@ module _ (X : Compared) (F : FaultlessChart X.old) (words : Words X.old.table) w
           where
             go : (a : Bool) → at_alarm X ℓₚ ≡ a → (x : Option ℕ) → matching (rows_at X ℓₚ) o ≡ x → Found op q
             go true a x e = absurd (M.not_err (eqb-true ℓₚ.0 X.old.head.alarm a))
-            go false a none e = absurd (no_match X F words ℓ₁ Vδ o fits (at ℓₚ Vdiff) E small e (eqb-false ℓₚ.0 X.old.head.alarm a) op q M)
-            go false a (some k) e =
+            go false a None e = absurd (no_match X F words ℓ₁ Vδ o fits (at ℓₚ Vdiff) E small e (eqb-false ℓₚ.0 X.old.head.alarm a) op q M)
+            go false a (Some k) e =
                 let z = one_match X F words (matches_at k e a) M in
                 record { row = k; is = rw (a, e, counterpart); operation = z.0; to = z.1 }
 
-        finds_none : ((op : Operation) (q : OldPlace) → Line15 X ℓ₁ Vδ o ℓₚ op q → ⊥) → counterpart X ℓₚ o ≡ none
+        finds_none : ((op : Operation) (q : OldPlace) → Line15 X ℓ₁ Vδ o ℓₚ op q → ⊥) → counterpart X ℓₚ o ≡ None
         unfolding counterpart
         finds_none n = go (at_alarm X ℓₚ) refl (matching (rows_at X ℓₚ) o) refl
           where
             go : (a : Bool) → at_alarm X ℓₚ ≡ a → (x : Option ℕ) → matching (rows_at X ℓₚ) o ≡ x
-                → ◌≡◌ {A = Option ℕ} (elim (at_alarm X ℓₚ) as (λ _. Option ℕ) [ true ↦ none | false ↦ matching (rows_at X ℓₚ) o ]) none
+                → ◌≡◌ {A = Option ℕ} (elim (at_alarm X ℓₚ) as (λ _. Option ℕ) [ true ↦ None | false ↦ matching (rows_at X ℓₚ) o ]) None
             go true a x e = rw a
-            go false a none e = rw (a, e)
-            go false a (some k) e = absurd (n (operation (rows_at X ℓₚ) k) (old_to (rows_at X ℓₚ) k) (matches_at k e a))
+            go false a None e = rw (a, e)
+            go false a (Some k) e = absurd (n (operation (rows_at X ℓₚ) k) (old_to (rows_at X ℓₚ) k) (matches_at k e a))
 
-        picks : (m : Bool) (h : Spot) → m ≡ true → when (not m) h ≡ none
+        picks : (m : Bool) (h : Spot) → m ≡ true → when (not m) h ≡ None
         picks true h e = refl
         picks false h e = absurd (T_true e)
 
-        picks_on : (m : Bool) (h : Spot) → m ≡ false → when (not m) h ≡ some h
+        picks_on : (m : Bool) (h : Spot) → m ≡ false → when (not m) h ≡ Some h
         picks_on true h e = absurd (T_true (sym e))
         picks_on false h e = refl
 
         -- line 16
-        by_meeting : (op : Operation) (q : OldPlace) → Line15 X ℓ₁ Vδ o ℓₚ op q → Line16 X ℓ₁ Vδ o Vdiff op → none ≡ moved X (at ℓ₁ Vδ) o
+        by_meeting : (op : Operation) (q : OldPlace) → Line15 X ℓ₁ Vδ o ℓₚ op q → Line16 X ℓ₁ Vδ o Vdiff op → None ≡ moved X (at ℓ₁ Vδ) o
         unfolding assumed matched
         by_meeting op q M m =
             let K = finds op q M in
@@ -276,7 +276,7 @@ module _ (X : Compared) (F : FaultlessChart X.old) (words : Words X.old.table) w
             (⊎_elim (λ h. in_second (s (read_set o)) _ (rw K.operation (does_meet Vdiff (read_set op) h))) (λ h. in_first (s (read_set o)) _ (does_meet Vdiff (read_set o) h)) m)))
 
         -- line 17
-        by_match : (op : Operation) (q : OldPlace) → Line15 X ℓ₁ Vδ o ℓₚ op q → (Line16 X ℓ₁ Vδ o Vdiff op → ⊥) → some (at q Vdiff) ≡ moved X (at ℓ₁ Vδ) o
+        by_match : (op : Operation) (q : OldPlace) → Line15 X ℓ₁ Vδ o ℓₚ op q → (Line16 X ℓ₁ Vδ o Vdiff op → ⊥) → Some (at q Vdiff) ≡ moved X (at ℓ₁ Vδ) o
         unfolding assumed matched
         by_match op q M n =
             let K = finds op q M in
@@ -284,10 +284,10 @@ module _ (X : Compared) (F : FaultlessChart X.old) (words : Words X.old.table) w
             let y = does_not Vdiff (read_set op) small (λ h. n (inl h)) in
             on (sym (ap (assumed X (at ℓₚ Vdiff) o) K.is
             ∙ picks_on (meets Vdiff (read_set o) || meets Vdiff (read_set (operation (rows_at X ℓₚ) K.row))) (at (old_to (rows_at X ℓₚ) K.row) Vdiff) (rw (x, K.operation, y))
-            ∙ ap (λ (p : OldPlace). some (at p Vdiff)) K.to))
+            ∙ ap (λ (p : OldPlace). Some (at p Vdiff)) K.to))
 
         -- line 18
-        by_no_match : ((op : Operation) (q : OldPlace) → Line15 X ℓ₁ Vδ o ℓₚ op q → ⊥) → some (at ℓₚ Vdiff) ≡ moved X (at ℓ₁ Vδ) o
+        by_no_match : ((op : Operation) (q : OldPlace) → Line15 X ℓ₁ Vδ o ℓₚ op q → ⊥) → Some (at ℓₚ Vdiff) ≡ moved X (at ℓ₁ Vδ) o
         unfolding assumed
         by_no_match n = on (sym (ap (assumed X (at ℓₚ Vdiff) o) (finds_none n)))
 

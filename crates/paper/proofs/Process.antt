@@ -2,7 +2,8 @@
 -- Assumes nothing.
 use mathlib.Core.Path.{◌≡◌, refl, sym, ap, subst, ◌∙◌}
 use mathlib.Core.Bool.{Bool, true, false, ◌&&◌, ◌||◌, not}
-use mathlib.Core.Option.{Option, none, some, none-ne-some, some-injective}
+use Rattle.std.specs.Prelude.{Option, None, Some}
+use Rattle.std.proofs.lemmas.Option.{none-some, same_Some}
 use Prim.Native.Nat.{ℕ}
 use borrow.Author.Tests.{eq-eqb, eqb-true}
 use lib.Dec.{eqb}
@@ -28,8 +29,8 @@ use Rattle.paper.proofs.Outcomes.{looped, ended}
 module _ (X : Compared) (s : State) (n : Pair) (r : ℕ) where
   -- the state by what the step comes to
   unfoldable pub stepped_to : Option Spot → State
-  stepped_to none = to_place s n r (ℓ₂' X n.new r)
-  stepped_to (some h) = to_pair X s n r (pair h.place (ℓ₂' X n.new r)) h.set
+  stepped_to None = to_place s n r (ℓ₂' X n.new r)
+  stepped_to (Some h) = to_pair X s n r (pair h.place (ℓ₂' X n.new r)) h.set
 
   -- line 27 asks what the step's last rule asks
   asks : (h : Spot) → bool (fair (heads_of X) h.place (ℓ₂' X n.new r)) ≡ not (line27 X (pair h.place (ℓ₂' X n.new r)))
@@ -42,50 +43,50 @@ module _ (X : Compared) (s : State) (n : Pair) (r : ℕ) where
       go false true = refl
       go false false = refl
 
-  fails : arrived X (ℓ₂' X n.new r) none ≡ none
+  fails : arrived X (ℓ₂' X n.new r) None ≡ None
   unfolding arrived
   fails = refl
 
-  passes : (h : Spot) → line27 X (pair h.place (ℓ₂' X n.new r)) ≡ false → arrived X (ℓ₂' X n.new r) (some h) ≡ some h
+  passes : (h : Spot) → line27 X (pair h.place (ℓ₂' X n.new r)) ≡ false → arrived X (ℓ₂' X n.new r) (Some h) ≡ Some h
   unfolding arrived
-  passes h e = pick_true (bool (fair (heads_of X) h.place (ℓ₂' X n.new r))) (some h) (rescued X h) (asks h ∙ ap not e)
+  passes h e = pick_true (bool (fair (heads_of X) h.place (ℓ₂' X n.new r))) (Some h) (rescued X h) (asks h ∙ ap not e)
 
-  stops : (h : Spot) → line27 X (pair h.place (ℓ₂' X n.new r)) ≡ true → arrived X (ℓ₂' X n.new r) (some h) ≡ rescued X h
+  stops : (h : Spot) → line27 X (pair h.place (ℓ₂' X n.new r)) ≡ true → arrived X (ℓ₂' X n.new r) (Some h) ≡ rescued X h
   unfolding arrived
-  stops h e = pick_false (bool (fair (heads_of X) h.place (ℓ₂' X n.new r))) (some h) (rescued X h) (asks h ∙ ap not e)
+  stops h e = pick_false (bool (fair (heads_of X) h.place (ℓ₂' X n.new r))) (Some h) (rescued X h) (asks h ∙ ap not e)
 
 module _ (X : Compared) (F : FaultlessChart X.old) (words : Words X.old.table) where
   -- ---- footnote 8's search and what the step follows
   module _ (h : Spot) (T : Fits 64 h) where
     -- what rescues the step is a search
-    rescued-search : (h' : Spot) → rescued X h ≡ some h' → (h'.place ≡ ℓ-err X) × Footnote8 X h.place h.set h'.set
+    rescued-search : (h' : Spot) → rescued X h ≡ Some h' → (h'.place ≡ ℓ-err X) × Footnote8 X h.place h.set h'.set
     unfolding rescued at_both
     rescued-search h' e = second (is_second X) refl e
       where
-        at_end : {x : Option Spot} → Walked X F h.place h.set x → X.edition ≡ 2 → at_both X x ≡ some h' → (h'.place ≡ ℓ-err X) × Footnote8 X h.place h.set h'.set
-        at_end (twice L i) t e = absurd (none-ne-some h' e)
+        at_end : {x : Option Spot} → Walked X F h.place h.set x → X.edition ≡ 2 → at_both X x ≡ Some h' → (h'.place ≡ ℓ-err X) × Footnote8 X h.place h.set h'.set
+        at_end (twice L i) t e = absurd (none-some h' e)
         at_end (came {h = h''} {been = been} L n c) t e = go (at_alarm X h''.place) refl e
           where
-            go : (b : Bool) → at_alarm X h''.place ≡ b → when b h'' ≡ some h' → (h'.place ≡ ℓ-err X) × Footnote8 X h.place h.set h'.set
+            go : (b : Bool) → at_alarm X h''.place ≡ b → when b h'' ≡ Some h' → (h'.place ≡ ℓ-err X) × Footnote8 X h.place h.set h'.set
             go true a e =
-                let z = some-injective h'' h' e in
+                let z = same_Some h'' h' e in
                 let y : h''.place ≡ ℓ-err X = ap (λ (p : ℕ). record { 0 = p }) (eqb-true h''.place.0 X.old.head.alarm a) in
                 let x = ap (λ (k : Spot). k.place) (sym z) ∙ y in
                 let M = subst (λ (k : Spot). Loop X h.place h.set been k.place k.set) z L in
                 (x, record { edition = t; been = been; search = subst (λ (p : OldPlace). Loop X h.place h.set been p h'.set) x M })
-            go false a e = absurd (none-ne-some h' e)
+            go false a e = absurd (none-some h' e)
 
-        second : (b : Bool) → is_second X ≡ b → ◌≡◌ {A = Option Spot} (elim b as (λ _. Option Spot) [ true ↦ at_both X (followed X h) | false ↦ none ]) (some h')
+        second : (b : Bool) → is_second X ≡ b → ◌≡◌ {A = Option Spot} (elim b as (λ _. Option Spot) [ true ↦ at_both X (followed X h) | false ↦ None ]) (Some h')
             → (h'.place ≡ ℓ-err X) × Footnote8 X h.place h.set h'.set
         second true t e = at_end (walked X F h.place h.set T.place T.set) (eqb-true X.edition 2 t) e
-        second false t e = absurd (none-ne-some h' e)
+        second false t e = absurd (none-some h' e)
 
     -- and what a search comes to rescues it
-    search_rescues : (v : ℕ) → Footnote8 X h.place h.set v → rescued X h ≡ some (at (ℓ-err X) v)
+    search_rescues : (v : ℕ) → Footnote8 X h.place h.set v → rescued X h ≡ Some (at (ℓ-err X) v)
     unfolding rescued at_both
     search_rescues v S =
         let e = ended X F words h.place h.set T.place T.set (looped X F words h.place h.set T.place T.set S.search) (λ op q M. M.not_err refl) in
-        pick_true (is_second X) (at_both X (followed X h)) none (eq-eqb X.edition 2 S.edition)
+        pick_true (is_second X) (at_both X (followed X h)) None (eq-eqb X.edition 2 S.edition)
         ∙ ap (at_both X) e ∙ ap (λ (b : Bool). when b (at (ℓ-err X) v)) (eq-eqb X.old.head.alarm X.old.head.alarm refl)
 
   -- ---- the calls of PROCESS
@@ -93,25 +94,25 @@ module _ (X : Compared) (F : FaultlessChart X.old) (words : Words X.old.table) w
     -- PROCESS can leave that state
     pub process_can : (o : Option Spot) → OnSome (Fits 64) o → Called X s n r o (stepped_to X s n r (arrived X (ℓ₂' X n.new r) o))
     unfolding stepped_to
-    process_can none f = rw (fails X s n r) lines23to25
-    process_can (some h) f = go (line27 X (pair h.place (ℓ₂' X n.new r))) refl
+    process_can None f = rw (fails X s n r) lines23to25
+    process_can (Some h) f = go (line27 X (pair h.place (ℓ₂' X n.new r))) refl
       where
-        rescue : line27 X (pair h.place (ℓ₂' X n.new r)) ≡ true → (x : Option Spot) → rescued X h ≡ x → Called X s n r (some h) (stepped_to X s n r x)
-        rescue e none d = line27-so e (λ v S. none-ne-some _ (sym d ∙ search_rescues h f v S))
-        rescue e (some h') d = let z = rescued-search h f h' d in rw z.0 (footnote8 e z.1)
+        rescue : line27 X (pair h.place (ℓ₂' X n.new r)) ≡ true → (x : Option Spot) → rescued X h ≡ x → Called X s n r (Some h) (stepped_to X s n r x)
+        rescue e None d = line27-so e (λ v S. none-some _ (sym d ∙ search_rescues h f v S))
+        rescue e (Some h') d = let z = rescued-search h f h' d in rw z.0 (footnote8 e z.1)
 
-        go : (b : Bool) → line27 X (pair h.place (ℓ₂' X n.new r)) ≡ b → Called X s n r (some h) (stepped_to X s n r (arrived X (ℓ₂' X n.new r) (some h)))
+        go : (b : Bool) → line27 X (pair h.place (ℓ₂' X n.new r)) ≡ b → Called X s n r (Some h) (stepped_to X s n r (arrived X (ℓ₂' X n.new r) (Some h)))
         go true e = rw (stops X s n r h e) (rescue e (rescued X h) refl)
         go false e = rw (passes X s n r h e) (lines29to33 e)
 
     -- and no other
     pub process_only : (o : Option Spot) → OnSome (Fits 64) o → {t : State} → Called X s n r o t → t ≡ stepped_to X s n r (arrived X (ℓ₂' X n.new r) o)
     unfolding stepped_to
-    process_only none f lines23to25 = sym (ap (stepped_to X s n r) (fails X s n r))
-    process_only (some h) f (line27-so e unsearched) = go (rescued X h) refl
+    process_only None f lines23to25 = sym (ap (stepped_to X s n r) (fails X s n r))
+    process_only (Some h) f (line27-so e unsearched) = go (rescued X h) refl
       where
-        go : (x : Option Spot) → rescued X h ≡ x → to_place s n r (ℓ₂' X n.new r) ≡ stepped_to X s n r (arrived X (ℓ₂' X n.new r) (some h))
-        go none d = sym (ap (stepped_to X s n r) (stops X s n r h e ∙ d))
-        go (some h') d = absurd (unsearched h'.set (rescued-search h f h' d).1)
-    process_only (some h) f (footnote8 e S) = sym (ap (stepped_to X s n r) (stops X s n r h e ∙ search_rescues h f _ S))
-    process_only (some h) f (lines29to33 e) = sym (ap (stepped_to X s n r) (passes X s n r h e))
+        go : (x : Option Spot) → rescued X h ≡ x → to_place s n r (ℓ₂' X n.new r) ≡ stepped_to X s n r (arrived X (ℓ₂' X n.new r) (Some h))
+        go None d = sym (ap (stepped_to X s n r) (stops X s n r h e ∙ d))
+        go (Some h') d = absurd (unsearched h'.set (rescued-search h f h' d).1)
+    process_only (Some h) f (footnote8 e S) = sym (ap (stepped_to X s n r) (stops X s n r h e ∙ search_rescues h f _ S))
+    process_only (Some h) f (lines29to33 e) = sym (ap (stepped_to X s n r) (passes X s n r h e))

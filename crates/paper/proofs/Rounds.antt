@@ -4,7 +4,7 @@ use mathlib.Core.Path.{◌≡◌, refl, sym, ap, subst, ◌∙◌}
 use mathlib.Core.Bool.{Bool, true, false, not}
 use mathlib.Core.Logic.{dite}
 use mathlib.Core.List.{List}
-use mathlib.Core.Option.{Option, none, some}
+use Rattle.std.specs.Prelude.{Option, None, Some}
 use Prim.Native.Nat.{ℕ, zero, suc, ◌%◌, ◌^◌, ◌≤◌, ◌<◌}
 use native.Mathlib.Omega.{arith}
 use native.Mathlib.Decide.{ℕ_discrete, dec_lt}
@@ -207,7 +207,7 @@ module _ (X : Compared) (F : FaultlessChart X.old) (G : FaultlessChart X.new) wh
     pub inv : Inv X Every g
 
   -- the pair that a turn takes is the lowest of the waitlist
-  pops-lowest : (s : State) (g : Buffers) (n : ℕ) → Reads X s g → length g.waiting ≡ 4096 → next g ≡ some n → Lowest s (pair_of n)
+  pops-lowest : (s : State) (g : Buffers) (n : ℕ) → Reads X s g → length g.waiting ≡ 4096 → next g ≡ Some n → Lowest s (pair_of n)
   unfolding next lowest
   pops-lowest s g n R z e m w =
       let f = first-is (λ i x. not (eqb x 0)) g.waiting n e in
@@ -219,7 +219,7 @@ module _ (X : Compared) (F : FaultlessChart X.old) (G : FaultlessChart X.new) wh
       (λ l. omega arith)
 
   -- the pair that a turn takes, in hand
-  module _ (s : State) (g : Buffers) (n : ℕ) (R : Reads X s g) (I : Inv X Every g) (e : next g ≡ some n) where
+  module _ (s : State) (g : Buffers) (n : ℕ) (R : Reads X s g) (I : Inv X Every g) (e : next g ≡ Some n) where
     waiter : Waiter g n
     waiter = next-waits g n e
 
@@ -241,7 +241,7 @@ module _ (X : Compared) (F : FaultlessChart X.old) (G : FaultlessChart X.new) wh
     taken-waits : pair_of n is_in s.waitlist
     taken-waits = R.sets.waits n below ∙ marked_yes g.waiting n waiter.waits
 
-  turn_ran : Words X.old.table → Words X.new.table → (g : Buffers) (n : ℕ) → Ran g → next g ≡ some n → Ran (taken X g n)
+  turn_ran : Words X.old.table → Words X.new.table → (g : Buffers) (n : ℕ) → Ran g → next g ≡ Some n → Ran (taken X g n)
   turn_ran wo wn g n A e =
       let s = A.state in
       let R = A.reads in
@@ -296,19 +296,19 @@ module _ (X : Compared) (F : FaultlessChart X.old) (G : FaultlessChart X.new) wh
     going : Going next (taken X) weight Shaped (explored X) graph
 
   -- the lowest waiting pair is the one that the turn takes
-  takes_it : (s : State) (g : Buffers) (i : ℕ) → Reads X s g → Inv X Every g → i < 4096 → pair_of i is_in s.waitlist → Lowest s (pair_of i) → next g ≡ some i
+  takes_it : (s : State) (g : Buffers) (i : ℕ) → Reads X s g → Inv X Every g → i < 4096 → pair_of i is_in s.waitlist → Lowest s (pair_of i) → next g ≡ Some i
   takes_it s g i R I l w c = go (next g) refl
     where
-      go : (x : Option ℕ) → next g ≡ x → next g ≡ some i
-      go none e =
+      go : (x : Option ℕ) → next g ≡ x → next g ≡ Some i
+      go None e =
           absurd
           (let z = none-waits g e i (omega (arith, I.shaped.sized.waiting)) in
           not_in (sym (R.sets.waits i l) ∙ w) (marked_no g.waiting i z))
-      go (some k) e =
+      go (Some k) e =
           let a = pops-lowest s g k R I.shaped.sized.waiting e (pair_of i) w in
           let b = c (pair_of k) (taken-waits s g k R I e) in
           let z : k ≡ i = omega (arith, a, b) in
-          e ∙ ap some z
+          e ∙ ap Some z
 
   turn_come : Words X.old.table → Words X.new.table → (s t : State) → Come s → (i : ℕ) → i < 4096 → pair_of i is_in s.waitlist → Lowest s (pair_of i)
       → ForEach Y (Lines5to18 Y) (popped s (pair_of i)) (pair_of i) (size (edges Y (new_of i))) t → Come t
@@ -347,6 +347,6 @@ module _ (X : Compared) (F : FaultlessChart X.old) (G : FaultlessChart X.new) wh
       go : Come s → Reads X s (explored X)
       go A = subst (λ (h : Buffers). Reads X s h) (done_by next (taken X) weight Shaped (turns X F G) A.going (rests (next A.graph) refl)) A.reads
         where
-          rests : (x : Option ℕ) → next A.graph ≡ x → next A.graph ≡ none
-          rests none e = e
-          rests (some k) e = absurd (not_in (taken-waits s A.graph k A.reads A.inv e) (d (pair_of k)))
+          rests : (x : Option ℕ) → next A.graph ≡ x → next A.graph ≡ None
+          rests None e = e
+          rests (Some k) e = absurd (not_in (taken-waits s A.graph k A.reads A.inv e) (d (pair_of k)))

@@ -3,7 +3,7 @@
 use mathlib.Core.Path.{◌≡◌, refl, sym, ap, ap₂, subst, ◌∙◌}
 use mathlib.Core.Bool.{Bool, true, false, or-true}
 use mathlib.Core.Logic.{inl, inr, dite}
-use mathlib.Core.Option.{Option, none, some}
+use Rattle.std.specs.Prelude.{Option, None, Some}
 use Prim.Native.Nat.{ℕ, ◌%◌, ◌^◌, ◌<◌}
 use native.Mathlib.Omega.{arith}
 use native.Mathlib.Decide.{ℕ_discrete}
@@ -136,7 +136,7 @@ module _ (X : Compared) (F : FaultlessChart X.old) (G : FaultlessChart X.new) wh
           held = λ z. own;
         }
 
-    module _ (h : Spot) (came : step_of Y n v r ≡ some h) where
+    module _ (h : Spot) (came : step_of Y n v r ≡ Some h) where
       place : h.place ≡ successor Y (old_of n) (operation (rows_of Y.new n) r) (leads_to Y.new n r)
       unfolding step_of
       place = on_at _ (one_successor Y (old_of n) v (operation (rows_of Y.new n) r) (leads_to Y.new n r)) came
@@ -216,7 +216,7 @@ module _ (X : Compared) (F : FaultlessChart X.old) (G : FaultlessChart X.new) wh
             join-mark-same : n ≡ t → mark_at j n ≡ 1
             join-mark-same e = rw e (join-mark X.old.head.alarm g t h.set S.sized below)
 
-    some-row : (h : Spot) → step_of Y n v r ≡ some h → Fits 64 h → (b : Bool) → marked g.marks (kept_number (leads_to Y.new n r)) ≡ b
+    some-row : (h : Spot) → step_of Y n v r ≡ Some h → Fits 64 h → (b : Bool) → marked g.marks (kept_number (leads_to Y.new n r)) ≡ b
         → Row X n v (to_pair Y s (pair_of n) r (pair h.place (leads_to Y.new n r)) h.set)
         (elim b as (λ _. Buffers) [
           | true ↦ aim g n k (kept_number (leads_to Y.new n r))
@@ -243,8 +243,8 @@ module _ (X : Compared) (F : FaultlessChart X.old) (G : FaultlessChart X.new) wh
 
     edge_done : (o : Option Spot) → step_of Y n v r ≡ o → Row X n v (stepped_to Y s (pair_of n) r o) (processed X.old.head.alarm g n k (leads_to Y.new n r) o)
     unfolding processed turns.arrived stepped_to
-    edge_done none e = fails_row
-    edge_done (some h) e =
+    edge_done None e = fails_row
+    edge_done (Some h) e =
         some-row h e (step_of_fits X F G n v k Z.can 64 F.few_places (omega arith) w h (step_is ∙ e)) (marked g.marks (kept_number (leads_to Y.new n r))) refl
 
     row_read : Row X n v (stepped_to Y s (pair_of n) r (step_of Y n v r)) (row_done X g n v k)

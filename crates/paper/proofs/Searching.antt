@@ -3,7 +3,7 @@
 use mathlib.Core.Path.{◌≡◌, refl, sym, ap, subst, ◌∙◌}
 use mathlib.Core.Bool.{Bool, true, false, ◌&&◌, ◌||◌, not}
 use mathlib.Core.Logic.{inl, inr, ⊎_elim, ◌↔◌, ◌≢◌}
-use mathlib.Core.Option.{Option, some}
+use Rattle.std.specs.Prelude.{Option, Some}
 use Prim.Native.Nat.{ℕ, zero, suc, ◌+◌, ◌≤◌, ◌<◌}
 use native.Mathlib.Omega.{arith}
 use borrow.Author.Tests.{eq-eqb, eqb-true, lt-ltb, le-ltb, ltb-true, ltb-false, not-true}
@@ -200,7 +200,7 @@ module _ (new : Chart) (R : Record) (G : DifferenceGraph) (edges : (e : Edge) �
     search : Search G s.Q s.W
     numbered : (x : Node) → x is_in s.W → NodeNumbered x
 
-  found : (s : Now) (i : ℕ) → find s ≡ some i → (i < 4160) × (node_of i is_in s.W)
+  found : (s : Now) (i : ℕ) → find s ≡ Some i → (i < 4160) × (node_of i is_in s.W)
   unfolding find
   found s i e =
       on_at Waits (first_on Waits 4160 (λ k. when (s.W (node_of k)) k) (λ k l. when-so Waits (s.W (node_of k)) k (λ t. (l, is_true (s.W (node_of k)) t)))) e
@@ -226,7 +226,7 @@ module _ (new : Chart) (R : Record) (G : DifferenceGraph) (edges : (e : Edge) �
       other : (n : Node) → n ≢ x → only_node x n ≡ false
       other n f = ⊎_elim (λ h. absurd (f (sym (only_node_lem x n h)))) (λ h. h) (in_or_not (only_node x n))
 
-  act_good : (s : Now) (i : ℕ) → Good s → find s ≡ some i → Good (act s i)
+  act_good : (s : Now) (i : ℕ) → Good s → find s ≡ Some i → Good (act s i)
   unfolding act
   act_good s i A e =
       let w = (found s i e).1 in

@@ -3,7 +3,7 @@
 use mathlib.Core.Path.{◌≡◌, refl, sym, ap, ap₂, subst, ◌∙◌}
 use mathlib.Core.Bool.{Bool, true, false, not}
 use mathlib.Core.Logic.{◌⊎◌, inl, inr, ⊎_elim, dite, ◌↔◌}
-use mathlib.Core.Option.{Option, none, some}
+use Rattle.std.specs.Prelude.{Option, None, Some}
 use Prim.Native.Nat.{ℕ, zero, suc, ◌+◌, ◌^◌, ◌≤◌, ◌<◌}
 use native.Mathlib.Omega.{arith}
 use native.Mathlib.Decide.{ℕ_discrete}
@@ -105,28 +105,28 @@ module _ (X : Compared) (F : FaultlessChart X.old) (words : Words X.old.table) w
   one_match {o = o} {op = op} {op₂ = op₂} D E = ⊎_elim (λ e. e) (λ d. absurd (both_match o op op₂ d D.matches E.matches)) (two_edges D.edge E.edge)
 
   -- ---- line 13: the loop goes one way
-  pub onward-is : (ℓₚ : OldPlace) (Vδ : ℕ) (op : Operation) (q : OldPlace) → Line13 X ℓₚ op q → onward X (at ℓₚ Vδ) ≡ some (at q (with Vδ op.a))
+  pub onward-is : (ℓₚ : OldPlace) (Vδ : ℕ) (op : Operation) (q : OldPlace) → Line13 X ℓₚ op q → onward X (at ℓₚ Vδ) ≡ Some (at q (with Vδ op.a))
   unfolding onward along
   onward-is ℓₚ Vδ op q M = go (at_alarm X ℓₚ) refl (find (rows_at X ℓₚ) is_assignment) refl
     where
       go : (b : Bool) → at_alarm X ℓₚ ≡ b → (x : Option ℕ) → find (rows_at X ℓₚ) is_assignment ≡ x
-          → (elim b as (λ _. Option Spot) [ true ↦ none | false ↦ along Vδ (rows_at X ℓₚ) x ]) ≡ some (at q (with Vδ op.a))
+          → (elim b as (λ _. Option Spot) [ true ↦ None | false ↦ along Vδ (rows_at X ℓₚ) x ]) ≡ Some (at q (with Vδ op.a))
       go true d x f = absurd (M.not_err (eqb-true ℓₚ.0 X.old.head.alarm d))
-      go false d none f = absurd (T_true (sym (no_edge X ℓₚ is_assignment f op q M.edge) ∙ M.assignment))
-      go false d (some k) f =
+      go false d None f = absurd (T_true (sym (no_edge X ℓₚ is_assignment f op q M.edge) ∙ M.assignment))
+      go false d (Some k) f =
           let r = an_edge X ℓₚ is_assignment k f in
           let z = one-assignment (row-edge X ℓₚ k r.0) M.edge r.1 in
-          ap₂ (λ (x : OldPlace) (o : Operation). some (at x (with Vδ o.a))) z.1 z.0
+          ap₂ (λ (x : OldPlace) (o : Operation). Some (at x (with Vδ o.a))) z.1 z.0
 
-  pub onward-none : (ℓₚ : OldPlace) (Vδ : ℕ) → ((op : Operation) (q : OldPlace) → Line13 X ℓₚ op q → ⊥) → onward X (at ℓₚ Vδ) ≡ none
+  pub onward-none : (ℓₚ : OldPlace) (Vδ : ℕ) → ((op : Operation) (q : OldPlace) → Line13 X ℓₚ op q → ⊥) → onward X (at ℓₚ Vδ) ≡ None
   unfolding onward along
   onward-none ℓₚ Vδ n = go (at_alarm X ℓₚ) refl (find (rows_at X ℓₚ) is_assignment) refl
     where
       go : (b : Bool) → at_alarm X ℓₚ ≡ b → (x : Option ℕ) → find (rows_at X ℓₚ) is_assignment ≡ x
-          → ◌≡◌ {A = Option Spot} (elim b as (λ _. Option Spot) [ true ↦ none | false ↦ along Vδ (rows_at X ℓₚ) x ]) none
+          → ◌≡◌ {A = Option Spot} (elim b as (λ _. Option Spot) [ true ↦ None | false ↦ along Vδ (rows_at X ℓₚ) x ]) None
       go true d x f = refl
-      go false d none f = refl
-      go false d (some k) f =
+      go false d None f = refl
+      go false d (Some k) f =
           let r = an_edge X ℓₚ is_assignment k f in
           absurd
           (n (operation (rows_at X ℓₚ) k) (old_to (rows_at X ℓₚ) k)

@@ -4,7 +4,8 @@ use mathlib.Core.Path.{◌≡◌, refl, sym, ap, subst, ◌∙◌}
 use mathlib.Core.Bool.{Bool, true, false, ◌&&◌, ◌||◌, not}
 use mathlib.Core.Logic.{inl, inr, ⊎_elim, dite, ◌≢◌}
 use mathlib.Core.List.{List}
-use mathlib.Core.Option.{Option, none, some, none-ne-some, some-injective}
+use Rattle.std.specs.Prelude.{Option, None, Some}
+use Rattle.std.proofs.lemmas.Option.{none-some, same_Some}
 use Prim.Native.Nat.{ℕ, zero, suc, ◌-◌, ◌%◌, ◌^◌, ◌≤◌, ◌<◌}
 use native.Mathlib.Omega.{arith}
 use native.Mathlib.Decide.{ℕ_discrete, dec_lt}
@@ -97,7 +98,7 @@ unmet_few v l =
     omega (arith, unmet_most 0)
 
 -- ---- rows of a place are edges of G
-not_found : (rows : List ℕ) (f : Operation → Bool) → find rows f ≡ none → (k : ℕ) → k < size rows → f (operation rows k) ≡ false
+not_found : (rows : List ℕ) (f : Operation → Bool) → find rows f ≡ None → (k : ℕ) → k < size rows → f (operation rows k) ≡ false
 unfolding find
 not_found rows f e k l = not_due (f (operation rows k)) k (none_of (λ j. when (f (operation rows j)) j) (size rows) k e l)
 
@@ -114,33 +115,33 @@ module _ (X : Compared) where
       (before X.old.table p.0 E.row, stands X.old.table p.0 E.row E.there E.from, (same_row X.old.table p.0 E.row E.there E.from).operation-same ∙ E.operation)
 
   -- no edge passes where no row was found
-  pub no_edge : (p : OldPlace) (f : Operation → Bool) → find (rows_at X p) f ≡ none → (o : Operation) (q : OldPlace) → InG X p o q → f o ≡ false
+  pub no_edge : (p : OldPlace) (f : Operation → Bool) → find (rows_at X p) f ≡ None → (o : Operation) (q : OldPlace) → InG X p o q → f o ≡ false
   no_edge p f e o q E =
       let r = edge_row p o q E in
       ap f (sym r.2) ∙ not_found (rows_at X p) f e r.0 r.1
 
-  pub an_edge : (p : OldPlace) (f : Operation → Bool) (k : ℕ) → find (rows_at X p) f ≡ some k → (k < size (rows_at X p)) × (f (operation (rows_at X p) k) ≡ true)
+  pub an_edge : (p : OldPlace) (f : Operation → Bool) (k : ℕ) → find (rows_at X p) f ≡ Some k → (k < size (rows_at X p)) × (f (operation (rows_at X p) k) ≡ true)
   an_edge p f k e = let r = on_at _ (found (rows_at X p) f {P = λ o. f o ≡ true} (λ o h. h)) e in (r.inside, r.fits)
 
   -- ---- footnote 6: the row that is found, in edition 2
   abbrev pub writes : ℕ → Operation → Bool
   writes a o = is_assignment o && eqb o.a a
 
-  pub writing-row-some : (p : OldPlace) (a k : ℕ) → writing_row X p a ≡ some k → (X.edition ≡ 2) × (find (rows_at X p) (writes a) ≡ some k)
+  pub writing-row-some : (p : OldPlace) (a k : ℕ) → writing_row X p a ≡ Some k → (X.edition ≡ 2) × (find (rows_at X p) (writes a) ≡ Some k)
   unfolding writing_row
   writing-row-some p a k e = go (is_second X) refl e
     where
-      go : (b : Bool) → is_second X ≡ b → ◌≡◌ {A = Option ℕ} (elim b as (λ _. Option ℕ) [ true ↦ find (rows_at X p) (writes a) | false ↦ none ]) (some k)
-          → (X.edition ≡ 2) × (find (rows_at X p) (writes a) ≡ some k)
+      go : (b : Bool) → is_second X ≡ b → ◌≡◌ {A = Option ℕ} (elim b as (λ _. Option ℕ) [ true ↦ find (rows_at X p) (writes a) | false ↦ None ]) (Some k)
+          → (X.edition ≡ 2) × (find (rows_at X p) (writes a) ≡ Some k)
       go true t e = (eqb-true X.edition 2 t, e)
-      go false t e = absurd (none-ne-some k e)
+      go false t e = absurd (none-some k e)
 
-  pub writing-row-none : (p : OldPlace) (a : ℕ) → writing_row X p a ≡ none → X.edition ≡ 2 → find (rows_at X p) (writes a) ≡ none
+  pub writing-row-none : (p : OldPlace) (a : ℕ) → writing_row X p a ≡ None → X.edition ≡ 2 → find (rows_at X p) (writes a) ≡ None
   unfolding writing_row
-  writing-row-none p a e t = sym (pick_true (is_second X) (find (rows_at X p) (writes a)) none (eq-eqb X.edition 2 t)) ∙ e
+  writing-row-none p a e t = sym (pick_true (is_second X) (find (rows_at X p) (writes a)) None (eq-eqb X.edition 2 t)) ∙ e
 
   -- the row is an edge that footnote 6 takes
-  pub writing-edge : (p : OldPlace) (s : ℕ) (o : Operation) (k : ℕ) → writing_row X p o.a ≡ some k → Footnote6 X p s o (operation (rows_at X p) k) (old_to (rows_at X p) k)
+  pub writing-edge : (p : OldPlace) (s : ℕ) (o : Operation) (k : ℕ) → writing_row X p o.a ≡ Some k → Footnote6 X p s o (operation (rows_at X p) k) (old_to (rows_at X p) k)
   writing-edge p s o k e =
       let w = writing-row-some p o.a k e in
       let r = an_edge p (writes o.a) k w.1 in
@@ -148,23 +149,23 @@ module _ (X : Compared) where
       record { edition = w.0; edge = row-edge p k r.0; assignment = z.0; same = eqb-true (operation (rows_at X p) k).a o.a z.1 }
 
   -- where none was found it takes none
-  pub no_writing : (p : OldPlace) (s : ℕ) (o : Operation) → writing_row X p o.a ≡ none → (op : Operation) (q : OldPlace) → Footnote6 X p s o op q → ⊥
+  pub no_writing : (p : OldPlace) (s : ℕ) (o : Operation) → writing_row X p o.a ≡ None → (op : Operation) (q : OldPlace) → Footnote6 X p s o op q → ⊥
   no_writing p s o e op q W =
       T_true (sym (no_edge p (writes o.a) (writing-row-none p o.a e W.edition) op q W.edge) ∙ rw (W.assignment, W.same, eq-eqb o.a o.a refl))
 
   -- ---- lines 5 to 10
   module _ (p : OldPlace) (s : ℕ) (o : Operation) (b : s < 2 ^ 64) (a : o.a < 64) (t : is_assignment o ≡ true) where
-    lines10 : NoEqual X p s o → (x : Option ℕ) → writing_row X p o.a ≡ x → Lines5to18 X p s o (some (unequal X (record { place = p; set = s }) o.a x))
+    lines10 : NoEqual X p s o → (x : Option ℕ) → writing_row X p o.a ≡ x → Lines5to18 X p s o (Some (unequal X (record { place = p; set = s }) o.a x))
     unfolding unequal
-    lines10 n none e = line10 n (no_writing p s o e) (is-with s o.a)
-    lines10 n (some k) e = footnote6 n (writing-edge p s o k e) (is-with s o.a)
+    lines10 n None e = line10 n (no_writing p s o e) (is-with s o.a)
+    lines10 n (Some k) e = footnote6 n (writing-edge p s o k e) (is-with s o.a)
 
-    lines5to10 : (x : Option ℕ) → find (rows_at X p) (λ o'. same o' o) ≡ x → Lines5to18 X p s o (some (assigned X (record { place = p; set = s }) o x))
+    lines5to10 : (x : Option ℕ) → find (rows_at X p) (λ o'. same o' o) ≡ x → Lines5to18 X p s o (Some (assigned X (record { place = p; set = s }) o x))
     unfolding assigned rewritten
-    lines5to10 none e =
-        lines10 (record { assignment = t; none = λ q E. T_true (sym (no_edge p (λ o'. same o' o) e o q E.edge) ∙ same_self o) })
+    lines5to10 None e =
+        lines10 (record { assignment = t; None = λ q E. T_true (sym (no_edge p (λ o'. same o' o) e o q E.edge) ∙ same_self o) })
         (writing_row X p o.a) refl
-    lines5to10 (some k) e = go (meets s (read_set o)) refl
+    lines5to10 (Some k) e = go (meets s (read_set o)) refl
       where
         edge : InG X p o (old_to (rows_at X p) k)
         edge =
@@ -172,21 +173,21 @@ module _ (X : Compared) where
             subst (λ (o' : Operation). InG X p o' (old_to (rows_at X p) k)) (same→eq (operation (rows_at X p) k) o r.1) (row-edge p k r.0)
 
         go : (m : Bool) → meets s (read_set o) ≡ m
-            → Lines5to18 X p s o (some (record { place = old_to (rows_at X p) k; set = elim m as (λ _. ℕ) [ true ↦ with s o.a | false ↦ without s o.a ] }))
+            → Lines5to18 X p s o (Some (record { place = old_to (rows_at X p) k; set = elim m as (λ _. ℕ) [ true ↦ with s o.a | false ↦ without s o.a ] }))
         go true m = line7 (record { assignment = t; edge = edge }) (meeting s (read_set o) b m) (is-with s o.a)
         go false m = line8 (record { assignment = t; edge = edge }) (not_meeting s (read_set o) m) (is-without s o.a b a)
 
   -- ---- lines 12 to 14
   -- nothing is followed: the test of line 13 fails
-  onward-ends : (h : Spot) → onward X h ≡ none → (o : Operation) (q : OldPlace) → Line13 X h.place o q → ⊥
+  onward-ends : (h : Spot) → onward X h ≡ None → (o : Operation) (q : OldPlace) → Line13 X h.place o q → ⊥
   unfolding onward along
   onward-ends h e o q M = go (at_alarm X h.place) refl (find (rows_at X h.place) is_assignment) refl e
     where
       go : (b : Bool) → at_alarm X h.place ≡ b → (x : Option ℕ) → find (rows_at X h.place) is_assignment ≡ x
-          → ◌≡◌ {A = Option Spot} (elim b as (λ _. Option Spot) [ true ↦ none | false ↦ along h.set (rows_at X h.place) x ]) none → ⊥
+          → ◌≡◌ {A = Option Spot} (elim b as (λ _. Option Spot) [ true ↦ None | false ↦ along h.set (rows_at X h.place) x ]) None → ⊥
       go true d x f e = M.not_err (eqb-true h.place.0 X.old.head.alarm d)
-      go false d none f e = T_true (sym (no_edge h.place is_assignment f o q M.edge) ∙ M.assignment)
-      go false d (some k) f e = none-ne-some _ (sym e)
+      go false d None f e = T_true (sym (no_edge h.place is_assignment f o q M.edge) ∙ M.assignment)
+      go false d (Some k) f e = none-some _ (sym e)
 
 module _ (X : Compared) (F : FaultlessChart X.old) where
   -- one row is followed
@@ -196,14 +197,14 @@ module _ (X : Compared) (F : FaultlessChart X.old) where
     sets : IsWith h.set op.a h'.set
     small : h'.set < 2 ^ 64
 
-  onward_goes : (h h' : Spot) → h.set < 2 ^ 64 → onward X h ≡ some h' → Goes h h'
+  onward_goes : (h h' : Spot) → h.set < 2 ^ 64 → onward X h ≡ Some h' → Goes h h'
   unfolding onward along
   onward_goes h h' b e = go (at_alarm X h.place) refl (find (rows_at X h.place) is_assignment) refl e
     where
       rows : List ℕ
       rows = rows_at X h.place
 
-      by : (k : ℕ) → at_alarm X h.place ≡ false → find rows is_assignment ≡ some k → Goes h (record { place = old_to rows k; set = with h.set (operation rows k).a })
+      by : (k : ℕ) → at_alarm X h.place ≡ false → find rows is_assignment ≡ Some k → Goes h (record { place = old_to rows k; set = with h.set (operation rows k).a })
       by k d f =
           let r = an_edge X h.place is_assignment k f in
           record {
@@ -214,16 +215,16 @@ module _ (X : Compared) (F : FaultlessChart X.old) where
           }
 
       go : (b : Bool) → at_alarm X h.place ≡ b → (x : Option ℕ) → find rows is_assignment ≡ x
-          → (elim b as (λ _. Option Spot) [ true ↦ none | false ↦ along h.set rows x ]) ≡ some h' → Goes h h'
-      go true d x f e = absurd (none-ne-some h' e)
-      go false d none f e = absurd (none-ne-some h' e)
-      go false d (some k) f e = subst (Goes h) (some-injective _ h' e) (by k d f)
+          → (elim b as (λ _. Option Spot) [ true ↦ None | false ↦ along h.set rows x ]) ≡ Some h' → Goes h h'
+      go true d x f e = absurd (none-some h' e)
+      go false d None f e = absurd (none-some h' e)
+      go false d (Some k) f e = subst (Goes h) (same_Some _ h' e) (by k d f)
 
   module _ (ℓ₁ : OldPlace) (start : ℕ) where
     -- the loop has ended, or has come to a place twice
     pub data Walked : Option Spot → Type 0 where
-      came : {h : Spot} {been : SetOf OldPlace} → Loop X ℓ₁ start been h.place h.set → onward X h ≡ none → h.set < 2 ^ 64 → Walked (some h)
-      twice : {been : SetOf OldPlace} {p : OldPlace} {s : ℕ} → Loop X ℓ₁ start been p s → p is_in been → Walked none
+      came : {h : Spot} {been : SetOf OldPlace} → Loop X ℓ₁ start been h.place h.set → onward X h ≡ None → h.set < 2 ^ 64 → Walked (Some h)
+      twice : {been : SetOf OldPlace} {p : OldPlace} {s : ℕ} → Loop X ℓ₁ start been p s → p is_in been → Walked None
 
     walk : (n met : ℕ) (h : Spot) (been : SetOf OldPlace) → Loop X ℓ₁ start been h.place h.set → h.set < 2 ^ 64 → met < 2 ^ 64
         → ((i : ℕ) → In i met → record { 0 = i } is_in (been plus only_old h.place)) → unmet met < n → Walked (follow X n met h)
@@ -234,9 +235,9 @@ module _ (X : Compared) (F : FaultlessChart X.old) where
         go : ((met' : ℕ) (h' : Spot) (been' : SetOf OldPlace) → Loop X ℓ₁ start been' h'.place h'.set → h'.set < 2 ^ 64 → met' < 2 ^ 64
             → ((i : ℕ) → In i met' → record { 0 = i } is_in (been' plus only_old h'.place)) → unmet met' < n → Walked (follow X n met' h'))
             → (o : Option Spot) → onward X h ≡ o
-            → Walked (elim o as (λ _. Option Spot) [ none ↦ some h | some h' ↦ elim (meets met (alone h'.place.0)) as (λ _. Option Spot) [ true ↦ none | false ↦ follow X n (with met h'.place.0) h' ] ])
-        go ih none e = came L e b
-        go ih (some h') e = pick (meets met (alone h'.place.0)) refl
+            → Walked (elim o as (λ _. Option Spot) [ None ↦ Some h | Some h' ↦ elim (meets met (alone h'.place.0)) as (λ _. Option Spot) [ true ↦ None | false ↦ follow X n (with met h'.place.0) h' ] ])
+        go ih None e = came L e b
+        go ih (Some h') e = pick (meets met (alone h'.place.0)) refl
           where
             G : Goes h h'
             G = onward_goes h h' b e
@@ -247,7 +248,7 @@ module _ (X : Compared) (F : FaultlessChart X.old) where
             L' : Loop X ℓ₁ start more h'.place h'.set
             L' = line14 L G.line G.sets
 
-            pick : (k : Bool) → meets met (alone h'.place.0) ≡ k → Walked (elim k as (λ _. Option Spot) [ true ↦ none | false ↦ follow X n (with met h'.place.0) h' ])
+            pick : (k : Bool) → meets met (alone h'.place.0) ≡ k → Walked (elim k as (λ _. Option Spot) [ true ↦ None | false ↦ follow X n (with met h'.place.0) h' ])
             pick true t = twice L' (let r = meet_some met (alone h'.place.0) c t in m h'.place.0 (subst (λ (i : ℕ). In i met) (alone_only r.0 h'.place.0 r.3) r.2))
             pick false t =
                 ih (with met h'.place.0) h' more L' G.small (with-small met h'.place.0 c below)
@@ -301,23 +302,23 @@ module _ (X : Compared) (F : FaultlessChart X.old) where
     passes : Operation → Bool
     passes op = is_assumption op && is_implied (implication o op)
 
-    pub no_match : matching rows o ≡ none → h.place.0 ≢ X.old.head.alarm → (op : Operation) (q : OldPlace) → Line15 X ℓ₁ start o h.place op q → ⊥
+    pub no_match : matching rows o ≡ None → h.place.0 ≢ X.old.head.alarm → (op : Operation) (q : OldPlace) → Line15 X ℓ₁ start o h.place op q → ⊥
     unfolding matching passes
     no_match e n op q M =
         let z = both-missing (find rows (λ o'. same o' o)) (find rows passes) e in
         ⊎_elim (λ i. T_true (sym (no_edge X h.place (λ o'. same o' o) z.0 op q M.edge) ∙ rw i (same_self o)))
         (λ i. T_true (sym (no_edge X h.place passes z.1 op q M.edge) ∙ rw (edge_assumes op q n M.edge, so-implied op (edge_operands words h.place op q M.edge) i.0 i.1))) M.matches
 
-    pub a_match : (k : ℕ) → matching rows o ≡ some k → h.place.0 ≢ X.old.head.alarm → Line15 X ℓ₁ start o h.place (operation rows k) (old_to rows k)
+    pub a_match : (k : ℕ) → matching rows o ≡ Some k → h.place.0 ≢ X.old.head.alarm → Line15 X ℓ₁ start o h.place (operation rows k) (old_to rows k)
     unfolding matching passes
     a_match k e n = go (find rows (λ o'. same o' o)) refl e
       where
-        go : (x : Option ℕ) → find rows (λ o'. same o' o) ≡ x → or_else x (find rows passes) ≡ some k → Line15 X ℓ₁ start o h.place (operation rows k) (old_to rows k)
-        go none f e =
+        go : (x : Option ℕ) → find rows (λ o'. same o' o) ≡ x → or_else x (find rows passes) ≡ Some k → Line15 X ℓ₁ start o h.place (operation rows k) (old_to rows k)
+        go None f e =
             let r = an_edge X h.place passes k e in
             let g = row-edge X h.place k r.0 in
             record { not_err = n; edge = g; matches = inr (implied-so (operation rows k) (edge_operands words h.place (operation rows k) (old_to rows k) g) (and_true (is_assumption (operation rows k)) _ r.1).1) }
-        go (some j) f e =
+        go (Some j) f e =
             let r = an_edge X h.place (λ o'. same o' o) k (f ∙ e) in
             record { not_err = n; edge = row-edge X h.place k r.0; matches = inl (same→eq (operation rows k) o r.1) }
 
@@ -332,11 +333,11 @@ module _ (X : Compared) (F : FaultlessChart X.old) where
         meets_either k false false d f M =
             line17 E M (λ z. ⊎_elim (λ y. not_meeting h.set (read_set (operation rows k)) f y) (λ y. not_meeting h.set (read_set o) d y) z)
 
-        go : (a : Bool) → at_alarm X h.place ≡ a → (x : Option ℕ) → ◌≡◌ {A = Option ℕ} (elim a as (λ _. Option ℕ) [ true ↦ none | false ↦ matching rows o ]) x → Lines5to18 X ℓ₁ start o (assumed X h o x)
-        go true a none e = line18 E (λ op q M. M.not_err (eqb-true h.place.0 X.old.head.alarm a))
-        go true a (some k) e = absurd (none-ne-some k e)
-        go false a none e = line18 E (no_match e (eqb-false h.place.0 X.old.head.alarm a))
-        go false a (some k) e = meets_either k (meets h.set (read_set o)) (meets h.set (read_set (operation rows k))) refl refl (a_match k e (eqb-false h.place.0 X.old.head.alarm a))
+        go : (a : Bool) → at_alarm X h.place ≡ a → (x : Option ℕ) → ◌≡◌ {A = Option ℕ} (elim a as (λ _. Option ℕ) [ true ↦ None | false ↦ matching rows o ]) x → Lines5to18 X ℓ₁ start o (assumed X h o x)
+        go true a None e = line18 E (λ op q M. M.not_err (eqb-true h.place.0 X.old.head.alarm a))
+        go true a (Some k) e = absurd (none-some k e)
+        go false a None e = line18 E (no_match e (eqb-false h.place.0 X.old.head.alarm a))
+        go false a (Some k) e = meets_either k (meets h.set (read_set o)) (meets h.set (read_set (operation rows k))) refl refl (a_match k e (eqb-false h.place.0 X.old.head.alarm a))
 
   -- ---- all of them
   pub step_lines : Words X.old.table → (p : OldPlace) (s : ℕ) (o : Operation) → p.0 < 64 → s < 2 ^ 64 → Operands o → Lines5to18 X p s o (moved X (record { place = p; set = s }) o)
@@ -346,14 +347,14 @@ module _ (X : Compared) (F : FaultlessChart X.old) where
       h : Spot
       h = record { place = p; set = s }
 
-      on : is_assignment o ≡ false → {x : Option Spot} → Walked p s x → Lines5to18 X p s o (elim x [ none ↦ none | some h' ↦ assumed X h' o (counterpart X h'.place o) ])
+      on : is_assignment o ≡ false → {x : Option Spot} → Walked p s x → Lines5to18 X p s o (elim x [ None ↦ None | Some h' ↦ assumed X h' o (counterpart X h'.place o) ])
       on t (came {h = h'} {been = been} L e c) = lines15to18 words p s o fits h' (record { assumption = t; been = been; loop = L; ends = onward-ends X h' e }) c (counterpart X h'.place o) refl
       on t (twice L i) = line13_cut t L i
 
       go : (a : Bool) → is_assignment o ≡ a
           → Lines5to18 X p s o (elim a as (λ _. Option Spot) [
-            | true ↦ some (assigned X h o (find (rows_at X p) (λ o'. same o' o)))
-            | false ↦ elim (followed X h) as (λ _. Option Spot) [ none ↦ none | some h' ↦ assumed X h' o (counterpart X h'.place o) ]
+            | true ↦ Some (assigned X h o (find (rows_at X p) (λ o'. same o' o)))
+            | false ↦ elim (followed X h) as (λ _. Option Spot) [ None ↦ None | Some h' ↦ assumed X h' o (counterpart X h'.place o) ]
           ])
       go true t = lines5to10 X p s o b fits.a t (find (rows_at X p) (λ o'. same o' o)) refl
       go false t = on t (walked p s l b)

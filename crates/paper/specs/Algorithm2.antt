@@ -3,8 +3,7 @@
 -- (document 01's choice is `Lowest`), and lines 5 to 18, which are transcribed by themselves in Lines5to18.antt. Lines
 -- are counted as the listing counts them; the source's prose counts those of PROCESS one lower. "Edition 2 is compared
 -- with Algorithm 2 plus these footnotes" (document 02, #104): footnote 8 stands beside line 27.
-use Rattle.std.specs.Prelude.{Bool, true, false, ◌&&◌, ◌||◌, not, ◌≡◌, ◌⊎◌, List, ℕ, suc, ◌≤◌, eqb}
-use Rattle.std.proofs.Math.Option.{Option, none, some}
+use Rattle.std.specs.Prelude.{Bool, true, false, ◌&&◌, ◌||◌, not, ◌≡◌, ◌⊎◌, List, ℕ, suc, ◌≤◌, eqb, Option, None, Some}
 use Rattle.operations.specs.declared.Operation.{Operation}
 use Rattle.chart.specs.declared.places.OldPlace.{OldPlace}
 use Rattle.chart.specs.declared.places.NewPlace.{NewPlace}
@@ -145,8 +144,8 @@ module _ (X : Compared) where
   -- the calls of PROCESS in line 16, or where lines 12 to 14 are cut; and in lines 9, 10 (and its footnote 6), 17 and
   -- 18: from a state to the one that the call leaves
   abbrev pub Called : State → Pair → ℕ → Option Spot → State → Type 0
-  Called s n r none t = Process s n r (indicator (ℓ₂' n.new r)) 0 t
-  Called s n r (some h) t = Process s n r (aligned (pair h.place (ℓ₂' n.new r))) h.set t
+  Called s n r None t = Process s n r (indicator (ℓ₂' n.new r)) 0 t
+  Called s n r (Some h) t = Process s n r (aligned (pair h.place (ℓ₂' n.new r))) h.set t
 
   module _ (lines5to18 : Step) where
     -- line 4: the first k edges of the pair n one after another, "its rows in table order, reading its set afresh for

@@ -5,8 +5,7 @@
 -- chart no two edges of a place match: the aligned step is an outcome of these lines (proofs/Stepping.antt), and the
 -- only one (proofs/Outcomes.antt). "Edition 2 is compared with Algorithm 2 plus these footnotes" (document 02, #104):
 -- footnote 6 stands beside line 10.
-use Rattle.std.specs.Prelude.{◌≡◌, true, false, ◌⊎◌, ◌≢◌, ◌↔◌, ℕ, ◌<◌, eqb}
-use Rattle.std.proofs.Math.Option.{Option, none, some}
+use Rattle.std.specs.Prelude.{◌≡◌, true, false, ◌⊎◌, ◌≢◌, ◌↔◌, ℕ, ◌<◌, eqb, Option, None, Some}
 use Rattle.operations.specs.declared.Operation.{Operation}
 use Rattle.operations.specs.Assumptions.{NeverHolds, Implies}
 use Rattle.operations.specs.Operations.{is_assignment}
@@ -73,7 +72,7 @@ module _ (X : Compared) where
     -- the else of line 10: op' is assignment, and no (ℓ_1, op', ℓ_2) ∈ G
     pub record NoEqual : Type 0 where
       pub assignment : is_assignment op' ≡ true
-      pub none : (ℓ₂ : OldPlace) → Lines5and6 ℓ₂ → ⊥
+      pub None : (ℓ₂ : OldPlace) → Lines5and6 ℓ₂ → ⊥
 
     -- footnote 6, in edition 2: the implementation "also keeps the alignment if an assignment exists that changes the
     -- same variables": some (ℓ_1, op, ℓ_2) ∈ G with wrt(op) = wrt(op')
@@ -102,7 +101,7 @@ module _ (X : Compared) where
 
     -- what PROCESS is called with: `none` for ℓ'_2, `to ℓ V_diff` for the pair (ℓ, ℓ'_2) with V_diff
     abbrev pub to : OldPlace → ℕ → Option Spot
-    to ℓ Vdiff = some (record { place = ℓ; set = Vdiff })
+    to ℓ Vdiff = Some (record { place = ℓ; set = Vdiff })
 
     -- lines 5 to 18: the calls of PROCESS in lines 9, 10 (and its footnote 6), 16, 17 and 18, each by the lines that
     -- lead to it
@@ -119,11 +118,11 @@ module _ (X : Compared) where
       footnote6 : {ℓ₂ : OldPlace} {Vdiff : ℕ} {op : Operation}
           → NoEqual → Footnote6 op ℓ₂ → IsWith Vδ op'.a Vdiff → Lines5to18 (to ℓ₂ Vdiff)
       line16 : {ℓₚ ℓ₂ : OldPlace} {Vdiff : ℕ} {op : Operation}
-          → Lines11to14 ℓₚ Vdiff → Line15 ℓₚ op ℓ₂ → Line16 Vdiff op → Lines5to18 none
+          → Lines11to14 ℓₚ Vdiff → Line15 ℓₚ op ℓ₂ → Line16 Vdiff op → Lines5to18 None
       line17 : {ℓₚ ℓ₂ : OldPlace} {Vdiff : ℕ} {op : Operation}
           → Lines11to14 ℓₚ Vdiff → Line15 ℓₚ op ℓ₂ → (Line16 Vdiff op → ⊥) → Lines5to18 (to ℓ₂ Vdiff)
       line18 : {ℓₚ : OldPlace} {Vdiff : ℕ}
           → Lines11to14 ℓₚ Vdiff → ((op : Operation) (ℓ₂ : OldPlace) → Line15 ℓₚ op ℓ₂ → ⊥) → Lines5to18 (to ℓₚ Vdiff)
       -- document 01's cut of the loop, which need not end: "Coming to a place twice here is a failed step."
       line13_cut : {been : SetOf OldPlace} {ℓₚ : OldPlace} {Vdiff : ℕ}
-          → is_assignment op' ≡ false → Loop ℓ₁ Vδ been ℓₚ Vdiff → ℓₚ is_in been → Lines5to18 none
+          → is_assignment op' ≡ false → Loop ℓ₁ Vδ been ℓₚ Vdiff → ℓₚ is_in been → Lines5to18 None

@@ -4,7 +4,8 @@ use mathlib.Core.Path.{◌≡◌, refl, sym, ap, subst}
 use mathlib.Core.List.{List}
 use Prim.Native.Nat.{ℕ, ◌^◌, ◌≤◌, ◌<◌}
 use native.Mathlib.Omega.{arith}
-use Rattle.base.specs.Answers.{Answer, given, refused}
+use Rattle.base.specs.Answers.{Answer}
+use Rattle.std.specs.Prelude.{Ok, Err}
 use Rattle.base.specs.declared.Refusal.{Refusal}
 use Rattle.base.specs.Chains.{mapped}
 use Rattle.base.specs.inner.Fits.{FitsOr}
@@ -34,29 +35,29 @@ module _ (old old' new : List ℕ) where
   one-refused : (a b : Answer Chart) (r : Refusal) → FitsOr FaultlessChart a → told_read (read.Refused r) ≡ mapped heading a → old' ≡ filled a old
       → Told a b (both.Refused r) old old' new new
   unfolding told_read both_of told_both filled
-  one-refused (given C) b r s e f = absurd (different (sym e))
-  one-refused (refused q) b r s e f =
+  one-refused (Ok C) b r s e f = absurd (different (sym e))
+  one-refused (Err q) b r s e f =
       let i : r ≡ q = cc in
-      (record { told = ap (λ (x : Refusal). refused x) i; old-table = f; new-table = refl }, rw i s.position)
+      (record { told = ap (λ (x : Refusal). Err x) i; old-table = f; new-table = refl }, rw i s.position)
 
   module _ (new' : List ℕ) where
     -- the new text is refused
     two_refused : (a b : Answer Chart) (h : Head) (k : ℕ) (r : Refusal) → FitsOr FaultlessChart b → told_read (read.Chart h k) ≡ mapped heading a → old' ≡ filled a old
         → told_read (read.Refused r) ≡ mapped heading b → new' ≡ filled b new → Told a b (both.Refused (in_new r)) old old' new new'
     unfolding told_read both_of told_both
-    two_refused (refused q) b h k r s e f e' f' = absurd (different e)
-    two_refused (given C) (given D) h k r s e f e' f' = absurd (different (sym e'))
-    two_refused (given C) (refused q) h k r s e f e' f' =
+    two_refused (Err q) b h k r s e f e' f' = absurd (different e)
+    two_refused (Ok C) (Ok D) h k r s e f e' f' = absurd (different (sym e'))
+    two_refused (Ok C) (Err q) h k r s e f e' f' =
         let i : r ≡ q = cc in
-        (record { told = ap (λ (x : Refusal). refused (in_new x)) i; old-table = f; new-table = f' }, rw i s.position)
+        (record { told = ap (λ (x : Refusal). Err (in_new x)) i; old-table = f; new-table = f' }, rw i s.position)
 
     -- both are charts
     two_charts : (a b : Answer Chart) (h : Head) (m : ℕ) (g : Head) (n : ℕ) {x : Heads} → x ≡ both_heads program_edition h g → FitsOr FaultlessChart a → FitsOr FaultlessChart b → told_read (read.Chart h m) ≡ mapped heading a → old' ≡ filled a old
         → told_read (read.Chart g n) ≡ mapped heading b → new' ≡ filled b new → Told a b (both.Charts x m n) old old' new new'
     unfolding told_read both_of told_both
-    two_charts (refused q) b h m g n z s s' e f e' f' = absurd (different e)
-    two_charts (given C) (refused q) h m g n z s s' e f e' f' = absurd (different e')
-    two_charts (given C) (given D) h m g n z s s' e f e' f' =
+    two_charts (Err q) b h m g n z s s' e f e' f' = absurd (different e)
+    two_charts (Ok C) (Err q) h m g n z s s' e f e' f' = absurd (different e')
+    two_charts (Ok C) (Ok D) h m g n z s s' e f e' f' =
         let i : h ≡ C.head = ap (head_or h) e in
         let k : m ≡ size C.table = ap rows_told e in
         let i' : g ≡ D.head = ap (head_or g) e' in

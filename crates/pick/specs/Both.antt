@@ -1,6 +1,6 @@
 -- What reading both texts answers ("the program finishes old.csv before new.csv"), and leaves in the two tables.
-use Rattle.std.specs.Prelude.{◌≡◌, List, ℕ}
-use Rattle.base.specs.Answers.{Answer, given, refused}
+use Rattle.std.specs.Prelude.{◌≡◌, List, ℕ, Ok, Err}
+use Rattle.base.specs.Answers.{Answer}
 use Rattle.base.specs.Chains.{and_then, mapped}
 use Rattle.chart.specs.Charts.{Chart}
 use Rattle.chart.specs.Compared.{Compared, sole_old, sole_new}
@@ -22,12 +22,12 @@ headings X = record { edition = X.edition; old = heading X.old; new = heading X.
 -- what the code's answer says, "for each of the enum's cases"
 unfoldable pub told_both : Both → Answer Headings
 told_both (answer.Charts heads rows more) =
-    given (record {
+    Ok (record {
       edition = heads.edition;
       old = record { head = sole_old heads.old; rows = rows };
       new = record { head = sole_new heads.new; rows = more };
     })
-told_both (answer.Refused r) = refused r
+told_both (answer.Refused r) = Err r
 
 -- "The program reads old.csv and new.csv": the answer r, where a and b are read of the two texts, and the two tables
 -- before and after: the old chart's rows at the front of the first, the new chart's at the front of the second, which

@@ -1,11 +1,11 @@
 -- What each call answers fits its place in one number, and which number it makes. Assumes nothing.
 use mathlib.Core.Path.{◌≡◌, refl, sym, ap, subst, ◌∙◌}
 use mathlib.Core.List.{List}
-use mathlib.Core.Option.{Option, none, some}
+use Rattle.std.specs.Prelude.{Option, None, Some, Ok, Err}
 use Prim.Native.Nat.{ℕ, ◌%◌, ◌^◌, ◌≤◌, ◌<◌}
 use native.Mathlib.Omega.{arith}
 use lib.ListN.{length, get_or}
-use Rattle.base.specs.Answers.{Answer, given, refused}
+use Rattle.base.specs.Answers.{Answer}
 use Rattle.base.specs.Chains.{mapped}
 use Rattle.base.specs.declared.Refusal.{Refusal}
 use Rattle.base.specs.Refusals.{unless}
@@ -63,8 +63,8 @@ one_below n h = record { a = h; b = omega arith; c = omega arith; d = omega arit
 
 -- ---- a chart that is read
 twice : (a : Answer Chart) → mapped of_heading (mapped heading a) ≡ mapped of_chart a
-twice (given C) = refl
-twice (refused r) = refl
+twice (Ok C) = refl
+twice (Err r) = refl
 
 pub read_answers : (text table : List ℕ) {x : Answer Four} {h : Answer Heading} → h ≡ mapped heading (read_into text table) → x ≡ mapped of_heading h
     → Answers x (mapped of_chart (read_into text table))
@@ -78,8 +78,8 @@ read_answers text table e i =
 
 -- ---- a text that is written
 counted : (a : Answer (List ℕ)) → mapped one (mapped length a) ≡ mapped of_text a
-counted (given t) = refl
-counted (refused r) = refl
+counted (Ok t) = refl
+counted (Err r) = refl
 
 module _ (places alarm : ℕ) (rows : List ℕ) (lent : ℕ) where
   pub write_answers : places ≤ 4294967295 → alarm ≤ 4294967295 → ((i : ℕ) → get_or rows i 0 ≤ 4294967295) → {x : Answer Four} {b : Answer ℕ}
@@ -99,9 +99,9 @@ due_answers {p} h e i =
     record { is = i ∙ ap (λ (o : Option Refusal). unless o zeros) e; fits = unless-fits Below p zeros h (λ _. one_below 0 (omega arith)) }
 
 -- the number is 0 only where none is due
-pub none-due : (p : Option Refusal) → OnSome Fits p → number (unless p zeros) ≡ 0 → p ≡ none
-none-due none h e = refl
-none-due (some r) h e = absurd (omega (arith, refused-high r h))
+pub none-due : (p : Option Refusal) → OnSome Fits p → number (unless p zeros) ≡ 0 → p ≡ None
+none-due None h e = refl
+none-due (Some r) h e = absurd (omega (arith, refused-high r h))
 
 -- ---- two charts, whose heads are made of the numbers lent
 pub lent_is : (edition : ℕ) (o n : Head) (t u : List ℕ) {h : Heads} → h ≡ both_heads edition o n → compared h t u ≡ both edition (charted o t) (charted n u)
@@ -131,9 +131,9 @@ module _ {b : Built} {x : Answer Four} (i : x ≡ mapped of_build (told_built b)
       go (built.Refused r) c i h = let j = e ∙ ap number i in absurd (omega (arith, refused-high r (rw i at h)))
 
   module _ (X : Compared) (marks targets sets : List ℕ) where
-    pub built_passes : ((s : Summary) → b ≡ built.Done s → refusal X (record_of s.start marks targets sets) ≡ none)
-        → refusal X (record_of (n % 2 ^ 14) marks targets sets) ≡ none
-    built_passes = told-start (λ (k : ℕ). refusal X (record_of k marks targets sets) ≡ none)
+    pub built_passes : ((s : Summary) → b ≡ built.Done s → refusal X (record_of s.start marks targets sets) ≡ None)
+        → refusal X (record_of (n % 2 ^ 14) marks targets sets) ≡ None
+    built_passes = told-start (λ (k : ℕ). refusal X (record_of k marks targets sets) ≡ None)
 
     pub built-returned : ((s : Summary) → b ≡ built.Done s → Returned X (record_of s.start marks targets sets))
         → Returned X (record_of (n % 2 ^ 14) marks targets sets)

@@ -8,7 +8,7 @@ use native.Mathlib.Omega.{arith}
 use borrow.Author.Tests.{eq-eqb, ne_eqb}
 use lib.Dec.{eqb, ltb}
 use lib.ListN.{length, get_or, drop}
-use Rattle.base.specs.Answers.{given, refused}
+use Rattle.std.specs.Prelude.{Ok, Err}
 use Rattle.base.specs.Chains.{mapped}
 use Rattle.base.specs.Options.{missing}
 use Rattle.base.specs.declared.Refusal.{Refusal}
@@ -65,22 +65,22 @@ module _ (X : Compared) (chart p : ℕ) where
   part_below {part} v w e i = rw i (one_below (length part / 6) (omega (arith, part_short v w e)))
 
   module _ (rows : List ℕ) where
-    refused_21 : (length rows ≡ 12 → ⊥) → looked_up X chart p rows ≡ refused (sole 21 0)
+    refused_21 : (length rows ≡ 12 → ⊥) → looked_up X chart p rows ≡ Err (sole 21 0)
     unfolding looked_up
     refused_21 n = rw (ne_eqb (length rows) 12 n, looked_up)
 
-    given_part : length rows ≡ 12 → looked_up X chart p rows ≡ given (lookup X chart p)
+    given_part : length rows ≡ 12 → looked_up X chart p rows ≡ Ok (lookup X chart p)
     unfolding looked_up
     given_part e = rw (eq-eqb (length rows) 12 e, looked_up)
 
     -- another length than 12
-    pub length-refused : {x : ℕ} {r : Refusal} → (length rows ≡ 12 → ⊥) → r ≡ sole 21 0 → x ≡ number (refused r)
+    pub length-refused : {x : ℕ} {r : Refusal} → (length rows ≡ 12 → ⊥) → r ≡ sole 21 0 → x ≡ number (Err r)
         → (x ≡ number (mapped of_rows (looked_up X chart p rows))) × (rows ≡ handed (looked_up X chart p rows) rows)
     unfolding handed
-    length-refused n i e = rw (refused_21 n) (e ∙ ap (λ (r : Refusal). number (refused r)) i, refl)
+    length-refused n i e = rw (refused_21 n) (e ∙ ap (λ (r : Refusal). number (Err r)) i, refl)
 
     pub part_handed : {part after : List ℕ} {f : Four} {x : ℕ} → length rows ≡ 12 → part ≡ lookup X chart p → after ≡ part ++ drop (length part) rows
-        → f ≡ one (length part / 6) → x ≡ number (given f)
+        → f ≡ one (length part / 6) → x ≡ number (Ok f)
         → (x ≡ number (mapped of_rows (looked_up X chart p rows))) × (after ≡ handed (looked_up X chart p rows) rows)
     unfolding handed
-    part_handed e i h j k = rw (given_part e, sym i) (k ∙ ap (λ (f : Four). number (given f)) j, h)
+    part_handed e i h j k = rw (given_part e, sym i) (k ∙ ap (λ (f : Four). number (Ok f)) j, h)

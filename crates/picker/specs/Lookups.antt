@@ -1,6 +1,6 @@
 -- The row lookup with its part copied: picker_lookup of include/picker.h.
-use Rattle.std.specs.Prelude.{not, List, ◌++◌, ℕ, eqb, length, drop}
-use Rattle.base.specs.Answers.{Answer, given, refused}
+use Rattle.std.specs.Prelude.{not, List, ◌++◌, ℕ, eqb, length, drop, Ok, Err}
+use Rattle.base.specs.Answers.{Answer}
 use Rattle.base.specs.Refusals.{due, unless}
 use Rattle.chart.specs.Charts.{size}
 use Rattle.chart.specs.Compared.{Compared}
@@ -14,8 +14,8 @@ looked_up X chart p rows = unless (due (not (eqb (length rows) 12)) 21 0) (looku
 
 -- the lent entries afterwards: the part at the front, and those past it stay; "lent memory is untouched" by a refusal
 unfoldable pub handed : Answer (List ℕ) → List ℕ → List ℕ
-handed (given part) rows = part ++ drop (length part) rows
-handed (refused r) rows = rows
+handed (Ok part) rows = part ++ drop (length part) rows
+handed (Err r) rows = rows
 
 -- picker_lookup_rows of include/picker.h, of a part: the count of its rows, 0, 0, 0
 abbrev pub of_rows : List ℕ → Four

@@ -1,6 +1,6 @@
 -- An answer as one number, as include/picker.h takes it apart.
-use Rattle.std.specs.Prelude.{List, ℕ, ◌+◌, ◌*◌, ◌^◌, length}
-use Rattle.base.specs.Answers.{Answer, given, refused}
+use Rattle.std.specs.Prelude.{List, ℕ, ◌+◌, ◌*◌, ◌^◌, length, Ok, Err}
+use Rattle.base.specs.Answers.{Answer}
 use Rattle.chart.specs.Charts.{Chart, charted, size}
 use Rattle.condition.specs.declared.Summary.{Summary}
 use Rattle.picker.specs.declared.Four.{Four}
@@ -13,8 +13,8 @@ chart_of places alarm table = charted (record { places = places; alarm = alarm }
 -- include/picker.h, "Answers": "A refusal is number * 2^56 + chart * 2^48 + position; a success is below 2^56, a + b *
 -- 2^14 + c * 2^28 + d * 2^42."
 abbrev pub number : Answer Four → ℕ
-number (given f) = f.a + f.b * 2 ^ 14 + f.c * 2 ^ 28 + f.d * 2 ^ 42
-number (refused r) = r.number * 2 ^ 56 + r.chart * 2 ^ 48 + r.position
+number (Ok f) = f.a + f.b * 2 ^ 14 + f.c * 2 ^ 28 + f.d * 2 ^ 42
+number (Err r) = r.number * 2 ^ 56 + r.chart * 2 ^ 48 + r.position
 
 -- picker_value of include/picker.h, "The numbers a, b, c, d of a success": one number, 0, 0, 0
 abbrev pub one : ℕ → Four

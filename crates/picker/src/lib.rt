@@ -2,8 +2,7 @@
 // the lookup copies besides, and none has a `requires`.
 #![tactic(auto)]
 
-ghost use Rattle.std.specs.Prelude.{◌≡◌, ◌%◌, ◌^◌, ◌<◌, length};
-ghost use Rattle.std.proofs.Math.Option.{none};
+ghost use Rattle.std.specs.Prelude.{◌≡◌, ◌%◌, ◌^◌, ◌<◌, length, None};
 ghost use Rattle.base.specs.Chains.{mapped};
 ghost use Rattle.base.specs.Refusals.{unless};
 ghost use Rattle.base.specs.inner.Fits.{FitsOr};
@@ -273,7 +272,7 @@ pub extern "C" fn picker_build<'a>(
     ensures passes { result < 2 ^ 56 → refusal
         (both edition (chart_of old_places old_alarm old_rows.now)
         (chart_of new_places new_alarm new_rows.now))
-        (record_of (result % 2 ^ 14) marks.new targets.new sets.new) ≡ none }
+        (record_of (result % 2 ^ 14) marks.new targets.new sets.new) ≡ None }
     ensures algorithms { result < 2 ^ 56 → Returned
         (both edition (chart_of old_places old_alarm old_rows.now)
         (chart_of new_places new_alarm new_rows.now))

@@ -5,7 +5,8 @@ use Prim.Native.Nat.{ℕ}
 use native.Mathlib.Omega.{arith}
 use lib.ListN.{take}
 use lib.Seq.{take_all}
-use Rattle.base.specs.Answers.{Answer, given, refused}
+use Rattle.base.specs.Answers.{Answer}
+use Rattle.std.specs.Prelude.{Ok, Err}
 use Rattle.base.proofs.Answers.{different}
 use Rattle.chart.specs.Charts.{Chart}
 use Rattle.chart.specs.Compared.{Compared}
@@ -16,17 +17,17 @@ use Rattle.report.specs.Printed.{both_of, both_read}
 
 -- both charts were read
 new_in : Compared → Answer Compared → Chart
-new_in X (given Q) = Q.new
-new_in X (refused r) = X.new
+new_in X (Ok Q) = Q.new
+new_in X (Err r) = X.new
 
-new-given : (edition : ℕ) (a b : Answer Chart) (X : Compared) → both_of edition a b ≡ given X → b ≡ given X.new
+new-given : (edition : ℕ) (a b : Answer Chart) (X : Compared) → both_of edition a b ≡ Ok X → b ≡ Ok X.new
 unfolding both_of new_in
-new-given edition (given O) (given N) X e = ap (λ (C : Chart). given C) (ap (new_in X) e)
-new-given edition (given O) (refused r) X e = absurd (different (sym e))
-new-given edition (refused r) b X e = absurd (different (sym e))
+new-given edition (Ok O) (Ok N) X e = ap (λ (C : Chart). Ok C) (ap (new_in X) e)
+new-given edition (Ok O) (Err r) X e = absurd (different (sym e))
+new-given edition (Err r) b X e = absurd (different (sym e))
 
 -- the portions are those of the whole table
-pub whole-table : (edition : ℕ) (old new : List ℕ) (X : Compared) → both_read edition old new ≡ given X → take 768 X.new.table ≡ X.new.table
+pub whole-table : (edition : ℕ) (old new : List ℕ) (X : Compared) → both_read edition old new ≡ Ok X → take 768 X.new.table ≡ X.new.table
 unfolding both_read
 whole-table edition old new X e =
     let q = new-given edition (read_text old) (read_text new) X e in

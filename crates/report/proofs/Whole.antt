@@ -9,7 +9,7 @@ use native.Mathlib.Decide.{dec_lt}
 use native.Mathlib.Omega.{arith}
 use lib.ListN.{length, take, length-take, drop_of_length-le}
 use lib.Seq.{take_all, slice}
-use Rattle.base.specs.Answers.{given, refused}
+use Rattle.std.specs.Prelude.{Ok, Err}
 use Rattle.base.specs.declared.Refusal.{Refusal}
 use Rattle.text.specs.Texts.{read_text}
 use Rattle.text.proofs.Theorems.{cut_text}
@@ -41,12 +41,12 @@ without-sets t G n (m ∷ ms) = ap (λ (l : List ℕ). of_pair t G n m ++ l) (wi
 
 module _ (old new : List ℕ) where
   -- a refusal is printed by its record alone
-  pub refusal-printed : (r : Refusal) → both_read program_edition old new ≡ refused r → refusal_line r ≡ printed old new
+  pub refusal-printed : (r : Refusal) → both_read program_edition old new ≡ Err r → refusal_line r ≡ printed old new
   unfolding printed printed_in
   refusal-printed r e = rw e
 
   -- a condition is printed by its first record and then the portions from pair 0 on
-  pub condition-printed : (X : Compared) → both_read program_edition old new ≡ given X
+  pub condition-printed : (X : Compared) → both_read program_edition old new ≡ Ok X
       → (before after : List ℕ) (r : ℕ) → Front before (summary_line (summary (recorded X).start (recorded X).graph.marks)) after r
       → {out : List ℕ} → Portions (take 768 X.new.table) (graph_of (recorded X).graph.marks (recorded X).graph.targets []) 0 out
       → take r after ++ out ≡ printed old new

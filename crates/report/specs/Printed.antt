@@ -1,6 +1,6 @@
 -- What the program prints, from the bytes of both files ("Worked sessions", "Who can cause a refusal").
-use Rattle.std.specs.Prelude.{List, ◌++◌, ℕ}
-use Rattle.base.specs.Answers.{Answer, given, refused}
+use Rattle.std.specs.Prelude.{List, ◌++◌, ℕ, Ok, Err}
+use Rattle.base.specs.Answers.{Answer}
 use Rattle.base.specs.declared.Refusal.{Refusal}
 use Rattle.base.specs.Chains.{and_then, mapped}
 use Rattle.chart.specs.Charts.{Chart}
@@ -19,12 +19,12 @@ in_new r = record { number = r.number; chart = 1; position = r.position }
 
 -- the same of an answer: "1 new"
 abbrev pub of_new : {A : Type 0} → Answer A → Answer A
-of_new (given x) = given x
-of_new (refused r) = refused (in_new r)
+of_new (Ok x) = Ok x
+of_new (Err r) = Err (in_new r)
 
 -- "the program finishes old.csv before new.csv": what is read of the two texts, by the edition that is named
 unfoldable pub both_of : ℕ → Answer Chart → Answer Chart → Answer Compared
-both_of edition old new = and_then old (λ (O : Chart). and_then (of_new new) (λ (N : Chart). given (both edition O N)))
+both_of edition old new = and_then old (λ (O : Chart). and_then (of_new new) (λ (N : Chart). Ok (both edition O N)))
 
 -- the charts of both files, by their bytes: "A file that can't be read counts as one without bytes."
 unfoldable pub both_read : ℕ → List ℕ → List ℕ → Answer Compared
@@ -54,8 +54,8 @@ condition_of X = condition X.new.table (recorded X)
 -- ---- all of it
 -- "A refusal prints 9999, number, chart, position."
 abbrev pub or_refusal : Answer (List ℕ) → List ℕ
-or_refusal (given bytes) = bytes
-or_refusal (refused r) = refusal_line r
+or_refusal (Ok bytes) = bytes
+or_refusal (Err r) = refusal_line r
 
 -- what is printed of the condition that edition 1 or 2 builds, by the bytes of both files
 unfoldable pub printed_in : ℕ → List ℕ → List ℕ → List ℕ

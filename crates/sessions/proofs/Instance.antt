@@ -3,7 +3,7 @@
 use mathlib.Core.Path.{◌≡◌, refl, ap}
 use mathlib.Core.Bool.{true, false}
 use mathlib.Core.List.{List, [], ◌∷◌}
-use mathlib.Core.Option.{none}
+use Rattle.std.specs.Prelude.{None}
 use Prim.Native.Nat.{ℕ}
 use lib.ListN.{set, replicate}
 use Rattle.chart.specs.Charts.{Chart}
@@ -53,11 +53,11 @@ unfolding R base-options.first_of base-repeat.repeated base-walks.pass base-walk
 is-built = refl
 
 -- ---- it passes, as all that is built does
-no_refusal : chart_refusal C ≡ none
+no_refusal : chart_refusal C ≡ None
 unfolding chart-faults.refusal base-options.first_of base-tests.some_below chart-charts.rows_where chart-charts.leaving chart-faults.count_fault chart-faults.alarm_fault chart-faults.row_fault chart-faults.clash chart-faults.conflict_fault chart-faults.rows_fault chart-faults.fault operations-operations.kind operations-operations.operand_b operations-operations.assigned_c operations-operations.operand_c operations-operations.operands_fit operations-operations.reads
 no_refusal = refl
 
-pub built_passes : refusal X (recorded X) ≡ none
+pub built_passes : refusal X (recorded X) ≡ None
 built_passes = let F = faultless C no_refusal in record_passes X F F refl
 
 -- ---- what it promises
@@ -86,6 +86,6 @@ unfolding R chart-charts.rows_where checker-following.nodes checker-following.co
 not_covered = ap (λ (R : Record). covered C R []) is-built
 
 -- row 1 does not leave the start: the list is no run
-pub no_run : run C (begin C zeros) (1 ∷ []) ≡ none
+pub no_run : run C (begin C zeros) (1 ∷ []) ≡ None
 unfolding zeros operations-operations.kind operations-operations.operand_b operations-operations.value operations-operations.related operations-operations.holds chart-runs.lets chart-runs.after chart-runs.ready chart-runs.run chart-runs.alarmed chart-runs.reaches
 no_run = refl

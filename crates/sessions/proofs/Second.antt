@@ -3,7 +3,7 @@
 use mathlib.Core.Path.{◌≡◌, refl, ap}
 use mathlib.Core.Bool.{true, false}
 use mathlib.Core.List.{List, [], ◌∷◌}
-use mathlib.Core.Option.{none}
+use Rattle.std.specs.Prelude.{None}
 use Prim.Native.Nat.{ℕ}
 use lib.ListN.{set, replicate}
 use Rattle.chart.specs.Charts.{Chart}
@@ -68,15 +68,15 @@ unfolding second first base-options.first_of base-repeat.repeated base-walks.pas
 built-first = refl
 
 -- ---- it passes, as all that is built does
-old-right : chart_refusal O ≡ none
+old-right : chart_refusal O ≡ None
 unfolding chart-faults.refusal base-options.first_of base-tests.some_below chart-charts.rows_where chart-charts.leaving chart-faults.count_fault chart-faults.alarm_fault chart-faults.row_fault chart-faults.clash chart-faults.conflict_fault chart-faults.rows_fault chart-faults.fault operations-operations.kind operations-operations.operand_b operations-operations.assigned_c operations-operations.operand_c operations-operations.operands_fit operations-operations.reads operations-operations.related operations-operations.holds operations-trials.seats operations-trials.trial operations-trials.shown operations-trials.together
 old-right = refl
 
-new-right : chart_refusal N ≡ none
+new-right : chart_refusal N ≡ None
 unfolding chart-faults.refusal base-options.first_of base-tests.some_below chart-charts.rows_where chart-charts.leaving chart-faults.count_fault chart-faults.alarm_fault chart-faults.row_fault chart-faults.clash chart-faults.conflict_fault chart-faults.rows_fault chart-faults.fault operations-operations.kind operations-operations.operand_b operations-operations.assigned_c operations-operations.operand_c operations-operations.operands_fit operations-operations.reads operations-operations.related operations-operations.holds operations-trials.seats operations-trials.trial operations-trials.shown operations-trials.together
 new-right = refl
 
-pub second_passes : refusal (X 2) (recorded (X 2)) ≡ none
+pub second_passes : refusal (X 2) (recorded (X 2)) ≡ None
 second_passes = record_passes (X 2) (faultless O old-right) (faultless N new-right) refl
 
 -- ---- what it promises

@@ -10,7 +10,8 @@ use Rattle.operations.specs.Operations.{value, plus}
 use Rattle.operations.specs.Assumptions.{Operands}
 use Rattle.operations.specs.Trials.{never, implies}
 use Rattle.operations.proofs.Exact.{implies_exact, never_exact}
-use Rattle.base.specs.Answers.{Answer, given, refused}
+use Rattle.base.specs.Answers.{Answer}
+use Rattle.std.specs.Prelude.{Ok, Err}
 use Rattle.base.specs.Chains.{mapped}
 use Rattle.chart.specs.Compared.{Compared}
 use Rattle.records.specs.Records.{set_at}
@@ -56,8 +57,8 @@ fit f = ltb f.a 64 && (ltb f.b 64 && ltb f.c (2 ^ 32))
 
 -- a number is answered, and it is this one
 unfoldable is : ℕ → Answer ℕ → Bool
-is n (given x) = eqb x n
-is n (refused r) = false
+is n (Ok x) = eqb x n
+is n (Err r) = false
 
 unfoldable test : Case → Bool
 test (prints old new out) = same (printed (bytes old) (bytes new)) (bytes out)
@@ -81,10 +82,10 @@ same-is [] (y ∷ m) t = absurd t
 same-is (x ∷ l) [] t = absurd t
 same-is (x ∷ l) (y ∷ m) t = let (h, r) = T_and (eqb x y) (same l m) t in ap₂ (λ (n : ℕ) (s : List ℕ). n ∷ s) (eqb→eq x y h) (same-is l m r)
 
-is-given : (n : ℕ) (a : Answer ℕ) → T (is n a) → a ≡ given n
+is-given : (n : ℕ) (a : Answer ℕ) → T (is n a) → a ≡ Ok n
 unfolding is
-is-given n (given x) t = ap (λ (y : ℕ). given y) (eqb→eq x n t)
-is-given n (refused r) t = absurd t
+is-given n (Ok x) t = ap (λ (y : ℕ). Ok y) (eqb→eq x n t)
+is-given n (Err r) t = absurd t
 
 fit_is : (f : Operation) → T (fit f) → Operands f
 unfolding fit

@@ -1,11 +1,10 @@
 -- A worked case ("Worked sessions"), and what it says.
-use Rattle.std.specs.Prelude.{◌≡◌, List, [], ◌∷◌, ℕ, ◌+◌}
+use Rattle.std.specs.Prelude.{◌≡◌, List, [], ◌∷◌, ℕ, ◌+◌, Ok}
 use Prim.Native.Char.{code}
 use Prim.Native.String.{String, [] as []ˢ, ◌∷◌ as ◌∷ˢ◌}
 use Rattle.operations.specs.declared.Operation.{Operation}
 use Rattle.operations.specs.Operations.{value}
 use Rattle.operations.specs.Assumptions.{Implies}
-use Rattle.base.specs.Answers.{given}
 use Rattle.base.specs.Chains.{mapped}
 use Rattle.chart.specs.Compared.{Compared}
 use Rattle.records.specs.Records.{set_at}
@@ -56,7 +55,7 @@ abbrev pub Says : Case → Type 0
 Says (prints old new out) = printed (bytes old) (bytes new) ≡ bytes out
 Says (prints_in edition old new out) = printed_in edition (bytes old) (bytes new) ≡ bytes out
 Says (tracks edition old new pair set) =
-    mapped (λ (X : Compared). set_at (recorded X).graph pair) (both_read edition (bytes old) (bytes new)) ≡ given set
+    mapped (λ (X : Compared). set_at (recorded X).graph pair) (both_read edition (bytes old) (bytes new)) ≡ Ok set
 Says (implied f g) = Implies f g
 Says (not_implied f g) = Implies f g → ⊥
 Says (anything f) = (g : Operation) → Implies f g

@@ -1,7 +1,6 @@
 -- Answers of the crates `operations` and `chart` as one number each, for the tests: "A test program runs the others".
-use Rattle.std.specs.Prelude.{Bool, true, false, ℕ, ◌+◌}
-use Rattle.std.proofs.Math.Option.{Option, none, some}
-use Rattle.base.specs.Answers.{Answer, given, refused}
+use Rattle.std.specs.Prelude.{Bool, true, false, ℕ, ◌+◌, Option, None, Some, Ok, Err}
+use Rattle.base.specs.Answers.{Answer}
 use Rattle.base.specs.declared.Refusal.{Refusal}
 use Rattle.operations.specs.declared.Operation.{Operation}
 use Rattle.operations.specs.declared.assumptions.Implication.{Implication}
@@ -24,20 +23,20 @@ bit false = 0
 
 -- "Each gives number, chart [..], position": a refusal's number, 0 where there is none
 abbrev pub fault_number : Option Refusal → ℕ
-fault_number none = 0
-fault_number (some r) = r.number
+fault_number None = 0
+fault_number (Some r) = r.number
 
 -- "Each gives number, chart [..], position": a refusal's position, 0 where there is none
 abbrev pub fault_position : Option Refusal → ℕ
-fault_position none = 0
-fault_position (some r) = r.position
+fault_position None = 0
+fault_position (Some r) = r.position
 
 -- "An assignment writes va": what it writes, or 2^32 and a refusal's number
 abbrev pub written_number : Answer ℕ → ℕ
-written_number (given x) = x
-written_number (refused r) = 4294967296 + r.number
+written_number (Ok x) = x
+written_number (Err r) = 4294967296 + r.number
 
 -- "an assumption must hold of the values": whether it does, or 2^32 and a refusal's number
 abbrev pub met_number : Answer Bool → ℕ
-met_number (given b) = bit b
-met_number (refused r) = 4294967296 + r.number
+met_number (Ok b) = bit b
+met_number (Err r) = 4294967296 + r.number

@@ -1,10 +1,10 @@
 -- What is read is a faultless chart, what is written has at most 8,643 bytes, and the refusals of both fit.
 -- Assumes nothing.
 use Rattle.std.proofs.Common.{◌≡◌, ℕ, zero, suc, ◌*◌, ◌≤◌, Bool, true, false, T, eqb, leb, List, [], ◌∷◌, ◌++◌, length, refl, arith}
-use mathlib.Core.Option.{none}
+use Rattle.std.specs.Prelude.{None, Ok, Err}
 use mathlib.Core.Logic.{dite}
 use native.Mathlib.Decide.{dec_lt}
-use Rattle.base.specs.Answers.{Answer, given, refused}
+use Rattle.base.specs.Answers.{Answer}
 use Rattle.base.specs.Chains.{and_then}
 use Rattle.base.specs.Refusals.{sole, unless}
 use Rattle.base.specs.Tests.{within}
@@ -40,8 +40,8 @@ cause_named ManyRows = tt
 
 -- a refusal has a number, of the sole chart
 abbrev Sole : {A : Type 0} → Answer A → Type 0
-Sole (given x) = Unit
-Sole (refused r) = T (within 1 255 r.number) × (r.chart ≡ 0)
+Sole (Ok x) = Unit
+Sole (Err r) = T (within 1 255 r.number) × (r.chart ≡ 0)
 
 fields_sole : (n k : ℕ) (text : List ℕ) (at : ℕ) (before : List ℕ) → Sole (fields_at n k text at before)
 unfolding fields_at
@@ -50,8 +50,8 @@ fields_sole (suc n) k text at before =
     by_field Sole (item_at k text at) _ (λ x p e. fields_sole n (suc k) text p (before ++ (x ∷ []))) (λ c p e. (cause_named c, refl))
 
 sole_then : {A B : Type 0} (a : Answer A) (f : A → Answer B) → Sole a → ((x : A) → Sole (f x)) → Sole (and_then a f)
-sole_then (given x) f h g = g x
-sole_then (refused r) f h g = h
+sole_then (Ok x) f h g = g x
+sole_then (Err r) f h g = h
 
 whole-sole : (text : List ℕ) (at : ℕ) (C : Chart) → Sole (whole text at C)
 whole-sole text at C =
@@ -68,14 +68,14 @@ parsed-sole (b ∷ t) =
 
 judged-fits : (text : List ℕ) (a : Answer Chart) → parsed text ≡ a → Sole a → FitsOr FaultlessChart (and_then a (λ (C : Chart). unless (fault 0 C) C))
 unfolding read_text
-judged-fits text (refused r) e h =
+judged-fits text (Err r) e h =
     record {
       some_number = (named_fits r.number 0 0 h.0 (omega arith) (omega arith)).some_number;
       number = (named_fits r.number 0 0 h.0 (omega arith) (omega arith)).number;
       chart = omega (arith, h.1);
       position = omega (arith, text_positions text r e);
     }
-judged-fits text (given C) e h =
+judged-fits text (Ok C) e h =
     unless-fits FaultlessChart (fault 0 C) C (fault-fits 0 (omega arith) C) (λ z. faultless C ((read_exactly C text).0 (rw (e, z))).faultless)
 
 -- Whatever the reader refuses fits; what it reads is faultless.
@@ -83,7 +83,7 @@ pub read_fits : (text table : List ℕ) → FitsOr FaultlessChart (read_into tex
 unfolding read_into read_text
 read_fits text table = go (eqb (length table) 768)
   where
-    go : (t : Bool) → FitsOr FaultlessChart (elim t as (λ _. Answer Chart) [ true ↦ read_text text | false ↦ refused (sole 21 0) ])
+    go : (t : Bool) → FitsOr FaultlessChart (elim t as (λ _. Answer Chart) [ true ↦ read_text text | false ↦ Err (sole 21 0) ])
     go true = judged-fits text (parsed text) refl (parsed-sole text)
     go false = named_fits 21 0 0 tt (omega arith) (omega arith)
 
@@ -92,10 +92,10 @@ abbrev pub Short : List ℕ → Type 0
 Short t = length t ≤ 8643
 
 -- Whatever the writer refuses fits; what it writes is short.
-pub write_fits : (C : Chart) (lent : ℕ) → (refusal C ≡ none → U32s (numbers C)) → FitsOr Short (writing C lent)
+pub write_fits : (C : Chart) (lent : ℕ) → (refusal C ≡ None → U32s (numbers C)) → FitsOr Short (writing C lent)
 unfolding writing
 write_fits C lent u = go (leb 8643 lent)
   where
-    go : (t : Bool) → FitsOr Short (elim t as (λ _. Answer (List ℕ)) [ true ↦ unless (refusal C) (written C) | false ↦ refused (sole 21 0) ])
+    go : (t : Bool) → FitsOr Short (elim t as (λ _. Answer (List ℕ)) [ true ↦ unless (refusal C) (written C) | false ↦ Err (sole 21 0) ])
     go true = unless-fits Short (refusal C) (written C) (refusal-fits C) (λ e. written_short C (u e) e)
     go false = named_fits 21 0 0 tt (omega arith) (omega arith)

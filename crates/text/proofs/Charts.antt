@@ -1,11 +1,11 @@
 -- The fields of a chart's text: read to the end they are the chart, and the chart's text has them.
 -- Assumes nothing.
 use Rattle.std.proofs.Common.{◌≡◌, ℕ, suc, ◌-◌, ◌*◌, ◌/◌, ◌%◌, ◌≤◌, List, [], ◌∷◌, ◌++◌, length, get_or, drop, sym, refl, ap, ◌∙◌, subst, append_assoc, arith, length-drop, drop_of_length-le, eq-eqb, ne_eqb}
-use mathlib.Core.Option.{Option, none, some}
+use Rattle.std.specs.Prelude.{Option, None, Some, Ok, Err}
 use mathlib.Core.Logic.{dite}
 use native.Mathlib.Decide.{dec_lt}
 use Rattle.base.specs.declared.Refusal.{Refusal}
-use Rattle.base.specs.Answers.{Answer, given, refused}
+use Rattle.base.specs.Answers.{Answer}
 use Rattle.base.specs.Refusals.{sole, unless}
 use Rattle.base.proofs.OnSome.{OnGiven, on_then}
 use Rattle.chart.specs.Charts.{Chart, size, charted}
@@ -74,20 +74,20 @@ parsed_shows [] = tt
 parsed_shows (b ∷ s) = on_then (Shown 6 0 (b ∷ s) 0 []) (Spells (b ∷ s)) (fields_at 6 0 (b ∷ s) 0 []) _ (fields_show 6 0 (b ∷ s) 0 []) (rows_show (b ∷ s))
 
 -- and the chart is without fault
-pub read_shows : (text : List ℕ) → OnGiven (λ (C : Chart). Spells text C × (fault 0 C ≡ none)) (read_text text)
+pub read_shows : (text : List ℕ) → OnGiven (λ (C : Chart). Spells text C × (fault 0 C ≡ None)) (read_text text)
 unfolding read_text
-read_shows text = on_then (Spells text) (λ (C : Chart). Spells text C × (fault 0 C ≡ none)) (parsed text) _ (parsed_shows text) (λ C h. go C h (fault 0 C) refl)
+read_shows text = on_then (Spells text) (λ (C : Chart). Spells text C × (fault 0 C ≡ None)) (parsed text) _ (parsed_shows text) (λ C h. go C h (fault 0 C) refl)
   where
-    go : (C : Chart) → Spells text C → (o : Option Refusal) → fault 0 C ≡ o → OnGiven (λ (C : Chart). Spells text C × (fault 0 C ≡ none)) (unless o C)
-    go C h none e = (h, e)
-    go C h (some f) e = tt
+    go : (C : Chart) → Spells text C → (o : Option Refusal) → fault 0 C ≡ o → OnGiven (λ (C : Chart). Spells text C × (fault 0 C ≡ None)) (unless o C)
+    go C h None e = (h, e)
+    go C h (Some f) e = tt
 
 -- ---- a text that has the chart's fields is read
 
 -- what the reader says of a chart after whose fields r follows: a byte there is 14
 abbrev pub Left : Chart → List ℕ → List ℕ → Answer Chart
-Left C text [] = given C
-Left C text (b ∷ s) = refused (sole 14 (length text - length (b ∷ s)))
+Left C text [] = Ok C
+Left C text (b ∷ s) = Err (sole 14 (length text - length (b ∷ s)))
 
 whole-left : (C : Chart) (text : List ℕ) (at : ℕ) (r : List ℕ) → drop at text ≡ r → whole text at C ≡ Left C text r
 whole-left C text at [] h = whole_end text at C (omega (arith, sym (length-drop at text) ∙ ap length h))

@@ -1,8 +1,7 @@
 -- A text is read as a chart exactly where it is the chart's file: both directions, and the file that is written.
 -- Assumes nothing.
 use Rattle.std.proofs.Common.{◌≡◌, ℕ, zero, suc, ◌-◌, ◌*◌, ◌%◌, ◌≤◌, List, [], ◌∷◌, ◌++◌, length, get_or, ◌∙◌, subst, append-nil, arith, length-append}
-use mathlib.Core.Option.{none}
-use Rattle.base.specs.Answers.{given, refused}
+use Rattle.std.specs.Prelude.{None, Ok, Err}
 use Rattle.base.specs.Refusals.{sole}
 use Rattle.base.proofs.OnSome.{OnGiven}
 use Rattle.chart.specs.Charts.{Chart, size}
@@ -27,25 +26,25 @@ fit_small (x ∷ l) k h zero = h.0
 fit_small (x ∷ l) k h (suc i) = fit_small l (suc k) h.1.1 i
 
 -- a chart that is not refused, of u32 numbers, fits the fields of its text
-pub fits : (C : Chart) → U32s (numbers C) → refusal C ≡ none → FitAll 0 (numbers C)
+pub fits : (C : Chart) → U32s (numbers C) → refusal C ≡ None → FitAll 0 (numbers C)
 fits C u h = chart-fits C u (faultless C h).few_rows
 
 -- what is parsed of a text with a chart's fields is judged, and is the chart
-judged : (C : Chart) (text : List ℕ) → refusal C ≡ none → parsed text ≡ given C → read_text text ≡ given C
+judged : (C : Chart) (text : List ℕ) → refusal C ≡ None → parsed text ≡ Ok C → read_text text ≡ Ok C
 unfolding read_text
 judged C text h e = rw (e, ← whole-rows C (faultless C h).whole, h)
 
 -- ---- both directions
 
-pub file_read : (C : Chart) (text : List ℕ) → FileOf C text → read_text text ≡ given C
+pub file_read : (C : Chart) (text : List ℕ) → FileOf C text → read_text text ≡ Ok C
 file_read C text f =
     let w = (faultless C f.faultless).whole in
     judged C text f.faultless
     (spelt_parsed C text [] (omega arith) (file_items (size C.table) (numbers C) text (whole-size C w) (fits C f.u32s f.faultless) f.file))
 
-pub read_file : (C : Chart) (text : List ℕ) → read_text text ≡ given C → FileOf C text
+pub read_file : (C : Chart) (text : List ℕ) → read_text text ≡ Ok C → FileOf C text
 read_file C text e =
-    let s = subst (OnGiven (λ (C : Chart). Spells text C × (fault 0 C ≡ none))) e (read_shows text) in
+    let s = subst (OnGiven (λ (C : Chart). Spells text C × (fault 0 C ≡ None))) e (read_shows text) in
     let w : length C.table % 6 ≡ 0 = omega (arith, s.0.rows) in
     record {
       file = items_file (size C.table) (numbers C) text (whole-size C w) s.0.items;
@@ -55,15 +54,15 @@ read_file C text e =
 
 -- ---- the text that is written
 
-pub written_items : (C : Chart) → U32s (numbers C) → refusal C ≡ none → Items 0 (numbers C) (written C) []
+pub written_items : (C : Chart) → U32s (numbers C) → refusal C ≡ None → Items 0 (numbers C) (written C) []
 unfolding written
 written_items C u h = subst (λ (s : List ℕ). Items 0 (numbers C) s []) (append-nil (written C)) (fields_items (numbers C) 0 [] (fits C u h))
 
-pub file-written : (C : Chart) → U32s (numbers C) → refusal C ≡ none → FileOf C (written C)
+pub file-written : (C : Chart) → U32s (numbers C) → refusal C ≡ None → FileOf C (written C)
 file-written C u h =
     record { file = items_file (size C.table) (numbers C) (written C) (whole-size C (faultless C h).whole) (written_items C u h); u32s = u; faultless = h }
 
-pub byte_more : (C : Chart) (b : ℕ) (s : List ℕ) → U32s (numbers C) → refusal C ≡ none → read_text (written C ++ (b ∷ s)) ≡ refused (sole 14 (length (written C)))
+pub byte_more : (C : Chart) (b : ℕ) (s : List ℕ) → U32s (numbers C) → refusal C ≡ None → read_text (written C ++ (b ∷ s)) ≡ Err (sole 14 (length (written C)))
 unfolding read_text written
 byte_more C b s u h =
     let w = (faultless C h).whole in

@@ -3,8 +3,8 @@
 use Rattle.std.proofs.Common.{◌≡◌, ℕ, suc, ◌+◌, ◌*◌, ◌/◌, ◌<◌, ◌≤◌, List, [], ◌∷◌, length, get_or, take, sym, refl, ap, ◌∙◌, arith, length-append}
 use mathlib.Core.Logic.{dite}
 use native.Mathlib.Decide.{dec_lt}
-use mathlib.Core.Option.{none}
-use Rattle.base.specs.Answers.{Answer, given, refused}
+use Rattle.std.specs.Prelude.{None, Ok, Err}
+use Rattle.base.specs.Answers.{Answer}
 use Rattle.base.specs.Chains.{and_then}
 use Rattle.chart.specs.declared.charts.Head.{Head}
 use Rattle.chart.specs.Charts.{Chart, charted}
@@ -32,7 +32,7 @@ fields_length (x ∷ l) k h =
     let c = closing-length k in
     rw (length-append (field_text k x) (fields_text (suc k) l), length-append (decimal x) (closing k)) (omega arith)
 
-pub written_short : (C : Chart) → U32s (numbers C) → refusal C ≡ none → length (written C) ≤ 8643
+pub written_short : (C : Chart) → U32s (numbers C) → refusal C ≡ None → length (written C) ≤ 8643
 unfolding written
 written_short C u h =
     let f = faultless C h in
@@ -42,17 +42,17 @@ written_short C u h =
 
 -- the position of a refusal, 0 where there is none
 abbrev pub ended : Answer Chart → ℕ
-ended (given C) = 0
-ended (refused r) = r.position
+ended (Ok C) = 0
+ended (Err r) = r.position
 
 whole-ends : (text : List ℕ) (at : ℕ) (C : Chart) → ended (whole text at C) ≤ at
 whole-ends text at C =
     dite (dec_lt at (length text)) (λ h. rw (whole-after text at C h) (omega arith))
     (λ n. rw (whole_end text at C (omega arith)) (omega arith))
 
-then_ends : (q : ℕ) (a : Answer Span) (f : Span → Answer Chart) → stops a ≤ q → ((s : Span) → a ≡ given s → ended (f s) ≤ q) → ended (and_then a f) ≤ q
-then_ends q (given s) f h g = g s refl
-then_ends q (refused r) f h g = h
+then_ends : (q : ℕ) (a : Answer Span) (f : Span → Answer Chart) → stops a ≤ q → ((s : Span) → a ≡ Ok s → ended (f s) ≤ q) → ended (and_then a f) ≤ q
+then_ends q (Ok s) f h g = g s refl
+then_ends q (Err r) f h g = h
 
 rows_end : (text : List ℕ) (at : ℕ) (head : Head) (count : ℕ) → at ≤ 79 → count ≤ 128 → ended (rows_at text at head count) ≤ 10191
 unfolding rows_at
@@ -76,9 +76,9 @@ module _ (text : List ℕ) (m : ℕ) (long : m ≤ length text) (enough : 10191 
   cut_whole : (at : ℕ) (C : Chart) → at < m → whole (take m text) at C ≡ whole text at C
   cut_whole at C h = whole-after (take m text) at C (rw (cut_length text m long) h) ∙ sym (whole-after text at C (omega arith))
 
-  then_same : (a : Answer Span) (f g : Span → Answer Chart) → ((s : Span) → a ≡ given s → f s ≡ g s) → and_then a f ≡ and_then a g
-  then_same (given s) f g h = h s refl
-  then_same (refused r) f g h = refl
+  then_same : (a : Answer Span) (f g : Span → Answer Chart) → ((s : Span) → a ≡ Ok s → f s ≡ g s) → and_then a f ≡ and_then a g
+  then_same (Ok s) f g h = h s refl
+  then_same (Err r) f g h = refl
 
   cut_rows : (at : ℕ) (head : Head) (count : ℕ) → at ≤ 79 → count ≤ 128 → rows_at (take m text) at head count ≡ rows_at text at head count
   unfolding rows_at

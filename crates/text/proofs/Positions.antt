@@ -4,7 +4,8 @@ use Rattle.std.proofs.Common.{◌≡◌, ℕ, zero, suc, ◌+◌, ◌-◌, ◌*�
 use mathlib.Core.Logic.{dite}
 use native.Mathlib.Decide.{dec_lt}
 use borrow.Author.Tests.{lt-leb}
-use Rattle.base.specs.Answers.{Answer, given, refused}
+use Rattle.base.specs.Answers.{Answer}
+use Rattle.std.specs.Prelude.{Ok, Err}
 use Rattle.text.specs.declared.causes.Cause.TheVariants as cause
 use Rattle.text.specs.declared.fields.Kind.{Kind}
 use Rattle.text.specs.declared.fields.Kind.TheVariants.{Plain, Count, Spare}
@@ -128,8 +129,8 @@ item_ends k text at =
 
 -- where an answer of so many fields stops
 abbrev pub stops : Answer Span → ℕ
-stops (given s) = s.next
-stops (refused r) = r.position
+stops (Ok s) = s.next
+stops (Err r) = r.position
 
 pub reach_one : (k n : ℕ) → reach k 1 + reach (suc k) n ≡ reach k (suc n)
 reach_one k n = omega arith

@@ -1,7 +1,8 @@
 -- Fields that follow one another: what they show of the bytes when they are read, and that such bytes are read.
 -- Assumes nothing.
 use Rattle.std.proofs.Common.{◌≡◌, ℕ, zero, suc, ◌+◌, ◌<◌, ◌≤◌, List, [], ◌∷◌, ◌++◌, length, drop, sym, refl, ap, ◌∙◌, subst, append_assoc, append-nil, arith, length-append}
-use Rattle.base.specs.Answers.{Answer, given}
+use Rattle.base.specs.Answers.{Answer}
+use Rattle.std.specs.Prelude.{Ok}
 use Rattle.base.proofs.OnSome.{OnGiven, on_given}
 use Rattle.text.specs.Fields.{kind, item_at}
 use Rattle.text.specs.Spans.{Span, fields_at}
@@ -56,7 +57,7 @@ fields_show (suc n) k text at before =
 -- the numbers are read, and r is left
 pub record ReadsAll (text : List ℕ) (a : Answer Span) (l r : List ℕ) : Type 0 where
   pub next : ℕ
-  pub is : a ≡ given (record { numbers = l; next = next })
+  pub is : a ≡ Ok (record { numbers = l; next = next })
   pub left : drop next text ≡ r
 
 pub items_read : (l : List ℕ) (k : ℕ) (text : List ℕ) (at : ℕ) (before r : List ℕ) → Items k l (drop at text) r → ReadsAll text (fields_at (length l) k text at before) (before ++ l) r

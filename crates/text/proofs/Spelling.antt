@@ -2,7 +2,7 @@
 -- Assumes nothing.
 use Rattle.std.proofs.Common.{◌≡◌, ℕ, suc, ◌+◌, ◌-◌, ◌*◌, ◌%◌, ◌<◌, ◌≤◌, Bool, true, false, ◌&&◌, eqb, leb, List, [], ◌∷◌, ◌++◌, map, length, get_or, drop, sym, refl, ap, ◌∙◌, subst, append_assoc, add-one, arith, length-append, length-drop, drop_of_length-le, get_or-drop, drop-cons, drop-drop, eq-eqb, ne_eqb, eqb-true, le-leb, leb-true}
 use mathlib.Core.Logic.{dite}
-use mathlib.Core.Option.{Option, none, some}
+use Rattle.std.specs.Prelude.{Option, None, Some}
 use native.Mathlib.Decide.{dec_lt}
 use borrow.Author.Tests.{lt-leb, eqb-false}
 use lib.ListN.{length-map}
@@ -22,8 +22,8 @@ use Rattle.text.proofs.Decimals.{Nines, Leads, Spells, spells, decimal-one, deci
 
 -- the number and the offset after it, if there is one
 abbrev pub shown : Field → Option (ℕ × ℕ)
-shown (Number x p) = some (x, p)
-shown (Unfit c p) = none
+shown (Number x p) = Some (x, p)
+shown (Unfit c p) = None
 
 -- P of these
 abbrev pub OnNumber : (ℕ → ℕ → Type 0) → Field → Type 0

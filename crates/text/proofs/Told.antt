@@ -4,7 +4,8 @@ use Rattle.std.proofs.Common.{◌≡◌, ℕ, ◌+◌, ◌%◌, ◌<◌, ◌≤�
 use borrow.Author.Tests.{lt-leb}
 use lib.Seq.{sets-eq}
 use Rattle.base.specs.declared.Refusal.{Refusal}
-use Rattle.base.specs.Answers.{Answer, given, refused}
+use Rattle.base.specs.Answers.{Answer}
+use Rattle.std.specs.Prelude.{Ok, Err}
 use Rattle.base.specs.Chains.{and_then, mapped}
 use Rattle.base.specs.Refusals.{sole, unless}
 use Rattle.base.proofs.OnSome.{OnGiven}
@@ -45,15 +46,15 @@ short_table C j h e =
 abbrev pub ReadAs : Answer Chart → Read → List ℕ → List ℕ → Type 0
 ReadAs a r table after = (told_read r ≡ mapped heading a) × (after ≡ filled a table)
 
-pub read_refused : (a : Answer Chart) (table : List ℕ) (r : Refusal) → a ≡ refused r → ReadAs a (read.Refused r) table table
+pub read_refused : (a : Answer Chart) (table : List ℕ) (r : Refusal) → a ≡ Err r → ReadAs a (read.Refused r) table table
 unfolding filled told_read
 read_refused a table r e = (rw e, rw e)
 
-pub whole-after : (text : List ℕ) (at : ℕ) (C : Chart) → at < length text → whole text at C ≡ refused (sole 14 at)
+pub whole-after : (text : List ℕ) (at : ℕ) (C : Chart) → at < length text → whole text at C ≡ Err (sole 14 at)
 unfolding whole
 whole-after text at C h = rw (lt-ltb _ _ h, whole)
 
-pub whole_end : (text : List ℕ) (at : ℕ) (C : Chart) → length text ≤ at → whole text at C ≡ given C
+pub whole_end : (text : List ℕ) (at : ℕ) (C : Chart) → length text ≤ at → whole text at C ≡ Ok C
 unfolding whole
 whole_end text at C h = rw (le-ltb _ _ h, whole)
 
@@ -65,7 +66,7 @@ third_few (a ∷ []) h f = absurd (omega arith)
 third_few (a ∷ b ∷ []) h f = absurd (omega arith)
 third_few (a ∷ b ∷ c ∷ l) h f = f.1.1.1.1.1.0
 
-pub few_counted : (text : List ℕ) (s : Span) → fields_at 6 0 text 0 [] ≡ given s → get_or s.numbers 2 0 ≤ 128
+pub few_counted : (text : List ℕ) (s : Span) → fields_at 6 0 text 0 [] ≡ Ok s → get_or s.numbers 2 0 ≤ 128
 few_counted text s e =
     let g : Shown 6 0 text 0 [] s = subst (OnGiven (Shown 6 0 text 0 [])) e (fields_show 6 0 text 0 []) in
     rw g.is (third_few g.numbers g.count (items_fit g.numbers 0 _ _ g.items))
@@ -91,7 +92,7 @@ module _ (text table : List ℕ) where
 abbrev pub WroteAs : Answer (List ℕ) → Wrote → List ℕ → List ℕ → Type 0
 WroteAs a r bytes after = (told_wrote r ≡ mapped length a) × (after ≡ printed a bytes)
 
-write_refused : (a : Answer (List ℕ)) (bytes : List ℕ) (r : Refusal) → a ≡ refused r → WroteAs a (wrote.Refused r) bytes bytes
+write_refused : (a : Answer (List ℕ)) (bytes : List ℕ) (r : Refusal) → a ≡ Err r → WroteAs a (wrote.Refused r) bytes bytes
 unfolding printed told_wrote
 write_refused a bytes r e = (rw e, rw e)
 
@@ -111,7 +112,7 @@ module _ (C : Chart) (bytes : List ℕ) where
     pub write_chart : (r : ℕ) (after : List ℕ) → j ≡ Faultless → (Put bytes 0 (written C) after r) × (r ≤ 8643) → WroteAs (writing C (length bytes)) (wrote.Bytes r) bytes after
     unfolding printed told_wrote
     write_chart r after e g =
-        let i : writing C (length bytes) ≡ given (written C) = write_long ∙ rw e in
+        let i : writing C (length bytes) ≡ Ok (written C) = write_long ∙ rw e in
         let n : r ≡ length (written C) = omega (arith, g.0.next) in
         let z : 0 + length (written C) ≡ length (written C) = omega arith in
         (rw (i, n), rw i (g.0.is ∙ sets-eq (written C) bytes 0 (omega (arith, g.1)) ∙ rw z))

@@ -5,7 +5,8 @@ use Rattle.std.proofs.Common.{◌≡◌, ℕ, zero, suc, ◌*◌, ◌/◌, ◌%�
 use mathlib.Core.Logic.{dite}
 use native.Mathlib.Decide.{dec_lt}
 use Rattle.base.specs.declared.Refusal.{Refusal}
-use Rattle.base.specs.Answers.{Answer, given, refused}
+use Rattle.base.specs.Answers.{Answer}
+use Rattle.std.specs.Prelude.{Ok, Err}
 use Rattle.base.specs.Chains.{and_then, mapped}
 use Rattle.base.specs.Refusals.{sole, unless}
 use Rattle.base.proofs.Answers.{different}
@@ -39,7 +40,7 @@ use Rattle.text.proofs.Charts.{Spells, parsed_shows}
 
 -- what fields give by what is reached, with these numbers
 abbrev span_of : Reach → List ℕ → Answer Span
-span_of (reach.Past p) l = given (record { numbers = l; next = p })
+span_of (reach.Past p) l = Ok (record { numbers = l; next = p })
 span_of (reach.Unfit c p) l = refused_for c p
 
 -- fields give what the walk reaches and the numbers up to there
@@ -247,7 +248,7 @@ module _ (text : List ℕ) (f : First) (g : Reach) (end : ℕ) where
 
 -- a text that spells a chart, before its faults are judged
 pub record Spelt (text : List ℕ) (h : Head) (n : ℕ) : Type 0 where
-  pub is : parsed text ≡ given (charted h (row_numbers text))
+  pub is : parsed text ≡ Ok (charted h (row_numbers text))
   pub rows : length (row_numbers text) ≡ 6 * n
   pub few : length (row_numbers text) ≤ 768
 
@@ -257,22 +258,22 @@ module _ (text : List ℕ) (a : Parsed) (is : told_parsed a ≡ mapped heading (
   spelt_not c o e = go (parsed text) (sym is ∙ rw e)
     where
       go : (x : Answer Chart) → mapped heading x ≡ refused_for c o → x ≡ refused_for c o
-      go (given C) e = absurd (different e)
-      go (refused s) e = cc
+      go (Ok C) e = absurd (different e)
+      go (Err s) e = cc
 
   pub spelt : (h : Head) (n : ℕ) → a ≡ parse.Chart h n → Spelt text h n
   unfolding told_parsed
   spelt h n e = go (parsed text) refl (walk_laid text) (parsed_shows text) (sym is ∙ rw e)
     where
       go : (x : Answer Chart) → parsed text ≡ x → OnGiven (λ (C : Chart). (C.table ≡ row_numbers text) × (length C.table ≡ entries_of (first_at text 0))) x → OnGiven (Spells text) x
-          → mapped heading x ≡ given (record { head = h; rows = n }) → Spelt text h n
-      go (refused r) i l w g = absurd (different (sym g))
-      go (given C) i l w g =
+          → mapped heading x ≡ Ok (record { head = h; rows = n }) → Spelt text h n
+      go (Err r) i l w g = absurd (different (sym g))
+      go (Ok C) i l w g =
           let p : C.head ≡ h = ap (head_or h) g in
           let z : size C.table ≡ n = ap rows_told g in
           let m : length (row_numbers text) ≡ length C.table = ap length (sym l.0) in
           record {
-            is = i ∙ (λ i. given (charted (p i) (l.0 i)));
+            is = i ∙ (λ i. Ok (charted (p i) (l.0 i)));
             rows = m ∙ (w.rows ∙ ap (λ (k : ℕ). 6 * k) z);
             few = omega (arith, m, l.1, few_entries text);
           }
@@ -308,5 +309,5 @@ module _ (text table : List ℕ) (sized : length table ≡ 768) (a : Parsed) (is
     unfolding filled told_read
     read_chart after d g =
         let z : length (take (6 * n) rows) / 6 ≡ n = omega (arith, front_long text rows spare h n (spelt text a is h n e) l) in
-        let i : read_into text table ≡ given (charted h (take (6 * n) rows)) = read_judged ∙ rw d in
+        let i : read_into text table ≡ Ok (charted h (take (6 * n) rows)) = read_judged ∙ rw d in
         (rw (i, z), rw i g)

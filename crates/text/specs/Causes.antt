@@ -1,6 +1,6 @@
 -- Why a text does not fit: the refusals that "The sender of a text" can cause.
-use Rattle.std.specs.Prelude.{ℕ}
-use Rattle.base.specs.Answers.{Answer, refused}
+use Rattle.std.specs.Prelude.{ℕ, Err}
+use Rattle.base.specs.Answers.{Answer}
 use Rattle.base.specs.Refusals.{sole}
 use Rattle.text.specs.declared.causes.Cause.{Cause}
 use Rattle.text.specs.declared.causes.Cause.TheVariants.{NoBytes, BadByte, BadNumber, WrongEnd, ManyRows}
@@ -18,4 +18,4 @@ cause_number ManyRows = 2
 
 -- "Each gives number, chart (0 old or sole, 1 new), position": the refusal of a text that does not fit at an offset
 abbrev pub refused_for : {A : Type 0} → Cause → ℕ → Answer A
-refused_for cause p = refused (sole (cause_number cause) p)
+refused_for cause p = Err (sole (cause_number cause) p)

@@ -1,6 +1,5 @@
 -- The file of a chart, in RFC 4180's terms.
-use Rattle.std.specs.Prelude.{◌≡◌, ℕ, zero, suc, ◌*◌, ◌≤◌, List, [], ◌∷◌, map, take, drop, slice_index}
-use Rattle.std.proofs.Math.Option.{Option, none, some}
+use Rattle.std.specs.Prelude.{◌≡◌, ℕ, zero, suc, ◌*◌, ◌≤◌, List, [], ◌∷◌, map, take, drop, slice_index, Option, None, Some}
 use Rattle.chart.specs.Charts.{Chart, size, charted}
 use Rattle.chart.specs.Faults.{refusal}
 use Rattle.text.specs.declared.answers.Read.{Read}
@@ -26,10 +25,10 @@ pub record U32s (l : List ℕ) : Type 0 where
 pub record FileOf (C : Chart) (text : List ℕ) : Type 0 where
   pub file : File text (contents (suc (size C.table)) (numbers C))
   pub u32s : U32s (numbers C)
-  pub faultless : refusal C ≡ none
+  pub faultless : refusal C ≡ None
 
 -- "n, alarm, row count [..]; then the rows": the chart that the reader answers, its rows at the front of the table;
 -- none where it refuses
 unfoldable pub chart_read : Read → List ℕ → Option Chart
-chart_read (answer.Chart head rows) table = some (charted head (take (6 * rows) table))
-chart_read (answer.Refused r) table = none
+chart_read (answer.Chart head rows) table = Some (charted head (take (6 * rows) table))
+chart_read (answer.Refused r) table = None

@@ -1,6 +1,6 @@
 -- Fields that follow one another ("Chart text").
-use Rattle.std.specs.Prelude.{ℕ, zero, suc, List, [], ◌∷◌, ◌++◌}
-use Rattle.base.specs.Answers.{Answer, given}
+use Rattle.std.specs.Prelude.{ℕ, zero, suc, List, [], ◌∷◌, ◌++◌, Ok}
+use Rattle.base.specs.Answers.{Answer}
 use Rattle.text.specs.declared.fields.Field.{Field}
 use Rattle.text.specs.declared.fields.Field.TheVariants.{Number, Unfit}
 use Rattle.text.specs.Causes.{refused_for}
@@ -19,5 +19,5 @@ on_field (Unfit c p) f = refused_for c p
 -- "Records of six fields", one after the other: so many fields, from field k at an offset on, behind the numbers read
 -- before them. A refusal ends the reading.
 unfoldable pub fields_at : ℕ → ℕ → List ℕ → ℕ → List ℕ → Answer Span
-fields_at zero k text at before = given (record { numbers = before; next = at })
+fields_at zero k text at before = Ok (record { numbers = before; next = at })
 fields_at (suc n) k text at before = on_field (item_at k text at) (λ x p. fields_at n (suc k) text p (before ++ (x ∷ [])))

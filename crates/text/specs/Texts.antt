@@ -1,6 +1,6 @@
 -- Whole texts: what the reader answers ("Chart text", "Who can cause a refusal").
-use Rattle.std.specs.Prelude.{ℕ, ◌*◌, true, false, List, [], ◌∷◌, ◌++◌, length, drop, ◌==◌, nat_lt, slice_index}
-use Rattle.base.specs.Answers.{Answer, given, refused}
+use Rattle.std.specs.Prelude.{ℕ, ◌*◌, true, false, List, [], ◌∷◌, ◌++◌, length, drop, ◌==◌, nat_lt, slice_index, Ok, Err}
+use Rattle.base.specs.Answers.{Answer}
 use Rattle.base.specs.Chains.{and_then}
 use Rattle.base.specs.Refusals.{sole, unless}
 use Rattle.chart.specs.declared.charts.Head.{Head}
@@ -15,7 +15,7 @@ use Rattle.text.specs.Spans.{Span, fields_at}
 -- ---- the sender of a text
 -- "14 [..] any byte after the CRLF of the last counted record (the first such offset)"
 unfoldable pub whole : List ℕ → ℕ → Chart → Answer Chart
-whole text at C = elim (nat_lt at (length text)) [ true ↦ refused_for WrongEnd at | false ↦ given C ]
+whole text at C = elim (nat_lt at (length text)) [ true ↦ refused_for WrongEnd at | false ↦ Ok C ]
 
 -- "then the rows": as many as the first record counts, and then the end of the text
 unfoldable pub rows_at : List ℕ → ℕ → Head → ℕ → Answer Chart
@@ -49,12 +49,12 @@ read_text text = faultless (parsed text)
 -- ---- the calling program: "21, a lent length differs from the stated one [..] Always first"; "The table lent to the
 -- reader has 768 entries"
 unfoldable pub read_into : List ℕ → List ℕ → Answer Chart
-read_into text table = elim (length table == 768) [ true ↦ read_text text | false ↦ refused (sole 21 0) ]
+read_into text table = elim (length table == 768) [ true ↦ read_text text | false ↦ Err (sole 21 0) ]
 
 -- the table afterwards: the rows at the front, and "those past the rows stay"; "lent memory is untouched" by a refusal
 unfoldable pub filled : Answer Chart → List ℕ → List ℕ
-filled (given C) table = C.table ++ drop (length C.table) table
-filled (refused r) table = table
+filled (Ok C) table = C.table ++ drop (length C.table) table
+filled (Err r) table = table
 
 -- "n, alarm, row count": what is answered of a chart that is read
 pub record Heading : Type 0 where
@@ -67,5 +67,5 @@ heading C = record { head = C.head; rows = size C.table }
 
 -- what the code's answer says: "a definition gives this paper's number and values for each of the enum's cases"
 unfoldable pub told_read : Read → Answer Heading
-told_read (answer.Chart head rows) = given (record { head = head; rows = rows })
-told_read (answer.Refused r) = refused r
+told_read (answer.Chart head rows) = Ok (record { head = head; rows = rows })
+told_read (answer.Refused r) = Err r

@@ -1,6 +1,6 @@
 -- The text of a chart: "The writer [..] uses no quotes and ends every record".
-use Rattle.std.specs.Prelude.{ℕ, zero, suc, ◌+◌, ◌/◌, ◌%◌, true, false, List, [], ◌∷◌, ◌++◌, map, length, drop, ◌==◌, nat_le, nat_lt}
-use Rattle.base.specs.Answers.{Answer, given, refused}
+use Rattle.std.specs.Prelude.{ℕ, zero, suc, ◌+◌, ◌/◌, ◌%◌, true, false, List, [], ◌∷◌, ◌++◌, map, length, drop, ◌==◌, nat_le, nat_lt, Ok, Err}
+use Rattle.base.specs.Answers.{Answer}
 use Rattle.base.specs.Refusals.{sole, unless}
 use Rattle.chart.specs.Charts.{Chart, size}
 use Rattle.chart.specs.Faults.{refusal}
@@ -47,14 +47,14 @@ written C = fields_text 0 (numbers C)
 -- the writer's answer for so many lent bytes: "21, a lent length [..] (for the writer's bytes: is less), or a chart
 -- table's isn't a multiple of 6. Always first."; "The writer refuses faulty charts"
 unfoldable pub writing : Chart → ℕ → Answer (List ℕ)
-writing C lent = elim (nat_le 8643 lent) [ true ↦ unless (refusal C) (written C) | false ↦ refused (sole 21 0) ]
+writing C lent = elim (nat_le 8643 lent) [ true ↦ unless (refusal C) (written C) | false ↦ Err (sole 21 0) ]
 
 -- the lent bytes afterwards: the writer "touches only those written"
 unfoldable pub printed : Answer (List ℕ) → List ℕ → List ℕ
-printed (given t) bytes = t ++ drop (length t) bytes
-printed (refused r) bytes = bytes
+printed (Ok t) bytes = t ++ drop (length t) bytes
+printed (Err r) bytes = bytes
 
 -- what the code's answer says, "for each of the enum's cases": the count of bytes, or a refusal
 unfoldable pub told_wrote : Wrote → Answer ℕ
-told_wrote (answer.Bytes n) = given n
-told_wrote (answer.Refused r) = refused r
+told_wrote (answer.Bytes n) = Ok n
+told_wrote (answer.Refused r) = Err r

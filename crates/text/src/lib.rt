@@ -1,9 +1,7 @@
 // Chart texts: the reader and the writer. Here stand the entry points, which refuse bad input themselves.
 #![tactic(auto)]
 
-ghost use Rattle.std.specs.Prelude.{◌≡◌, ℕ, ◌↔◌, length, take};
-ghost use Rattle.std.proofs.Math.Option.{some};
-ghost use Rattle.base.specs.Answers.{given};
+ghost use Rattle.std.specs.Prelude.{◌≡◌, ℕ, ◌↔◌, length, take, Some, Ok};
 ghost use Rattle.base.specs.Chains.{mapped};
 ghost use Rattle.chart.specs.Charts.{Chart, charted};
 ghost use Rattle.text.specs.Causes.{cause_number};
@@ -43,7 +41,7 @@ fn cause_number(cause: Cause) -> u32
 pub fn read(text: &[u8], table: &mut [u32]) -> Read
     ensures is { (told_read result ≡ mapped heading (read_into text.now table.old))
         × (table.new ≡ filled (read_into text.now table.old) table.old) }
-    ensures file { (C : Chart) → (chart_read result table.new ≡ some C)
+    ensures file { (C : Chart) → (chart_read result table.new ≡ Some C)
         ↔ (FileOf C text.now × (length table.old ≡ 768)) }
 {
     if table.len() != 768 {
@@ -72,7 +70,7 @@ pub fn write(head: Head, rows: &[u32], bytes: &mut [u8]) -> Wrote
         ≡ mapped length (writing (charted head rows.now) (length bytes.old)))
         × (bytes.new
         ≡ printed (writing (charted head rows.now) (length bytes.old)) bytes.old) }
-    ensures file { (n : ℕ) → told_wrote result ≡ given n
+    ensures file { (n : ℕ) → told_wrote result ≡ Ok n
         → FileOf (charted head rows.now) (take n bytes.new) }
 {
     if bytes.len() < 8643 {

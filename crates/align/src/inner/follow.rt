@@ -1,6 +1,5 @@
 // Following old assignments to the old alarm or the next assumption.
-ghost use Rattle.std.specs.Prelude.{◌≡◌, true, ◌<◌};
-ghost use Rattle.std.proofs.Math.Option.{some};
+ghost use Rattle.std.specs.Prelude.{◌≡◌, true, ◌<◌, Some};
 ghost use Rattle.operations.specs.Operations.{operands_fit};
 ghost use Rattle.chart.specs.Charts.{size, operation};
 ghost use Rattle.chart.specs.Compared.{compared};
@@ -20,7 +19,7 @@ use sets::inner::bits;
 // By row k of a place: what it writes joins the set.
 fn along(set: u64, rows: &[u32], k: usize) -> Spot
     requires { (k < size rows.now) × (operands_fit (operation rows.now k) ≡ true) }
-    ensures { some result ≡ along set rows.now (some k) }
+    ensures { Some result ≡ along set rows.now (Some k) }
 {
     Spot {
         place: old_to(rows, k),

@@ -1,6 +1,5 @@
 // One aligned step by a new row. `part` is the part of the new table that leaves a place, and j the row's number in it.
-ghost use Rattle.std.specs.Prelude.{◌≡◌, true, ◌<◌};
-ghost use Rattle.std.proofs.Math.Option.{some};
+ghost use Rattle.std.specs.Prelude.{◌≡◌, true, ◌<◌, Some};
 ghost use Rattle.base.specs.Says.{bool};
 ghost use Rattle.operations.specs.Operations.{is_known, is_assignment, is_assumption, same, operands_fit};
 ghost use Rattle.chart.specs.Charts.{size, to, operation};
@@ -233,7 +232,7 @@ fn arrived<'a>(
     came: Aligned,
 ) -> Aligned
     requires prepared { Prepared (compared heads old_rows.now new_rows.now) index.now }
-    requires place_bound { (h : Spot) → told came ≡ some h → h.place.0 < 64 }
+    requires place_bound { (h : Spot) → told came ≡ Some h → h.place.0 < 64 }
     ensures { told result
         ≡ arrived (compared heads old_rows.now new_rows.now) q (told came) }
 {

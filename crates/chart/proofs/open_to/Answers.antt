@@ -1,13 +1,10 @@
--- `chart::open_to` meets its contract: answer by answer. Assumes nothing.
+-- `chart::open_to` meets its contract: a chart that is judged faultless, and the place. Assumes nothing.
 use mathlib.Core.Path.{sym, ap, ◌∙◌}
-use Rattle.chart.specs.Faults.{told}
+use Rattle.std.specs.Prelude.{◌&&◌, ltb}
+use Rattle.base.proofs.Answers.{ok-missing}
 use Rattle.chart.specs.Lookup.{open_to}
 use Rattle.chart.proofs.open_to.Goals as goal
 
-pub returns-in-Faultless : goal.returns-in-Faultless
+pub returns : goal.returns
 unfolding open_to
-returns-in-Faultless c = rw (sym c.judge.ensures ∙ ap told c.in-Faultless.is)
-
-pub returns-in-Refused : goal.returns-in-Refused
-unfolding open_to
-returns-in-Refused c = rw (sym c.judge.ensures ∙ ap told c.in-Refused.is)
+returns c = ap (λ b. b && ltb c.args.place c.args.head.places) (c.is_ok.ensures.value ∙ ok-missing _ _ c.judge.ensures)

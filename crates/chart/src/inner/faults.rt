@@ -1,6 +1,5 @@
 // The tests for faults of a chart: what each says, or the index of the first row that it finds.
 ghost use Rattle.std.specs.Prelude.{◌≡◌, true, false, ◌&&◌, ◌-◌, ◌<◌, eqb, leb};
-ghost use Rattle.base.specs.inner.Found.{told_found};
 ghost use Rattle.base.specs.Options.{when, first_of};
 ghost use Rattle.operations.specs.Operations.{is_assumption};
 ghost use Rattle.operations.specs.Trials.{exclusive};
@@ -12,7 +11,6 @@ ghost use Rattle.chart.specs.inner.Faulty.{faulty};
 
 use crate::charts::Head;
 use crate::inner::rows::{from_at, operation_at, to_at};
-use base::Found;
 use operations::Operation;
 use operations::assumptions::exactly_one;
 use operations::inner::opposed::opposed;
@@ -80,19 +78,19 @@ fn faulty(head: Head, rows: &[u32], i: usize) -> bool
 }
 
 // 4 to 7: the first row that has one.
-pub fn first_faulty(head: Head, rows: &[u32]) -> Found
-    ensures { told_found result
+pub fn first_faulty(head: Head, rows: &[u32]) -> Option<usize>
+    ensures { result
         ≡ first_of (size rows.now) (λ i. when (faulty (charted head rows.now) i) i) }
 {
     let n = rows.len() / 6;
     let mut i = 0;
     while i < n {
         if faulty(head, rows, i) {
-            return Found::At(i);
+            return Some(i);
         }
         i += 1;
     }
-    Found::Nothing
+    None
 }
 
 // Whether two operations are assumptions of which exactly one holds.
@@ -165,18 +163,18 @@ fn conflicts(rows: &[u32], i: usize) -> bool
 }
 
 // 8: the first row that is in conflict with an earlier one.
-pub fn first_conflict(rows: &[u32]) -> Found
+pub fn first_conflict(rows: &[u32]) -> Option<usize>
     requires { Ascending rows.now }
-    ensures { told_found result
+    ensures { result
         ≡ first_of (size rows.now) (λ i. when (conflicts rows.now i) i) }
 {
     let n = rows.len() / 6;
     let mut i = 0;
     while i < n {
         if conflicts(rows, i) {
-            return Found::At(i);
+            return Some(i);
         }
         i += 1;
     }
-    Found::Nothing
+    None
 }

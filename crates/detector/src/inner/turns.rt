@@ -1,6 +1,5 @@
 // Algorithm 2: the rows of a waiting pair, and the turns of a build.
-ghost use Rattle.std.specs.Prelude.{◌≡◌, List, ℕ, ◌<◌, length, get_or};
-ghost use Rattle.std.proofs.Math.Option.{some};
+ghost use Rattle.std.specs.Prelude.{◌≡◌, List, ℕ, ◌<◌, length, get_or, Some};
 ghost use Rattle.chart.specs.Charts.{leaving};
 ghost use Rattle.chart.specs.Compared.{compared};
 ghost use Rattle.chart.specs.Places.{new_of};
@@ -134,7 +133,7 @@ fn process(
     came: Aligned,
 )
     requires n_bound { (n < 4096) × (r < 2) × (q.0 < 64) }
-    requires place_bound { (h : Spot) → told came ≡ some h → h.place.0 < 64 }
+    requires place_bound { (h : Spot) → told came ≡ Some h → h.place.0 < 64 }
     requires sized { Sized (buffers marks.old targets.old sets.old waiting.old) }
     requires tracks { Tracks waits.old seen.old (buffers marks.old targets.old sets.old waiting.old) }
     ensures tracks_2 { Tracks waits.new seen.new
@@ -162,13 +161,13 @@ pub fn to_skip<'a>(
     new_rows: &'a [u32],
     index: &[u8; 130],
     n: usize,
-    some: bool,
+    Some: bool,
 ) -> Skips
     requires indexed { Indexed old_rows.now new_rows.now index.now × Ascending new_rows.now }
     requires n_bound { (n < 4096) × NoneNever some new_rows.now }
     ensures { Skipped result (leaving new_rows.now (new_of n).0) }
 {
-    if !some {
+    if !Some {
         return Skips {
             first: false,
             second: false,

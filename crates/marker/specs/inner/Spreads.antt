@@ -1,7 +1,6 @@
 -- Pairs opened by passes and by rounds between them (lines 2 to 5 of Algorithm 1): contracts of inner functions, of
 -- which no rule speaks.
-use Rattle.std.specs.Prelude.{◌≡◌, true, false, List, ℕ, ◌%◌, ◌<◌, eqb, ltb, length, get_or, set}
-use Rattle.std.proofs.Math.Option.{none}
+use Rattle.std.specs.Prelude.{◌≡◌, true, false, List, ℕ, ◌%◌, ◌<◌, eqb, ltb, length, get_or, set, None}
 use Rattle.sets.specs.Sets.{with}
 use Rattle.records.specs.Records.{index}
 use Rattle.marker.specs.Marks.{next_opening}
@@ -17,7 +16,7 @@ pub record Spread (t x : List ℕ) (r : ℕ) (y : List ℕ) : Type 0 where
 -- so they were by passes. None is left to open, if r is 0
 pub record Passed (t x : List ℕ) (r : ℕ) (y : List ℕ) : Type 0 where
   pub spread : Spread t x r y
-  pub rests : r ≡ 0 → next_opening t y ≡ none
+  pub rests : r ≡ 0 → next_opening t y ≡ None
 
 -- ---- which of these to try first: for each new place a set of new places. No rule of document 01 speaks of them
 -- that of place q with the new place of node n, if n is a pair

@@ -1,7 +1,7 @@
 -- What the inner functions of the reader answer and leave: no rule speaks of it, and no contract of an entry point
 -- cites it.
-use Rattle.std.specs.Prelude.{ℕ, zero, suc, ◌*◌, true, false, List, [], ◌∷◌, ◌++◌, length, drop, nat_lt}
-use Rattle.base.specs.Answers.{Answer, given}
+use Rattle.std.specs.Prelude.{ℕ, zero, suc, ◌*◌, true, false, List, [], ◌∷◌, ◌++◌, length, drop, nat_lt, Ok}
+use Rattle.base.specs.Answers.{Answer}
 use Rattle.text.specs.declared.causes.Cause.TheVariants.{NoBytes, WrongEnd}
 use Rattle.text.specs.declared.fields.Field.{Field}
 use Rattle.text.specs.declared.fields.Field.TheVariants.{Number, Unfit}
@@ -80,5 +80,5 @@ answered (b ∷ s) (first.Record head count at) (reach.Past p) end =
 
 -- what the code's answer says
 unfoldable pub told_parsed : Parsed → Answer Heading
-told_parsed (parsed.Chart head rows) = given (record { head = head; rows = rows })
+told_parsed (parsed.Chart head rows) = Ok (record { head = head; rows = rows })
 told_parsed (parsed.Unfit c p) = refused_for c p

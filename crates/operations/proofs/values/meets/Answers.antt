@@ -1,29 +1,25 @@
--- `operations::values::meets` meets its contract: refusal by refusal. Assumes nothing.
-use Rattle.std.proofs.Common.{Bool, sym, ap, ◌∙◌}
-use Rattle.base.specs.Answers.{given, refused}
+-- `operations::values::meets` meets its contract: what is refused, and what is not. Assumes nothing.
+use Rattle.std.proofs.Common.{Bool, ap, sym, ◌∙◌, length}
+use Rattle.std.proofs.lemmas.Result.{err_from_is_err_and}
+use Rattle.std.specs.Prelude.{Ok}
+use Rattle.base.proofs.Answers.{none-due, passed_on, goes_on}
 use Rattle.operations.specs.Answers.{met_by}
-use Rattle.operations.proofs.Answers.{other_length, other_sort, unfit, answered}
+use Rattle.operations.proofs.Answers.{undue}
 use Rattle.operations.proofs.values.meets.Goals as goal
 
-pub returns-then-values-ne64 : goal.returns-then-values-ne64
+pub returns-in_err-judge : goal.returns-in_err-judge
 unfolding met_by
-returns-then-values-ne64 c = ap refused c.sole.ensures ∙ other_length _ _ _ _ c.if-values-ne64.true
-
-pub returns-then-not-is_assumption : goal.returns-then-not-is_assumption
-unfolding met_by
-returns-then-not-is_assumption c = ap refused c.sole-then-not-is_assumption.ensures ∙ other_sort _ _ _ _ c.if-values-ne64.false (sym c.is_assumption.ensures ∙ c.if-not-is_assumption.true)
-
-pub returns-then-not-operands_fit : goal.returns-then-not-operands_fit
-unfolding met_by
-returns-then-not-operands_fit c = ap refused c.sole-then-not-operands_fit.ensures ∙ unfit _ _ _ _ c.if-values-ne64.false (sym c.is_assumption.ensures ∙ c.if-not-is_assumption.false) (sym c.operands_fit.ensures ∙ c.if-not-operands_fit.true)
+returns-in_err-judge c =
+    let p = err_from_is_err_and c.from_residual.result c.from_residual.ensures.1 in
+    rw (p.1, p.2) (rw (← c.is_assumption.ensures) (passed_on c.judge.ensures _ c.in_err-judge.was))
 
 pub holds-requires : goal.holds-requires
-holds-requires c = (sym c.operands_fit.ensures ∙ c.if-not-operands_fit.false, c.if-values-ne64.false)
+holds-requires c =
+    let u = undue _ _ _ (none-due c.judge.ensures c.in_ok-judge.was) in
+    (u.2, u.0)
 
-pub returns-then-holds : goal.returns-then-holds
+pub returns : goal.returns
 unfolding met_by
-returns-then-holds c = ap (λ (b : Bool). given b) (sym c.if-holds.true ∙ c.holds.ensures) ∙ answered _ _ _ _ c.if-values-ne64.false (sym c.is_assumption.ensures ∙ c.if-not-is_assumption.false) (sym c.operands_fit.ensures ∙ c.if-not-operands_fit.false)
-
-pub returns-else-holds : goal.returns-else-holds
-unfolding met_by
-returns-else-holds c = ap (λ (b : Bool). given b) (sym c.if-holds.false ∙ c.holds.ensures) ∙ answered _ _ _ _ c.if-values-ne64.false (sym c.is_assumption.ensures ∙ c.if-not-is_assumption.false) (sym c.operands_fit.ensures ∙ c.if-not-operands_fit.false)
+returns c =
+    ap (λ (x : Bool). Ok x) c.holds.ensures
+    ∙ rw (← c.is_assumption.ensures) (goes_on c.judge.ensures _ c.in_ok-judge.was)

@@ -1,25 +1,25 @@
--- `operations::values::value_written` meets its contract: refusal by refusal. Assumes nothing.
-use Rattle.std.proofs.Common.{ℕ, sym, ap, ◌∙◌}
-use Rattle.base.specs.Answers.{given, refused}
+-- `operations::values::value_written` meets its contract: what is refused, and what is not. Assumes nothing.
+use Rattle.std.proofs.Common.{ℕ, ap, sym, ◌∙◌, length}
+use Rattle.std.proofs.lemmas.Result.{err_from_is_err_and}
+use Rattle.std.specs.Prelude.{Ok}
+use Rattle.base.proofs.Answers.{none-due, passed_on, goes_on}
 use Rattle.operations.specs.Answers.{written_by}
-use Rattle.operations.proofs.Answers.{other_length, other_sort, unfit, answered}
+use Rattle.operations.proofs.Answers.{undue}
 use Rattle.operations.proofs.values.value_written.Goals as goal
 
-pub returns-then-values-ne64 : goal.returns-then-values-ne64
+pub returns-in_err-judge : goal.returns-in_err-judge
 unfolding written_by
-returns-then-values-ne64 c = ap refused c.sole.ensures ∙ other_length _ _ _ _ c.if-values-ne64.true
-
-pub returns-then-not-is_assignment : goal.returns-then-not-is_assignment
-unfolding written_by
-returns-then-not-is_assignment c = ap refused c.sole-then-not-is_assignment.ensures ∙ other_sort _ _ _ _ c.if-values-ne64.false (sym c.is_assignment.ensures ∙ c.if-not-is_assignment.true)
-
-pub returns-then-not-operands_fit : goal.returns-then-not-operands_fit
-unfolding written_by
-returns-then-not-operands_fit c = ap refused c.sole-then-not-operands_fit.ensures ∙ unfit _ _ _ _ c.if-values-ne64.false (sym c.is_assignment.ensures ∙ c.if-not-is_assignment.false) (sym c.operands_fit.ensures ∙ c.if-not-operands_fit.true)
+returns-in_err-judge c =
+    let p = err_from_is_err_and c.from_residual.result c.from_residual.ensures.1 in
+    rw (p.1, p.2) (rw (← c.is_assignment.ensures) (passed_on c.judge.ensures _ c.in_err-judge.was))
 
 pub value-requires : goal.value-requires
-value-requires c = (sym c.is_assignment.ensures ∙ c.if-not-is_assignment.false, sym c.operands_fit.ensures ∙ c.if-not-operands_fit.false, c.if-values-ne64.false)
+value-requires c =
+    let u = undue _ _ _ (none-due c.judge.ensures c.in_ok-judge.was) in
+    (sym c.is_assignment.ensures ∙ u.1, u.2, u.0)
 
 pub returns : goal.returns
 unfolding written_by
-returns c = ap (λ (x : ℕ). given x) c.value.ensures ∙ answered _ _ _ _ c.if-values-ne64.false (sym c.is_assignment.ensures ∙ c.if-not-is_assignment.false) (sym c.operands_fit.ensures ∙ c.if-not-operands_fit.false)
+returns c =
+    ap (λ (x : ℕ). Ok x) c.value.ensures
+    ∙ rw (← c.is_assignment.ensures) (goes_on c.judge.ensures _ c.in_ok-judge.was)

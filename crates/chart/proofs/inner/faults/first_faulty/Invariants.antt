@@ -1,6 +1,6 @@
 -- `chart::inner::faults::first_faulty` meets its contract. The invariant: no row passed has a fault. Assumes nothing.
 use mathlib.Core.Path.{◌≡◌}
-use mathlib.Core.Option.{none}
+use Rattle.std.specs.Prelude.{None}
 use Prim.Native.Nat.{◌≤◌, ◌-◌}
 use Rattle.base.specs.Options.{when, first_of}
 use Rattle.chart.specs.Charts.{charted, size}
@@ -8,7 +8,7 @@ use Rattle.chart.specs.inner.Faulty.{faulty}
 use Rattle.chart.proofs.inner.faults.first_faulty.Given as goal
 
 abbrev pub invariant-loop-i : goal.invariant-loop-i
-invariant-loop-i l = (l.i ≤ size l.rows) × (first_of l.i (λ k. when (faulty (charted l.head l.rows) k) k) ≡ none)
+invariant-loop-i l = (l.i ≤ size l.rows) × (first_of l.i (λ k. when (faulty (charted l.head l.rows) k) k) ≡ None)
 
 abbrev pub decreases-loop-i : goal.decreases-loop-i
 decreases-loop-i l = size l.rows - l.i

@@ -1,7 +1,7 @@
--- `chart::row_number` meets its contract: test by test. Assumes nothing.
+-- `chart::row_reason` meets its contract: test by test. Assumes nothing.
 use mathlib.Core.Path.{sym, ap, ◌∙◌}
 use Rattle.operations.specs.Operations.{is_known}
-use Rattle.chart.proofs.row_number.Goals as goal
+use Rattle.chart.proofs.row_reason.Goals as goal
 
 pub returns-then-strays : goal.returns-then-strays
 returns-then-strays c = rw (← c.strays.ensures, c.if-strays.true)
