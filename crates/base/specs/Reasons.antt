@@ -4,19 +4,19 @@ use Rattle.base.specs.declared.Reason.{Reason}
 use Rattle.base.specs.declared.Reason.TheVariants as because
 
 -- "1 no places or rows; 2 above 64 places or 128 rows; 3 alarm not below n" and so on: the number of a refusal
-abbrev pub number_of : Reason → ℕ
-number_of because.Lacking = 1
-number_of because.Exceeding = 2
-number_of because.AlarmOutside = 3
-number_of because.Straying = 4
-number_of because.Descending = 5
-number_of because.UnknownCode = 6
-number_of because.WrongOperand = 7
-number_of because.Conflicting = 8
-number_of because.NoBytes = 11
-number_of because.BadByte = 12
-number_of because.BadNumber = 13
-number_of because.WrongEnd = 14
-number_of because.WrongCall = 21
-number_of because.Misshapen = 31
-number_of because.BrokenRule = 32
+abbrev pub reason_number : Reason → ℕ
+reason_number because.Lacking = 1
+reason_number because.Exceeding = 2
+reason_number because.AlarmOutside = 3
+reason_number because.Straying = 4
+reason_number because.Descending = 5
+reason_number because.UnknownCode = 6
+reason_number because.WrongOperand = 7
+reason_number because.Conflicting = 8
+reason_number because.NoBytes = 11
+reason_number because.BadByte = 12
+reason_number because.BadNumber = 13
+reason_number because.WrongEnd = 14
+reason_number because.WrongCall = 21
+reason_number because.Misshapen = 31
+reason_number because.BrokenRule = 32

@@ -3,7 +3,7 @@
 #![tactic(auto)]
 
 ghost use Rattle.std.specs.Prelude.{◌≡◌};
-ghost use Rattle.base.specs.Reasons.{number_of};
+ghost use Rattle.base.specs.Reasons.{reason_number};
 ghost use Rattle.base.specs.Refusals.{sole};
 
 // Why a refusal is due, by name. What is answered is its number.
@@ -42,7 +42,7 @@ pub enum Reason {
 }
 
 impl From<Reason> for u32 {
-    ghost from_gives = { λ reason number. number ≡ number_of reason };
+    ghost from_gives = { λ reason number. number ≡ reason_number reason };
 
     fn from(reason: Reason) -> u32 {
         match reason {
@@ -76,7 +76,7 @@ pub struct Refusal {
 impl Refusal {
     // The one that is due for this reason, in the chart with this number.
     pub fn new(reason: Reason, chart: u32, position: usize) -> Refusal
-        ensures { result ≡ record { number = number_of reason; chart = chart; position = position } }
+        ensures { result ≡ record { number = reason_number reason; chart = chart; position = position } }
     {
         Refusal {
             number: u32::from(reason),
@@ -88,7 +88,7 @@ impl Refusal {
 
 // The refusal for this reason at this position; its chart is the old or sole one.
 pub fn sole(reason: Reason, position: usize) -> Refusal
-    ensures { result ≡ sole (number_of reason) position }
+    ensures { result ≡ sole (reason_number reason) position }
 {
     Refusal::new(reason, 0, position)
 }

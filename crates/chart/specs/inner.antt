@@ -3,4 +3,5 @@ pub mod Faulty
 pub mod Ascending
 pub mod Index
 pub mod Prepared
+pub mod Comparisons
 pub mod NoneNever

@@ -4,7 +4,7 @@
 
 ghost use Rattle.std.specs.Prelude.{◌≡◌, cond, eqb, [], ◌<◌};
 ghost use Rattle.std.specs.Result.{result_err};
-ghost use Rattle.base.specs.Reasons.{number_of};
+ghost use Rattle.base.specs.Reasons.{reason_number};
 ghost use Rattle.chart.specs.Charts.{charted, size, leaving};
 ghost use Rattle.chart.specs.Compared.{compared};
 ghost use Rattle.chart.specs.Faults.{rows_fault, fault, refusal, judged};
@@ -22,7 +22,7 @@ pub mod inner; // inner.rt: for the crates above
 // Which of 4 to 7 row i has, where it has one: asked once, of the first row that has.
 fn row_reason(head: Head, rows: &[u32], i: usize) -> Reason
     requires { i < size rows.now }
-    ensures { number_of result ≡ row_number (charted head rows.now) i }
+    ensures { reason_number result ≡ row_number (charted head rows.now) i }
 {
     if faults::strays(head, rows, i) {
         return Reason::Straying;

@@ -233,7 +233,7 @@ fn wide(x: u8) -> usize
 }
 
 // The rows between two neighbouring entries of an index.
-fn rows_at<'a>(rows: &'a [u32], index: &[u8; 130], at: usize) -> &'a [u32]
+pub fn rows_at<'a>(rows: &'a [u32], index: &[u8; 130], at: usize) -> &'a [u32]
     requires { (at < 129) × (get_or index.now at 0 ≤ get_or index.now (at + 1) 0)
         × (get_or index.now (at + 1) 0 ≤ size rows.now) }
     ensures { result.now

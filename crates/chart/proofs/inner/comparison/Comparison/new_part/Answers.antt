@@ -1,0 +1,14 @@
+-- `chart::inner::comparison::Comparison::new_part` meets its contract: the rows between two entries of the index are
+-- those that leave the place. Assumes nothing.
+use mathlib.Core.Path.{sym, ◌∙◌}
+use Rattle.chart.proofs.Faultless.{indexable}
+use Rattle.chart.proofs.Rows.{at_new, part_new}
+use Rattle.chart.proofs.inner.comparison.Comparison.new_part.Goals as goal
+
+pub rows_at-requires : goal.rows_at-requires
+rows_at-requires c = at_new _ _ c.args.self.now.prepared.indexed c.requires
+
+pub returns : goal.returns
+returns c =
+    let p = c.args.self.now.prepared in
+    c.rows_at.ensures ∙ sym (part_new _ _ p.indexed c.requires (indexable _ p.new-faultless).ascending)
