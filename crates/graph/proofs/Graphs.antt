@@ -105,7 +105,11 @@ small-cleared k q l b h = small-pass k (gone q 0) b (λ i x m. go (ltb i 4096 &&
     go true x m = b
     go false x m = m
 
--- ---- the stated lengths, and sets of 64 variables
+-- ---- the stated lengths, as the types of the buffers tell them
+pub sized-of : {m t s w : List ℕ} → length m ≡ 4160 → length t ≡ 8192 → length s ≡ 4096 → length w ≡ 4096 → Sized (buffers m t s w)
+sized-of a b c d = record { marks = a; targets = b; sets = c; waiting = d }
+
+-- the same, and sets of 64 variables
 pub record Shaped (g : Buffers) : Type 0 where
   pub sized : Sized g
   pub small : (i : ℕ) → set_at g i < 2 ^ 64

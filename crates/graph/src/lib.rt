@@ -3,3 +3,6 @@
 #![tactic(auto)]
 
 pub mod inner; // inner.rt: for the crates above
+
+// A flag for every pair: whether it waits.
+pub type Waiting = [u8; 4096];

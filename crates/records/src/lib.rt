@@ -3,3 +3,12 @@
 #![tactic(auto)]
 
 pub mod inner; // inner.rt: for the crates above
+
+// The mark of every node: of 4,096 pairs and 64 kept places.
+pub type Marks = [u8; 4160];
+
+// The targets of every pair, two to a pair.
+pub type Targets = [u16; 8192];
+
+// The set of every pair.
+pub type Sets = [u64; 4096];

@@ -7,24 +7,26 @@ ghost use Rattle.graph.specs.Buffers.{buffers, marked, cleared, untargeted, keep
 ghost use Rattle.graph.specs.inner.Sized.{Sized};
 ghost use Rattle.graph.specs.inner.Tracks.{Covers, listed_if};
 
+use crate::Waiting;
 use crate::inner::buffers;
 use chart::inner::pairs::{kept, old_of};
 use chart::places::{NewPlace, OldPlace};
+use records::{Marks, Sets, Targets};
 use sets::inner::bits::{alone, holds_all, joined, meets};
 use words::inner::members;
+use words::{PairList, Pairs};
 
 // Whether a node is in the graph, or kept.
-pub fn is_marked(marks: &[u8], n: usize) -> bool
-    requires { n < length marks.now }
+pub fn is_marked(marks: &Marks, n: usize) -> bool
+    requires { n < 4160 }
     ensures { result ≡ marked marks.now n }
 {
     marks[n] != 0
 }
 
 // Pair n leaves all buffers.
-fn leave(marks: &mut [u8], targets: &mut [u16], sets: &mut [u64], waiting: &mut [u8], n: usize)
+fn leave(marks: &mut Marks, targets: &mut Targets, sets: &mut Sets, waiting: &mut Waiting, n: usize)
     requires n_bound { n < 4096 }
-    requires sized { Sized (buffers marks.old targets.old sets.old waiting.old) }
     ensures { (marks.new ≡ set marks.old n 0)
         × (targets.new ≡ set (set targets.old (index n 0) 65535) (index n 1) 65535)
         × (sets.new ≡ set sets.old n 0) × (waiting.new ≡ set waiting.old n 0) }
@@ -40,15 +42,14 @@ fn leave(marks: &mut [u8], targets: &mut [u16], sets: &mut [u64], waiting: &mut 
 // All pairs with new place q leave. Those not seen have nothing to leave, and where none of them was seen, none is
 // looked for.
 fn leave_all(
-    marks: &mut [u8],
-    targets: &mut [u16],
-    sets: &mut [u64],
-    waiting: &mut [u8],
-    seen: &[u64],
+    marks: &mut Marks,
+    targets: &mut Targets,
+    sets: &mut Sets,
+    waiting: &mut Waiting,
+    seen: &Pairs,
     q: NewPlace,
 )
     requires q_bound { q.0 < 64 }
-    requires sized { Sized (buffers marks.old targets.old sets.old waiting.old) }
     requires covers { Covers seen.now (buffers marks.old targets.old sets.old waiting.old) }
     ensures { (marks.new ≡ cleared q marks.old)
         × (targets.new ≡ untargeted q targets.old)
@@ -68,15 +69,14 @@ fn leave_all(
 
 // New place q becomes kept, and all pairs with it leave.
 pub fn keep(
-    marks: &mut [u8],
-    targets: &mut [u16],
-    sets: &mut [u64],
-    waiting: &mut [u8],
-    seen: &[u64],
+    marks: &mut Marks,
+    targets: &mut Targets,
+    sets: &mut Sets,
+    waiting: &mut Waiting,
+    seen: &Pairs,
     q: NewPlace,
 )
     requires q_bound { q.0 < 64 }
-    requires sized { Sized (buffers marks.old targets.old sets.old waiting.old) }
     requires covers { Covers seen.now (buffers marks.old targets.old sets.old waiting.old) }
     ensures { buffers marks.new targets.new sets.new waiting.new
         ≡ keep (buffers marks.old targets.old sets.old waiting.old) q }
@@ -86,9 +86,8 @@ pub fn keep(
 }
 
 // The target of row r of pair n, unless the pair has left.
-pub fn aim(marks: &[u8], targets: &mut [u16], n: usize, r: usize, to: usize)
+pub fn aim(marks: &Marks, targets: &mut Targets, n: usize, r: usize, to: usize)
     requires n_bound { (n < 4096) × (r < 2) × (to < 65536) }
-    requires marks_len { (length marks.now ≡ 4160) × (length targets.old ≡ 8192) }
     ensures { (s w : List ℕ) → buffers marks.now targets.new s w
         ≡ aim (buffers marks.now targets.old s w) n r to }
 {
@@ -99,8 +98,8 @@ pub fn aim(marks: &[u8], targets: &mut [u16], n: usize, r: usize, to: usize)
 }
 
 // The set of pair n gains v.
-fn gain(sets: &mut [u64], n: usize, v: u64)
-    requires { n < length sets.old }
+fn gain(sets: &mut Sets, n: usize, v: u64)
+    requires { n < 4096 }
     ensures { sets.new ≡ set sets.old n (joined (get_or sets.old n 0) v) }
 {
     sets[n] = joined(sets[n], v);
@@ -110,17 +109,15 @@ fn gain(sets: &mut [u64], n: usize, v: u64)
 // with all of v: of these only the mark is written.
 pub fn join(
     alarm: OldPlace,
-    marks: &mut [u8],
-    sets: &mut [u64],
-    waiting: &mut [u8],
-    waits: &mut [u64],
-    seen: &mut [u64],
+    marks: &mut Marks,
+    sets: &mut Sets,
+    waiting: &mut Waiting,
+    waits: &mut PairList,
+    seen: &mut Pairs,
     n: usize,
     v: u64,
 )
-    requires n_bound { (n < 4096) × (length marks.old ≡ 4160) × (length sets.old ≡ 4096)
-        × (length waiting.old ≡ 4096) }
-    requires waits_len { (length waits.old ≡ 65) × (length seen.old ≡ 64) }
+    requires n_bound { n < 4096 }
     requires member { 0 < get_or marks.old n 0 → Member seen.old n }
     ensures waits_after { (waits.new ≡ listed_if (due alarm.0 marks.old sets.old n v)
         waits.old n)

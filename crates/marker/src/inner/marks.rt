@@ -14,6 +14,7 @@ ghost use Rattle.marker.specs.inner.Counts.{Counted};
 use crate::inner::openings::open_if;
 use crate::inner::spread::spread;
 use graph::inner::buffers;
+use records::{Marks, Targets};
 use sets::inner::bits::without;
 use words::inner::members;
 
@@ -27,8 +28,8 @@ fn plain_mark(v: u8, x: u8) -> u8
 }
 
 // v for those of the 64 marks from `from` on that are not 0.
-fn plain_row(marks: &mut [u8], from: usize, v: u8)
-    requires { from + 64 ≤ length marks.old }
+fn plain_row(marks: &mut Marks, from: usize, v: u8)
+    requires { from + 64 ≤ 4160 }
     ensures { marks.new ≡ remade from (from + 64) (plain_as v) marks.old }
 {
     let mut i = from;
@@ -40,8 +41,8 @@ fn plain_row(marks: &mut [u8], from: usize, v: u8)
 }
 
 // Pairs 4, kept places 2. Old places of which no pair was seen have no marks.
-fn plain(marks: &mut [u8], seen: &[u64])
-    requires { (length marks.old ≡ 4160) × Holds seen.now marks.old }
+fn plain(marks: &mut Marks, seen: &[u64])
+    requires { Holds seen.now marks.old }
     ensures { marks.new ≡ plain_marks marks.old }
 {
     let mut p = 0;
@@ -55,9 +56,8 @@ fn plain(marks: &mut [u8], seen: &[u64])
 }
 
 // Opens pair i, if it is to be opened; a pair that was opened leaves rest, the pairs that may still be.
-fn open_out(marks: &mut [u8], targets: &[u16], rest: &mut [u64], i: usize) -> usize
-    requires { (length marks.old ≡ 4160) × (length targets.now ≡ 8192) × (i < 64 * length rest.old)
-        × HoldsBeyond rest.old marks.old }
+fn open_out(marks: &mut Marks, targets: &Targets, rest: &mut [u64], i: usize) -> usize
+    requires { (i < 64 * length rest.old) × HoldsBeyond rest.old marks.old }
     ensures { Tried targets.now marks.old i result marks.new
         × HoldsBeyond rest.new marks.new }
 {
@@ -71,9 +71,8 @@ fn open_out(marks: &mut [u8], targets: &[u16], rest: &mut [u64], i: usize) -> us
 
 // Opens every pair of word p that is to be opened when its turn comes, from the highest down, and says how many that
 // were. It goes through those that are in rest when it begins: what is opened leaves rest, and none comes in.
-fn sweep_word_down(marks: &mut [u8], targets: &[u16], rest: &mut [u64], p: usize) -> usize
-    requires { (length marks.old ≡ 4160) × (length targets.now ≡ 8192) × (p < length rest.old)
-        × HoldsBeyond rest.old marks.old }
+fn sweep_word_down(marks: &mut Marks, targets: &Targets, rest: &mut [u64], p: usize) -> usize
+    requires { (p < length rest.old) × HoldsBeyond rest.old marks.old }
     ensures { Swept targets.now marks.old (64 * p) (64 * p + 64) result marks.new
         × HoldsBeyond rest.new marks.new }
 {
@@ -88,9 +87,8 @@ fn sweep_word_down(marks: &mut [u8], targets: &[u16], rest: &mut [u64], p: usize
 }
 
 // The same from the lowest up.
-fn sweep_word_up(marks: &mut [u8], targets: &[u16], rest: &mut [u64], p: usize) -> usize
-    requires { (length marks.old ≡ 4160) × (length targets.now ≡ 8192) × (p < length rest.old)
-        × HoldsBeyond rest.old marks.old }
+fn sweep_word_up(marks: &mut Marks, targets: &Targets, rest: &mut [u64], p: usize) -> usize
+    requires { (p < length rest.old) × HoldsBeyond rest.old marks.old }
     ensures { Swept targets.now marks.old (64 * p) (64 * p + 64) result marks.new
         × HoldsBeyond rest.new marks.new }
 {
@@ -106,8 +104,8 @@ fn sweep_word_up(marks: &mut [u8], targets: &[u16], rest: &mut [u64], p: usize) 
 
 // Opens every pair that is to be opened when its turn comes, from the highest of rest down, and says how many that
 // were. Rows mostly lead to higher nodes, so that few such passes are needed.
-fn sweep_down(marks: &mut [u8], targets: &[u16], rest: &mut [u64]) -> usize
-    requires { (length marks.old ≡ 4160) × (length targets.now ≡ 8192) × HoldsBeyond rest.old marks.old }
+fn sweep_down(marks: &mut Marks, targets: &Targets, rest: &mut [u64]) -> usize
+    requires { HoldsBeyond rest.old marks.old }
     ensures { Swept targets.now marks.old 0 4096 result marks.new
         × HoldsBeyond rest.new marks.new }
 {
@@ -121,8 +119,8 @@ fn sweep_down(marks: &mut [u8], targets: &[u16], rest: &mut [u64]) -> usize
 }
 
 // The same from the lowest up, for chains that lead to lower nodes.
-fn sweep_up(marks: &mut [u8], targets: &[u16], rest: &mut [u64]) -> usize
-    requires { (length marks.old ≡ 4160) × (length targets.now ≡ 8192) × HoldsBeyond rest.old marks.old }
+fn sweep_up(marks: &mut Marks, targets: &Targets, rest: &mut [u64]) -> usize
+    requires { HoldsBeyond rest.old marks.old }
     ensures { Swept targets.now marks.old 0 4096 result marks.new
         × HoldsBeyond rest.new marks.new }
 {
@@ -136,8 +134,8 @@ fn sweep_up(marks: &mut [u8], targets: &[u16], rest: &mut [u64]) -> usize
 }
 
 // A pass down and, if it opens pairs, one up: 0, if the last of them opened none, which shows that none is left.
-fn sweep_both(marks: &mut [u8], targets: &[u16], rest: &mut [u64]) -> usize
-    requires { (length marks.old ≡ 4160) × (length targets.now ≡ 8192) × HoldsBeyond rest.old marks.old }
+fn sweep_both(marks: &mut Marks, targets: &Targets, rest: &mut [u64]) -> usize
+    requires { HoldsBeyond rest.old marks.old }
     ensures { Passed targets.now marks.old result marks.new
         × HoldsBeyond rest.new marks.new }
 {
@@ -150,8 +148,8 @@ fn sweep_both(marks: &mut [u8], targets: &[u16], rest: &mut [u64]) -> usize
 // All pairs from which an open or kept node is a target. Where three passes each way still open pairs, they stand on
 // chains that go up and down, which rounds over few new places follow with less work than passes. Few small charts have
 // such chains.
-fn open_rest(marks: &mut [u8], targets: &[u16], rest: &mut [u64])
-    requires { (length marks.old ≡ 4160) × (length targets.now ≡ 8192) × HoldsBeyond rest.old marks.old }
+fn open_rest(marks: &mut Marks, targets: &Targets, rest: &mut [u64])
+    requires { HoldsBeyond rest.old marks.old }
     ensures { marks.new ≡ all_opened targets.now marks.old }
 {
     loop {
@@ -180,8 +178,8 @@ fn copy(from: &[u64], to: &mut [u64])
 }
 
 // At first any pair seen may be opened.
-fn open_all(marks: &mut [u8], targets: &[u16], seen: &[u64])
-    requires { (length marks.old ≡ 4160) × (length targets.now ≡ 8192) × Holds seen.now marks.old }
+fn open_all(marks: &mut Marks, targets: &Targets, seen: &[u64])
+    requires { Holds seen.now marks.old }
     ensures { (marks.new ≡ all_opened targets.now marks.old)
         × Holds seen.now marks.new }
 {
@@ -199,7 +197,7 @@ pub struct Counts {
 }
 
 // A target of an open pair that is beyond becomes covered: how many that were.
-fn cover(marks: &mut [u8], n: u16) -> usize
+fn cover(marks: &mut Marks, n: u16) -> usize
     ensures { (marks.new ≡ cover marks.old n)
         × (count 3 marks.new ≡ result + count 3 marks.old) × (result ≤ 1) }
 {
@@ -215,9 +213,8 @@ fn cover(marks: &mut [u8], n: u16) -> usize
 }
 
 // The same of both targets of pair i, which is open.
-fn cover_from(marks: &mut [u8], targets: &[u16], i: usize) -> usize
-    requires { (length marks.old ≡ 4160) × (length targets.now ≡ 8192) × (i < 4096)
-        × (get_or marks.old i 0 ≡ 1) }
+fn cover_from(marks: &mut Marks, targets: &Targets, i: usize) -> usize
+    requires { (i < 4096) × (get_or marks.old i 0 ≡ 1) }
     ensures { (marks.new ≡ cover_from targets.now marks.old i)
         × (count 3 marks.new ≡ result + count 3 marks.old) × (result ≤ 2) }
 {
@@ -227,9 +224,8 @@ fn cover_from(marks: &mut [u8], targets: &[u16], i: usize) -> usize
 
 // The same of the open pairs of word p, which are counted too, from `so` on. Those not seen have no mark, and are not
 // open.
-fn cover_word(marks: &mut [u8], targets: &[u16], seen: &[u64], p: usize, so: Counts) -> Counts
-    requires marks_len { (length marks.old ≡ 4160) × (length targets.now ≡ 8192) × (p < length seen.now)
-        × Holds seen.now marks.old }
+fn cover_word(marks: &mut Marks, targets: &Targets, seen: &[u64], p: usize, so: Counts) -> Counts
+    requires held { (p < length seen.now) × Holds seen.now marks.old }
     requires opened_bound { (so.opened ≤ 4160) × (so.covered ≤ 4160) }
     ensures { (marks.new ≡ each (cover_from targets.now) (64 * p) 64 marks.old)
         × Counted marks.old marks.new (64 * p) (64 * p + 64) so result }
@@ -249,8 +245,8 @@ fn cover_word(marks: &mut [u8], targets: &[u16], seen: &[u64], p: usize, so: Cou
 }
 
 // The other targets of open pairs, and how many pairs are open and became covered.
-fn cover_all(marks: &mut [u8], targets: &[u16], seen: &[u64]) -> Counts
-    requires { (length marks.old ≡ 4160) × (length targets.now ≡ 8192) × Holds seen.now marks.old }
+fn cover_all(marks: &mut Marks, targets: &Targets, seen: &[u64]) -> Counts
+    requires { Holds seen.now marks.old }
     ensures { (marks.new ≡ all_covered targets.now marks.old)
         × (count 1 marks.new ≡ result.opened + count 1 (drop 4096 marks.new))
         × (count 3 marks.new ≡ result.covered + count 3 marks.old) }
@@ -269,9 +265,8 @@ fn cover_all(marks: &mut [u8], targets: &[u16], seen: &[u64]) -> Counts
 
 // All of it, from the start pair n, and the counts of marks 1 and 3. The pairs seen have every pair with a mark, and
 // the start pair.
-pub fn rank(marks: &mut [u8], targets: &[u16], n: usize, seen: &[u64]) -> Counts
-    requires { (length marks.old ≡ 4160) × (length targets.now ≡ 8192) × (n < 4096) × Holds seen.now marks.old
-        × Member seen.now n }
+pub fn rank(marks: &mut Marks, targets: &Targets, n: usize, seen: &[u64]) -> Counts
+    requires { (n < 4096) × Holds seen.now marks.old × Member seen.now n }
     ensures { (marks.new ≡ final_marks n targets.now marks.old)
         × (result.opened ≡ count 1 marks.new) × (result.covered ≡ count 3 marks.new) }
 {

@@ -4,9 +4,10 @@ ghost use Rattle.marker.specs.Marks.{in_q, opening};
 ghost use Rattle.marker.specs.inner.Openings.{Tried};
 
 use graph::inner::buffers;
+use records::{Marks, Targets};
 
 // Whether a target is an open or kept node.
-fn in_q(marks: &[u8], n: u16) -> bool
+fn in_q(marks: &Marks, n: u16) -> bool
     ensures { result ≡ in_q marks.now n }
 {
     let at = n as usize;
@@ -21,8 +22,8 @@ fn in_q(marks: &[u8], n: u16) -> bool
 }
 
 // Whether pair i is beyond and has such a target. Both targets are asked in any case, which spares a jump between them.
-fn opens(marks: &[u8], targets: &[u16], i: usize) -> bool
-    requires { (length marks.now ≡ 4160) × (length targets.now ≡ 8192) × (i < 4096) }
+fn opens(marks: &Marks, targets: &Targets, i: usize) -> bool
+    requires { i < 4096 }
     ensures { result ≡ opening targets.now marks.now i (get_or marks.now i 0) }
 {
     if marks[i] != 4 {
@@ -33,8 +34,8 @@ fn opens(marks: &[u8], targets: &[u16], i: usize) -> bool
 }
 
 // Opens pair i, if it is to be opened, and says how many that were.
-pub fn open_if(marks: &mut [u8], targets: &[u16], i: usize) -> usize
-    requires { (length marks.old ≡ 4160) × (length targets.now ≡ 8192) × (i < 4096) }
+pub fn open_if(marks: &mut Marks, targets: &Targets, i: usize) -> usize
+    requires { i < 4096 }
     ensures { Tried targets.now marks.old i result marks.new }
 {
     if opens(&*marks, targets, i) {

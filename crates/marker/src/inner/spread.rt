@@ -7,12 +7,16 @@ ghost use Rattle.marker.specs.inner.Seen.{HoldsBeyond};
 ghost use Rattle.marker.specs.inner.Spreads.{Spread, led_to, led_from};
 
 use crate::inner::openings::open_if;
+use records::{Marks, Targets};
 use sets::inner::bits::{alone, joined, meets, with, without};
 use words::inner::members;
 
+// For each new place a set of new places.
+type Leads = [u64; 64];
+
 // New place q leads to the new place of a target that is a pair.
-fn lead(leads: &mut [u64], q: usize, target: u16)
-    requires { (length leads.old ≡ 64) × (q < 64) }
+fn lead(leads: &mut Leads, q: usize, target: u16)
+    requires { q < 64 }
     ensures { leads.new ≡ led_to leads.old q target }
 {
     if target < 4096 {
@@ -21,9 +25,8 @@ fn lead(leads: &mut [u64], q: usize, target: u16)
 }
 
 // Likewise the targets of pair i, if it is beyond.
-fn lead_from(marks: &[u8], targets: &[u16], leads: &mut [u64], i: usize)
-    requires { (length marks.now ≡ 4160) × (length targets.now ≡ 8192) × (length leads.old ≡ 64)
-        × (i < 4096) }
+fn lead_from(marks: &Marks, targets: &Targets, leads: &mut Leads, i: usize)
+    requires { i < 4096 }
     ensures { leads.new ≡ led_from targets.now marks.now leads.old i }
 {
     if marks[i] == 4 {
@@ -34,9 +37,8 @@ fn lead_from(marks: &[u8], targets: &[u16], leads: &mut [u64], i: usize)
 }
 
 // Likewise the pairs of word p. All of these that are beyond are members of rest.
-fn lead_word(marks: &[u8], targets: &[u16], rest: &[u64], leads: &mut [u64], p: usize)
-    requires { (length marks.now ≡ 4160) × (length targets.now ≡ 8192) × HoldsBeyond rest.now marks.now
-        × (length leads.old ≡ 64) × (p < length rest.now) }
+fn lead_word(marks: &Marks, targets: &Targets, rest: &[u64], leads: &mut Leads, p: usize)
+    requires { HoldsBeyond rest.now marks.now × (p < length rest.now) }
     ensures { leads.new ≡ each (led_from targets.now marks.now) (64 * p) 64
         leads.old }
 {
@@ -49,9 +51,8 @@ fn lead_word(marks: &[u8], targets: &[u16], rest: &[u64], leads: &mut [u64], p: 
 }
 
 // For each new place the set of those to which pairs beyond lead.
-fn lead_all(marks: &[u8], targets: &[u16], rest: &[u64], leads: &mut [u64])
-    requires { (length marks.now ≡ 4160) × (length targets.now ≡ 8192) × HoldsBeyond rest.now marks.now
-        × (length leads.old ≡ 64) }
+fn lead_all(marks: &Marks, targets: &Targets, rest: &[u64], leads: &mut Leads)
+    requires { HoldsBeyond rest.now marks.now }
     ensures { leads.new ≡ each (led_from targets.now marks.now) 0 4096
         leads.old }
 {
@@ -63,8 +64,8 @@ fn lead_all(marks: &[u8], targets: &[u16], rest: &[u64], leads: &mut [u64])
 }
 
 // Opens the pairs with new place q that are to be opened, and says how many that were.
-fn open_place(marks: &mut [u8], targets: &[u16], q: usize) -> usize
-    requires { (length marks.old ≡ 4160) × (length targets.now ≡ 8192) × (q < 64) }
+fn open_place(marks: &mut Marks, targets: &Targets, q: usize) -> usize
+    requires { q < 64 }
     ensures { Spread targets.now marks.old result marks.new }
 {
     let mut n = 0;
@@ -77,8 +78,8 @@ fn open_place(marks: &mut [u8], targets: &[u16], q: usize) -> usize
 }
 
 // The same, if q leads to one of the places; and the set of q alone, if one was opened.
-fn spread_to(marks: &mut [u8], targets: &[u16], leads: u64, places: u64, q: usize) -> u64
-    requires { (length marks.old ≡ 4160) × (length targets.now ≡ 8192) × (q < 64) }
+fn spread_to(marks: &mut Marks, targets: &Targets, leads: u64, places: u64, q: usize) -> u64
+    requires { q < 64 }
     ensures { Spread targets.now marks.old result marks.new }
 {
     if !meets(leads, places) {
@@ -91,8 +92,7 @@ fn spread_to(marks: &mut [u8], targets: &[u16], leads: u64, places: u64, q: usiz
 }
 
 // A round: the new places where it opened a pair.
-fn spread_once(marks: &mut [u8], targets: &[u16], leads: &[u64], places: u64) -> u64
-    requires { (length marks.old ≡ 4160) × (length targets.now ≡ 8192) × (length leads.now ≡ 64) }
+fn spread_once(marks: &mut Marks, targets: &Targets, leads: &Leads, places: u64) -> u64
     ensures { Spread targets.now marks.old result marks.new }
 {
     let mut next = 0;
@@ -106,8 +106,8 @@ fn spread_once(marks: &mut [u8], targets: &[u16], leads: &[u64], places: u64) ->
 }
 
 // Rounds, until one opens nothing. The first looks at every new place that leads to one.
-pub fn spread(marks: &mut [u8], targets: &[u16], rest: &[u64])
-    requires { (length marks.old ≡ 4160) × (length targets.now ≡ 8192) × HoldsBeyond rest.now marks.old }
+pub fn spread(marks: &mut Marks, targets: &Targets, rest: &[u64])
+    requires { HoldsBeyond rest.now marks.old }
     ensures { Spread targets.now marks.old 0 marks.new }
 {
     let mut leads = [0u64; 64];

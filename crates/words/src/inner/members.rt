@@ -2,6 +2,7 @@
 ghost use Rattle.std.specs.Prelude.{◌≡◌, true, ◌↔◌, ◌+◌, ◌*◌, ◌/◌, ◌≤◌, ◌<◌, length};
 ghost use Rattle.words.specs.inner.Words.{Member, added, removed, gathered, listed, LowestFrom, HighestBefore};
 
+use crate::{PairList, Pairs};
 use sets::inner::bits::{alone, joined, meets, with, without};
 
 pub fn add(words: &mut [u64], n: usize)
@@ -21,8 +22,8 @@ pub fn remove(words: &mut [u64], n: usize)
 }
 
 // Whether the pair of bit q of word p is a member. A loop over the words makes the mask of q once.
-pub fn has(words: &[u64], p: usize, q: usize) -> bool
-    requires { (64 ≤ length words.now) × (p < 64) × (q < 64) }
+pub fn has(words: &Pairs, p: usize, q: usize) -> bool
+    requires { (p < 64) × (q < 64) }
     ensures { (result ≡ true) ↔ Member words.now (64 * p + q) }
 {
     meets(words[p], alone(q as u32))
@@ -41,9 +42,9 @@ pub fn gathered(words: &[u64]) -> u64
     all
 }
 
-// Adds pair n to a list of 65 words: also the last, of words that may have a bit, gains one.
-pub fn list(words: &mut [u64], n: usize)
-    requires { (length words.old ≡ 65) × (n < 4096) }
+// Adds pair n to a list: also the last word, of words that may have a bit, gains one.
+pub fn list(words: &mut PairList, n: usize)
+    requires { n < 4096 }
     ensures { words.new ≡ listed words.old n }
 {
     add(words, n);

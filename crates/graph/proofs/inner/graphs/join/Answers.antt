@@ -9,7 +9,7 @@ pub returns-then-there-holds_all : goal.returns-then-there-holds_all
 returns-then-there-holds_all c = let A = c.args in
     let b = c.is_marked-there.ensures in
     let h = c.holds_all.ensures in
-    let l = c.type_inv.seen (A.n / 64) in
+    let l = c.fits-seen (A.n / 64) in
     let seen = held_seen A.alarm.0 A.marks.now A.sets.now A.n A.v b h c.if-there-holds_all.true A.seen.now (omega (arith, l)) c.requires.member in
     record { waits_after = (search held_listed, seen); by_index = search held_join }
 

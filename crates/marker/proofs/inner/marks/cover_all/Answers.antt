@@ -8,10 +8,10 @@ pub loop-p-init : goal.loop-p-init
 loop-p-init c = search all_start
 
 pub cover_word-c-requires : goal.cover_word-c-requires
-cover_word-c-requires c = record { marks_len = (search rules, search rules, search rules, search rules); opened_bound = all_few c.loop-p.invariant }
+cover_word-c-requires c = record { held = (search rules, search rules); opened_bound = all_few c.loop-p.invariant }
 
 pub loop-p-preserved : goal.loop-p-preserved
 loop-p-preserved c = search all_more
 
 pub returns : goal.returns
-returns c = all_end c.loop-p.invariant c.requires.1 (omega arith)
+returns c = all_end c.loop-p.invariant c.told-targets (omega arith)

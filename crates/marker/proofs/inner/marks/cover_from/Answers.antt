@@ -3,4 +3,4 @@ use Rattle.marker.proofs.Covering.{covers-both}
 use Rattle.marker.proofs.inner.marks.cover_from.Goals as goal
 
 pub returns : goal.returns
-returns c = covers-both _ _ _ c.requires.3 c.cover.ensures c.cover-2.ensures
+returns c = covers-both _ _ _ c.requires.1 c.cover.ensures c.cover-2.ensures

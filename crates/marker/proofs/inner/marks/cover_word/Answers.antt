@@ -5,7 +5,7 @@ use native.Mathlib.Omega.{arith}
 use Rattle.marker.proofs.inner.marks.cover_word.Goals as goal
 
 pub loop-word-init : goal.loop-word-init
-loop-word-init c = word_start _ _ _ _ c.requires.marks_len.0 c.requires.marks_len.3
+loop-word-init c = word_start _ _ _ _ c.told-marks c.requires.held.1
 
 pub overflow_add-opened : goal.overflow_add-opened
 overflow_add-opened c = record { fits = omega (arith, (word_few _ _ _ c.loop-word.invariant).0, c.requires.opened_bound) }

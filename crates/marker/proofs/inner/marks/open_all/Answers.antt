@@ -7,13 +7,13 @@ use borrow.Author.Rules.{rules}
 use Rattle.marker.proofs.inner.marks.open_all.Goals as goal
 
 pub slice_bounds-rest-end : goal.slice_bounds-rest-end
-slice_bounds-rest-end c = sym (length-take-le _ _ (omega (arith, c.requires.2.most)))
+slice_bounds-rest-end c = sym (length-take-le _ _ (omega (arith, c.requires.most)))
 
 pub copy-requires : goal.copy-requires
-copy-requires c = length-take-le _ _ (omega (arith, c.requires.2.most))
+copy-requires c = length-take-le _ _ (omega (arith, c.requires.most))
 
 pub open_rest-requires : goal.open_rest-requires
-open_rest-requires c = (search rules, search rules, search holds_copied)
+open_rest-requires c = search holds_copied
 
 pub returns : goal.returns
 returns c = (search rules, search holds_opened)

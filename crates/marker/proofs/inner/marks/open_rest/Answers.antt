@@ -18,9 +18,6 @@ returns-then-sweep_both-eq0-2 c = passes_done _ (rounds_again _ c.loop-marks.inv
 pub returns-then-sweep_both-eq0-3 : goal.returns-then-sweep_both-eq0-3
 returns-then-sweep_both-eq0-3 c = passes_done _ (rounds_again _ (rounds_again _ c.loop-marks.invariant.0 c.sweep_both.ensures.0.spread) c.sweep_both-in-loop-marks.ensures.0.spread) c.sweep_both-in-loop-marks-2.ensures.0 c.if-sweep_both-eq0-3.true
 
-pub spread-requires : goal.spread-requires
-spread-requires c = (search rules, search rules, search rules)
-
 pub loop-marks-smaller : goal.loop-marks-smaller
 loop-marks-smaller c =
     let W = c.loop-marks.invariant.0 in

@@ -13,8 +13,8 @@ loop-p-preserved c =
     let P = c.loop-p.invariant in
     elim c.if-seen-p-ne0.branch [
       | then-seen-p-ne0 w ↦ plain_more P (omega arith) (w.marks-is ∙ w.plain_row.ensures)
-      | else-seen-p-ne0 w ↦ plain_past P (omega arith) c.requires.1 w.if-seen-p-ne0.false w.marks-is
+      | else-seen-p-ne0 w ↦ plain_past P (omega arith) c.requires w.if-seen-p-ne0.false w.marks-is
     ]
 
 pub returns : goal.returns
-returns c = plain_end c.loop-p.invariant c.requires.1 (omega arith) c.plain_row-2.ensures
+returns c = plain_end c.loop-p.invariant c.requires (omega arith) c.plain_row-2.ensures

@@ -1,12 +1,11 @@
 -- `marker::inner::marks::rank` meets its contract. Assumes nothing.
 use Rattle.marker.proofs.Ranking.{rank_is}
 use Rattle.marker.proofs.Seen.{holds_started}
-use borrow.Author.Rules.{rules}
 use Rattle.marker.proofs.inner.marks.rank.Goals as goal
 
 pub open_all-requires : goal.open_all-requires
-open_all-requires c = (search rules, search rules, search holds_started)
+open_all-requires c = search holds_started
 
 pub returns : goal.returns
 returns c =
-    rank_is _ _ _ c.requires.0 c.requires.1 c.requires.2 c.plain.ensures c.put8.ensures c.open_all.ensures.0 c.cover_all.ensures
+    rank_is _ _ _ c.told-marks c.told-targets c.requires.0 c.plain.ensures c.put8.ensures c.open_all.ensures.0 c.cover_all.ensures
