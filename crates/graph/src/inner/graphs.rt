@@ -8,7 +8,6 @@ ghost use Rattle.graph.specs.inner.Sized.{Sized};
 ghost use Rattle.graph.specs.inner.Tracks.{Covers, listed_if};
 
 use crate::Waiting;
-use crate::inner::buffers;
 use chart::inner::pairs::{kept, old_of};
 use chart::places::{NewPlace, OldPlace};
 use records::{Marks, Sets, Targets};
@@ -82,7 +81,7 @@ pub fn keep(
         ≡ keep (buffers marks.old targets.old sets.old waiting.old) q }
 {
     leave_all(marks, targets, sets, waiting, seen, q);
-    buffers::put8(marks, kept(q), 1);
+    marks[kept(q)] = 1;
 }
 
 // The target of row r of pair n, unless the pair has left.
@@ -126,14 +125,14 @@ pub fn join(
         ≡ join alarm.0 (buffers marks.old t sets.old waiting.old) n v }
 {
     let there = is_marked(&*marks, n);
-    buffers::put8(marks, n, 1);
+    marks[n] = 1;
     if there & holds_all(sets[n], v) {
         return;
     }
     members::add(seen, n);
     gain(sets, n, v);
     if !old_of(n).is(alarm) {
-        buffers::put8(waiting, n, 1);
+        waiting[n] = 1;
         members::list(waits, n);
     }
 }

@@ -9,10 +9,8 @@ pub fn blank(marks: &[u8], from: usize, n: usize) -> bool
     ensures { result ≡ bool (each n (λ j. eq (get_or marks.now (from + j) 0) 0)) }
 {
     let mut all = 0;
-    let mut j = 0;
-    while j < n {
+    for j in 0..n {
         all = all | marks[from + j];
-        j += 1;
     }
     all == 0
 }

@@ -34,10 +34,8 @@ pub fn gathered(words: &[u64]) -> u64
     ensures { result ≡ gathered words.now (length words.now) }
 {
     let mut all = 0;
-    let mut p = 0;
-    while p < words.len() {
-        all = joined(all, words[p]);
-        p += 1;
+    for word in words {
+        all = joined(all, *word);
     }
     all
 }

@@ -10,10 +10,10 @@ use Rattle.records.proofs.inner.marks.blank.Goals as goal
 
 pub loop-j-init : goal.loop-j-init
 unfolding every
-loop-j-init c = (search rules, refl)
+loop-j-init c = refl
 
 pub loop-j-preserved : goal.loop-j-preserved
-loop-j-preserved c = (omega arith, all_next _ _ c.loop-j.invariant.1 refl (joined_0 c.loop-j.all (get_or c.args.marks.now (c.args.from + c.loop-j.j) 0)))
+loop-j-preserved c = all_next _ _ c.loop-j.invariant refl (joined_0 c.loop-j.all (get_or c.args.marks.now (c.args.from + c.loop-j.j) 0))
 
 pub returns : goal.returns
-returns c = all_taken _ _ _ c.loop-j.invariant.0 c.loop-j-test.false c.loop-j.invariant.1
+returns c = search all_taken
