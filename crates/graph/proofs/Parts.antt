@@ -62,10 +62,6 @@ module _ (alarm : ℕ) (m s : List ℕ) (n v : ℕ) {b h : Bool} (e : b ≡ mark
       go false true false q = refl
       go false false h q = refl
 
--- a set gains another
-pub gain_is : (s : List ℕ) (n v : ℕ) {u : ℕ} → u ≡ joined (get_or s n 0) v → set s n u ≡ set s n (joined (get_or s n 0) v)
-gain_is s n v e = ap (set s n) e
-
 module _ (alarm n v : ℕ) (m s w : List ℕ) {m' s' : List ℕ} {d : Bool} (e : d ≡ due alarm m s n v) (a : m' ≡ set m n 1) (b : s' ≡ set s n (joined (get_or s n 0) v)) where
   pub join_yes : {w' : List ℕ} → d ≡ true → w' ≡ set w n 1 → (t : List ℕ) → buffers m' t s' w' ≡ join alarm (buffers m t s w) n v
   unfolding join waits

@@ -13,9 +13,6 @@ returns-then-there-holds_all c = let A = c.args in
     let seen = held_seen A.alarm.0 A.marks.now A.sets.now A.n A.v b h c.if-there-holds_all.true A.seen.now (omega (arith, l)) c.requires.member in
     record { waits_after = (search held_listed, seen); by_index = search held_join }
 
-pub list-requires : goal.list-requires
-list-requires c = search rules
-
 pub returns-then-not-is : goal.returns-then-not-is
 returns-then-not-is c = let d =
     let A = c.args in

@@ -1,5 +1,5 @@
 -- `graph::inner::graphs::leave_all` meets its contract. Assumes nothing.
-use Rattle.graph.proofs.Keeping.{going_none, going_same, going_seen, going_unseen, left_all, left-none}
+use Rattle.graph.proofs.Keeping.{going_same, going_seen, going_unseen, left_all, left-none}
 use Rattle.graph.proofs.Graphs.{sized-of}
 use borrow.Author.Rules.{rules}
 use native.Mathlib.Omega.{arith}
@@ -8,9 +8,6 @@ use Rattle.graph.proofs.inner.graphs.leave_all.Goals.{then-has, else-has}
 
 pub returns-then-not-meets : goal.returns-then-not-meets
 returns-then-not-meets c = left-none c.requires.covers (omega arith) c.gathered.ensures c.alone.ensures c.meets.ensures (c.if-not-meets.true)
-
-pub loop-p-init : goal.loop-p-init
-loop-p-init c = going_none _ _
 
 pub loop-p-preserved : goal.loop-p-preserved
 loop-p-preserved c =

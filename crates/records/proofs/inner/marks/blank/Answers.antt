@@ -3,9 +3,7 @@ use mathlib.Core.Path.{refl}
 use Prim.Native.Nat.{◌+◌}
 use lib.ListN.{get_or}
 use Rattle.base.specs.Says.{every}
-use Rattle.records.proofs.Marks.{all_next, all_taken, joined_0}
-use borrow.Author.Rules.{rules}
-use native.Mathlib.Omega.{arith}
+use Rattle.records.proofs.Marks.{all_next, joined_0}
 use Rattle.records.proofs.inner.marks.blank.Goals as goal
 
 pub loop-j-init : goal.loop-j-init
@@ -14,6 +12,3 @@ loop-j-init c = refl
 
 pub loop-j-preserved : goal.loop-j-preserved
 loop-j-preserved c = all_next _ _ c.loop-j.invariant refl (joined_0 c.loop-j.all (get_or c.args.marks.now (c.args.from + c.loop-j.j) 0))
-
-pub returns : goal.returns
-returns c = search all_taken

