@@ -2,18 +2,14 @@
 ghost use Rattle.std.specs.Prelude.{◌≡◌, true, ◌<◌, Some};
 ghost use Rattle.operations.specs.Operations.{operands_fit};
 ghost use Rattle.chart.specs.Charts.{size, operation};
-ghost use Rattle.chart.specs.Compared.{compared};
-ghost use Rattle.chart.specs.inner.Prepared.{Prepared};
+ghost use Rattle.chart.specs.inner.Comparisons.{charts_of};
 ghost use Rattle.align.specs.Steps.{along, onward, followed};
-ghost use Rattle.align.specs.inner.Told.{told_onward, told_followed};
 
 use crate::inner::seek;
-use crate::spots::{Followed, Onward, Spot};
-use base::Found;
-use chart::charts::Heads;
+use crate::spots::Spot;
+use chart::inner::comparison::Comparison;
 use chart::inner::pairs::bit;
-use chart::inner::rows::{a_at, old_to, rows_of};
-use chart::places::Place;
+use chart::inner::rows::{a_at, old_to};
 use sets::inner::bits;
 
 // By row k of a place: what it writes joins the set.
@@ -28,60 +24,37 @@ fn along(set: u64, rows: &[u32], k: usize) -> Spot
 }
 
 // By the assignment that leaves the place, unless it is the old alarm or none does.
-fn onward<'a>(
-    heads: Heads,
-    old_rows: &'a [u32],
-    new_rows: &'a [u32],
-    index: &[u8; 130],
-    h: Spot,
-) -> Onward
-    requires prepared { Prepared (compared heads old_rows.now new_rows.now) index.now }
-    requires place_bound { h.place.0 < 64 }
-    ensures { told_onward result ≡ onward (compared heads old_rows.now new_rows.now) h }
+fn onward(charts: &Comparison<'_>, h: Spot) -> Option<Spot>
+    requires { h.place.0 < 64 }
+    ensures { result ≡ onward (charts_of charts.now) h }
 {
     let p = h.place;
-    if p.is(heads.old.alarm) {
-        return Onward::Ends;
+    if p == charts.heads.old.alarm {
+        return None;
     }
-    let rows = rows_of(old_rows, new_rows, index, Place::Old(p));
-    match seek::assignment(rows) {
-        Found::At(k) => Onward::To(along(h.set, rows, k)),
-        Found::Nothing => Onward::Ends,
-    }
+    let rows = charts.old_part(p);
+    let k = seek::assignment(rows)?;
+    Some(along(h.set, rows, k))
 }
 
-// All of them, from a place that counts as come to: a walk that comes to no place twice follows no more than 64.
-pub fn follow<'a>(
-    heads: Heads,
-    old_rows: &'a [u32],
-    new_rows: &'a [u32],
-    index: &[u8; 130],
-    h: Spot,
-) -> Followed
-    requires prepared { Prepared (compared heads old_rows.now new_rows.now) index.now }
-    requires place_bound { h.place.0 < 64 }
-    ensures { told_followed result
-        ≡ followed (compared heads old_rows.now new_rows.now) h }
+// All of them, from a place that counts as come to: a walk that comes to no place twice follows no more than 64. None
+// where it comes to one twice.
+pub fn follow(charts: &Comparison<'_>, h: Spot) -> Option<Spot>
+    requires { h.place.0 < 64 }
+    ensures { result ≡ followed (charts_of charts.now) h }
 {
-    let p = h.place;
     let mut at = h;
-    let mut met = bit(p);
-    let mut left: u32 = 64;
-    while 0 < left {
-        match onward(heads, old_rows, new_rows, index, at) {
-            Onward::Ends => {
-                return Followed::At(at);
-            }
-            Onward::To(next) => {
-                let q = next.place;
-                if bits::meets(met, bit(q)) {
-                    return Followed::Twice;
-                }
-                met = bits::joined(met, bit(q));
-                at = next;
-            }
+    let mut met = bit(h.place);
+    for _ in 0..64usize {
+        let Some(next) = onward(charts, at) else {
+            return Some(at);
+        };
+        let q = next.place;
+        if bits::meets(met, bit(q)) {
+            return None;
         }
-        left -= 1;
+        met = bits::joined(met, bit(q));
+        at = next;
     }
-    Followed::Twice
+    None
 }

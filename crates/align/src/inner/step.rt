@@ -3,19 +3,17 @@ ghost use Rattle.std.specs.Prelude.{◌≡◌, true, ◌<◌, Some};
 ghost use Rattle.base.specs.Says.{bool};
 ghost use Rattle.operations.specs.Operations.{is_known, is_assignment, is_assumption, same, operands_fit};
 ghost use Rattle.chart.specs.Charts.{size, to, operation};
-ghost use Rattle.chart.specs.Compared.{compared};
-ghost use Rattle.chart.specs.inner.Prepared.{Prepared};
+ghost use Rattle.chart.specs.inner.Comparisons.{charts_of};
 ghost use Rattle.align.specs.Steps.{find, rewritten, writing_row, unequal, assigned, matched, counterpart, assumed, moved, fair, rescued, arrived, rows_at, step};
 ghost use Rattle.align.specs.declared.spots.Spot.{Spot};
-ghost use Rattle.align.specs.inner.Told.{told};
 
 use crate::inner::follow::follow;
 use crate::inner::{reads, seek};
-use crate::spots::{Aligned, Followed, Spot};
-use base::Found;
-use chart::charts::{Heads, NewHead, OldHead};
-use chart::inner::rows::{a_at, is_assignment_at, new_to, old_to, operation_at, rows_of};
-use chart::places::{NewPlace, OldPlace, Place};
+use crate::spots::Spot;
+use chart::charts::Heads;
+use chart::inner::comparison::Comparison;
+use chart::inner::rows::{a_at, is_assignment_at, new_to, old_to, operation_at};
+use chart::places::{NewPlace, OldPlace};
 use operations::Operation;
 use sets::inner::bits;
 
@@ -32,255 +30,164 @@ fn rewritten(set: u64, o: Operation) -> u64
 
 // By a new assignment to variable a that no old row of the place equals. In edition 2 the old chart moves too, where
 // the place has an assignment to a.
-fn unequal<'a>(
-    heads: Heads,
-    old_rows: &'a [u32],
-    new_rows: &'a [u32],
-    index: &[u8; 130],
-    h: Spot,
-    a: u32,
-) -> Spot
-    requires prepared { Prepared (compared heads old_rows.now new_rows.now) index.now }
+fn unequal(charts: &Comparison<'_>, h: Spot, a: u32) -> Spot
     requires place_bound { h.place.0 < 64 }
     requires a_bound { a < 64 }
-    ensures { result ≡ unequal (compared heads old_rows.now new_rows.now) h a
-        (writing_row (compared heads old_rows.now new_rows.now) h.place a) }
+    ensures { result ≡ unequal (charts_of charts.now) h a
+        (writing_row (charts_of charts.now) h.place a) }
 {
     let p = h.place;
     let set = bits::with(h.set, a);
-    if heads.edition != 2 {
+    if charts.heads.edition != 2 {
         return Spot { place: p, set };
     }
-    let rows = rows_of(old_rows, new_rows, index, Place::Old(p));
+    let rows = charts.old_part(p);
     match seek::writing(rows, a) {
-        Found::At(k) => Spot {
+        Some(k) => Spot {
             place: old_to(rows, k),
             set,
         },
-        Found::Nothing => Spot { place: p, set },
+        None => Spot { place: p, set },
     }
 }
 
 // By a new assignment: together with the equal old row, if there is one.
-fn assigned<'a>(
-    heads: Heads,
-    old_rows: &'a [u32],
-    new_rows: &'a [u32],
-    index: &[u8; 130],
-    h: Spot,
-    part: &'a [u32],
-    j: usize,
-) -> Spot
-    requires prepared { Prepared (compared heads old_rows.now new_rows.now) index.now }
+fn assigned(charts: &Comparison<'_>, h: Spot, part: &[u32], j: usize) -> Spot
     requires place_bound { h.place.0 < 64 }
     requires j_bound { (j < size part.now) × (is_assignment (operation part.now j) ≡ true)
         × (operands_fit (operation part.now j) ≡ true) }
-    ensures { result ≡ assigned (compared heads old_rows.now new_rows.now) h
+    ensures { result ≡ assigned (charts_of charts.now) h
         (operation part.now j)
-        (find (rows_at (compared heads old_rows.now new_rows.now) h.place)
+        (find (rows_at (charts_of charts.now) h.place)
         (λ o. same o (operation part.now j))) }
 {
     let p = h.place;
-    let rows = rows_of(old_rows, new_rows, index, Place::Old(p));
+    let rows = charts.old_part(p);
     match seek::same(rows, part, j) {
-        Found::At(k) => Spot {
+        Some(k) => Spot {
             place: old_to(rows, k),
             set: rewritten(h.set, operation_at(part, j)),
         },
-        Found::Nothing => unequal(heads, old_rows, new_rows, index, h, a_at(part, j)),
+        None => unequal(charts, h, a_at(part, j)),
     }
 }
 
 // By an assumption and row k of the old place, which is matched with it.
-fn matched(set: u64, rows: &[u32], k: usize, o: Operation) -> Aligned
+fn matched(set: u64, rows: &[u32], k: usize, o: Operation) -> Option<Spot>
     requires k_bound { (k < size rows.now) × (is_assumption (operation rows.now k) ≡ true)
         × (operands_fit (operation rows.now k) ≡ true) }
     requires o_value { (is_assumption o ≡ true) × (operands_fit o ≡ true) }
-    ensures { told result ≡ matched set rows.now k o }
+    ensures { result ≡ matched set rows.now k o }
 {
     if reads::meets_compared(set, o) {
-        return Aligned::Failed;
+        return None;
     }
     if reads::meets_compared(set, operation_at(rows, k)) {
-        return Aligned::Failed;
+        return None;
     }
-    Aligned::To(Spot {
+    Some(Spot {
         place: old_to(rows, k),
         set,
     })
 }
 
 // By an assumption whose operation is that of row `equal`: what either row reads is asked for once.
-fn matched_same(set: u64, rows: &[u32], equal: usize) -> Aligned
+fn matched_same(set: u64, rows: &[u32], equal: usize) -> Option<Spot>
     requires { (equal < size rows.now) × (is_assumption (operation rows.now equal) ≡ true)
         × (operands_fit (operation rows.now equal) ≡ true) }
-    ensures { told result ≡ matched set rows.now equal (operation rows.now equal) }
+    ensures { result ≡ matched set rows.now equal (operation rows.now equal) }
 {
     if reads::meets_compared(set, operation_at(rows, equal)) {
-        return Aligned::Failed;
+        return None;
     }
-    Aligned::To(Spot {
+    Some(Spot {
         place: old_to(rows, equal),
         set,
     })
 }
 
 // By a new assumption, once old assignments have been followed.
-fn assumed<'a>(
-    heads: Heads,
-    old_rows: &'a [u32],
-    new_rows: &'a [u32],
-    index: &[u8; 130],
-    h: Spot,
-    part: &'a [u32],
-    j: usize,
-) -> Aligned
-    requires prepared { Prepared (compared heads old_rows.now new_rows.now) index.now }
+fn assumed(charts: &Comparison<'_>, h: Spot, part: &[u32], j: usize) -> Option<Spot>
     requires place_bound { h.place.0 < 64 }
     requires j_bound { (j < size part.now) × (is_assumption (operation part.now j) ≡ true)
         × (operands_fit (operation part.now j) ≡ true) }
-    ensures { told result ≡ assumed (compared heads old_rows.now new_rows.now) h
+    ensures { result ≡ assumed (charts_of charts.now) h
         (operation part.now j)
-        (counterpart (compared heads old_rows.now new_rows.now) h.place
+        (counterpart (charts_of charts.now) h.place
         (operation part.now j)) }
 {
     let p = h.place;
-    if p.is(heads.old.alarm) {
-        return Aligned::To(h);
+    if p == charts.heads.old.alarm {
+        return Some(h);
     }
-    let rows = rows_of(old_rows, new_rows, index, Place::Old(p));
+    let rows = charts.old_part(p);
     match seek::same(rows, part, j) {
-        Found::At(k) => matched_same(h.set, rows, k),
-        Found::Nothing => match seek::implied(rows, operation_at(part, j)) {
-            Found::At(k) => matched(h.set, rows, k, operation_at(part, j)),
-            Found::Nothing => Aligned::To(h),
+        Some(k) => matched_same(h.set, rows, k),
+        None => match seek::implied(rows, operation_at(part, j)) {
+            Some(k) => matched(h.set, rows, k, operation_at(part, j)),
+            None => Some(h),
         },
     }
 }
 
 // The step up to the rule of the new alarm.
-fn moved<'a>(
-    heads: Heads,
-    old_rows: &'a [u32],
-    new_rows: &'a [u32],
-    index: &[u8; 130],
-    h: Spot,
-    part: &'a [u32],
-    j: usize,
-) -> Aligned
-    requires prepared { Prepared (compared heads old_rows.now new_rows.now) index.now }
+fn moved(charts: &Comparison<'_>, h: Spot, part: &[u32], j: usize) -> Option<Spot>
     requires place_bound { h.place.0 < 64 }
     requires j_bound { (j < size part.now) × (is_known (operation part.now j) ≡ true)
         × (operands_fit (operation part.now j) ≡ true) }
-    ensures { told result ≡ moved (compared heads old_rows.now new_rows.now) h
-        (operation part.now j) }
+    ensures { result ≡ moved (charts_of charts.now) h (operation part.now j) }
 {
     if is_assignment_at(part, j) {
-        return Aligned::To(assigned(heads, old_rows, new_rows, index, h, part, j));
+        return Some(assigned(charts, h, part, j));
     }
-    match follow(heads, old_rows, new_rows, index, h) {
-        Followed::At(next) => assumed(heads, old_rows, new_rows, index, next, part, j),
-        Followed::Twice => Aligned::Failed,
-    }
+    let next = follow(charts, h)?;
+    assumed(charts, next, part, j)
 }
 
 // Whether the old place is the old alarm if the new one is the new alarm.
 pub fn fair(heads: Heads, p: OldPlace, q: NewPlace) -> bool
     ensures { result ≡ bool (fair heads p q) }
 {
-    if !q.is(heads.new.alarm) {
-        return true;
-    }
-    p.is(heads.old.alarm)
+    (q != heads.new.alarm) | (p == heads.old.alarm)
 }
 
 // A step that comes to the new alarm without the old one. In edition 2 old assignments are followed first: where they
 // meet the old alarm, it goes to both.
-fn rescued<'a>(
-    heads: Heads,
-    old_rows: &'a [u32],
-    new_rows: &'a [u32],
-    index: &[u8; 130],
-    h: Spot,
-) -> Aligned
-    requires prepared { Prepared (compared heads old_rows.now new_rows.now) index.now }
-    requires place_bound { h.place.0 < 64 }
-    ensures { told result ≡ rescued (compared heads old_rows.now new_rows.now) h }
+fn rescued(charts: &Comparison<'_>, h: Spot) -> Option<Spot>
+    requires { h.place.0 < 64 }
+    ensures { result ≡ rescued (charts_of charts.now) h }
 {
-    if heads.edition != 2 {
-        return Aligned::Failed;
+    if charts.heads.edition != 2 {
+        return None;
     }
-    match follow(heads, old_rows, new_rows, index, h) {
-        Followed::At(next) => {
-            let p = next.place;
-            if p.is(heads.old.alarm) {
-                return Aligned::To(next);
-            }
-            Aligned::Failed
-        }
-        Followed::Twice => Aligned::Failed,
+    let next = follow(charts, h)?;
+    if next.place == charts.heads.old.alarm {
+        return Some(next);
     }
+    None
 }
 
 // The rule of the new alarm, of what the step has come to.
-fn arrived<'a>(
-    heads: Heads,
-    old_rows: &'a [u32],
-    new_rows: &'a [u32],
-    index: &[u8; 130],
-    q: NewPlace,
-    came: Aligned,
-) -> Aligned
-    requires prepared { Prepared (compared heads old_rows.now new_rows.now) index.now }
-    requires place_bound { (h : Spot) → told came ≡ Some h → h.place.0 < 64 }
-    ensures { told result
-        ≡ arrived (compared heads old_rows.now new_rows.now) q (told came) }
+fn arrived(charts: &Comparison<'_>, q: NewPlace, came: Option<Spot>) -> Option<Spot>
+    requires { (h : Spot) → came ≡ Some h → h.place.0 < 64 }
+    ensures { result ≡ arrived (charts_of charts.now) q came }
 {
-    match came {
-        Aligned::To(h) => {
-            if fair(heads, h.place, q) {
-                return Aligned::To(h);
-            }
-            rescued(heads, old_rows, new_rows, index, h)
-        }
-        Aligned::Failed => Aligned::Failed,
+    let h = came?;
+    if fair(charts.heads, h.place, q) {
+        return Some(h);
     }
+    rescued(charts, h)
 }
 
-// The aligned step from an old place and its set by row j of the part. Both heads, the place and the set come apart:
-// heads together would be gathered in memory for each step, and place and set as a spot would be written narrow and
-// read back wide, which stalls. What few steps look at comes last, so that registers are left for what all do.
-pub fn step<'a>(
-    p: OldPlace,
-    set: u64,
-    old: OldHead,
-    old_rows: &'a [u32],
-    new_rows: &'a [u32],
-    part: &'a [u32],
-    j: usize,
-    index: &[u8; 130],
-    new: NewHead,
-    edition: u32,
-) -> Aligned
-    requires prepared { Prepared (compared (record { edition = edition; old = old; new = new }) old_rows.now
-        new_rows.now) index.now }
+// The aligned step from an old place and its set by row j of the part. The place and the set come apart: as a spot they
+// would be written narrow and read back wide, which stalls.
+pub fn step(charts: &Comparison<'_>, p: OldPlace, set: u64, part: &[u32], j: usize) -> Option<Spot>
     requires p_bound { p.0 < 64 }
     requires j_bound { (j < size part.now) × (is_known (operation part.now j) ≡ true)
         × (operands_fit (operation part.now j) ≡ true) }
-    ensures { told result
-        ≡ step (compared (record { edition = edition; old = old; new = new }) old_rows.now
-        new_rows.now)
-        (record { place = p; set = set }) (operation part.now j)
+    ensures { result ≡ step (charts_of charts.now) (record { place = p; set = set }) (operation part.now j)
         (record { 0 = to part.now j }) }
 {
-    let heads = Heads { edition, old, new };
     let h = Spot { place: p, set };
-    arrived(
-        heads,
-        old_rows,
-        new_rows,
-        index,
-        new_to(part, j),
-        moved(heads, old_rows, new_rows, index, h, part, j),
-    )
+    arrived(charts, new_to(part, j), moved(charts, h, part, j))
 }

@@ -2,7 +2,6 @@
 use mathlib.Core.Path.{◌≡◌, sym, ap, subst, ◌∙◌}
 use Rattle.align.proofs.Moves.{onward-ends, onward_by}
 use Rattle.align.specs.Steps.{along}
-use Rattle.base.specs.inner.Found.{told_found}
 use Rattle.align.proofs.Seek.{found_inside}
 use Rattle.chart.proofs.Parts.{part_right, later-row}
 use Rattle.operations.specs.Operations.{is_assignment, operands_fit}
@@ -13,21 +12,21 @@ use mathlib.Core.List.{List}
 use Prim.Native.Nat.{ℕ, ◌<◌}
 use Rattle.align.proofs.inner.follow.onward.Goals as goal
 
-pub returns-then-is : goal.returns-then-is
-returns-then-is c = onward-ends _ _ (sym c.is.ensures ∙ c.if-is.true)
+pub returns-then-eq : goal.returns-then-eq
+returns-then-eq c = onward-ends _ _ (sym c.eq.ensures ∙ c.if-eq.true)
 
-pub rows_of-rows-requires : goal.rows_of-rows-requires
-rows_of-rows-requires c = record { indexed = c.requires.prepared.indexed; ascending = (ascends _ c.requires.prepared.old-faultless, c.requires.place_bound) }
+pub old_part-rows-requires : goal.old_part-rows-requires
+old_part-rows-requires c = c.requires
 
 pub assignment-requires : goal.assignment-requires
-assignment-requires c = subst (λ (rows : List ℕ). (k : ℕ) → 0 < k → k < size rows → is_assignment (operation rows k) ≡ false) (sym c.rows_of-rows.ensures) (λ k z l. later-row _ _ k c.requires.prepared.old-faultless z l)
+assignment-requires c = subst (λ (rows : List ℕ). (k : ℕ) → 0 < k → k < size rows → is_assignment (operation rows k) ≡ false) (sym c.old_part-rows.ensures) (λ k z l. later-row _ _ k c.args.charts.now.prepared.old-faultless z l)
 
 pub along-requires : goal.along-requires
-along-requires c = let l = found_inside _ _ _ (sym (ap told_found c.in-At.is) ∙ c.assignment.ensures) in let e = c.rows_of-rows.ensures in (l, subst (λ (rows : List ℕ). operands_fit (operation rows c.in-At.k) ≡ true) (sym e) (part_right _ _ _ c.requires.prepared.old-faultless (subst (λ (rows : List ℕ). c.in-At.k < size rows) e l)).1)
+along-requires c = let l = found_inside _ _ _ (sym c.in_ok-k.was ∙ c.assignment.ensures) in let e = c.old_part-rows.ensures in (l, subst (λ (rows : List ℕ). operands_fit (operation rows c.in_ok-k.k) ≡ true) (sym e) (part_right _ _ _ c.args.charts.now.prepared.old-faultless (subst (λ (rows : List ℕ). c.in_ok-k.k < size rows) e l)).1)
 
-pub returns-in-At : goal.returns-in-At
-returns-in-At c = onward_by _ _ (sym c.is.ensures ∙ c.if-is.false) c.rows_of-rows.ensures c.assignment.ensures (c.along.ensures ∙ ap (along _ _) (sym (ap told_found c.in-At.is)))
-
-pub returns-in-Nothing : goal.returns-in-Nothing
+pub returns-in_err-k : goal.returns-in_err-k
 unfolding along
-returns-in-Nothing c = onward_by _ _ (sym c.is.ensures ∙ c.if-is.false) c.rows_of-rows.ensures c.assignment.ensures (ap (along _ _) (sym (ap told_found c.in-Nothing.is)))
+returns-in_err-k c = rw c.from_residual.ensures (onward_by _ _ (sym c.eq.ensures ∙ c.if-eq.false) c.old_part-rows.ensures c.assignment.ensures (ap (along _ _) (sym c.in_err-k.was)))
+
+pub returns : goal.returns
+returns c = onward_by _ _ (sym c.eq.ensures ∙ c.if-eq.false) c.old_part-rows.ensures c.assignment.ensures (c.along.ensures ∙ ap (along _ _) (sym c.in_ok-k.was))

@@ -1,9 +1,7 @@
--- `align::inner::step::fair` meets its contract: test by test. Assumes nothing.
-use mathlib.Core.Path.{sym, ◌∙◌}
+-- `align::inner::step::fair` meets its contract: from both tests. Assumes nothing.
+use mathlib.Core.Path.{ap₂}
+use Rattle.std.specs.Prelude.{◌||◌}
 use Rattle.align.proofs.inner.step.fair.Goals as goal
 
-pub returns-then-not-is : goal.returns-then-not-is
-returns-then-not-is c = rw (sym c.is.ensures ∙ c.if-not-is.true)
-
 pub returns : goal.returns
-returns c = rw (sym c.is.ensures ∙ c.if-not-is.false) c.is-2.ensures
+returns c = ap₂ (λ a b. a || b) c.ne.ensures c.eq.ensures

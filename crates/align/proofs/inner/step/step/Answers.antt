@@ -6,7 +6,7 @@ use Rattle.align.specs.Steps.{arrived, step}
 use Rattle.align.proofs.inner.step.step.Goals as goal
 
 pub arrived-requires : goal.arrived-requires
-arrived-requires c = record { prepared = c.requires.prepared; place_bound = λ h e. on_at _ (moved-below _ c.requires.prepared.old-faultless _ _ c.requires.p_bound) (sym c.moved.ensures ∙ e) }
+arrived-requires c = λ h e. on_at _ (moved-below _ c.args.charts.now.prepared.old-faultless _ _ c.requires.p_bound) (sym c.moved.ensures ∙ e)
 
 pub returns : goal.returns
 unfolding step

@@ -4,7 +4,6 @@ use mathlib.Core.Path.{◌≡◌, sym, ap, subst, ◌∙◌}
 use mathlib.Core.Bool.{false}
 use mathlib.Core.List.{List}
 use Prim.Native.Nat.{ℕ, ◌<◌}
-use Rattle.base.specs.inner.Found.{told_found}
 use Rattle.operations.specs.Operations.{is_assignment}
 use Rattle.chart.specs.Charts.{size, operation}
 use Rattle.chart.proofs.Parts.{later-row}
@@ -14,22 +13,22 @@ use Rattle.align.proofs.Seek.{found_inside}
 use borrow.Author.Tests.{eq-eqb, ne_eqb}
 use Rattle.align.proofs.inner.step.unequal.Goals as goal
 
-pub returns-then-heads-ne2 : goal.returns-then-heads-ne2
-returns-then-heads-ne2 c = unequal-first _ _ _ c.with-set.ensures (ne_eqb _ 2 c.if-heads-ne2.true)
+pub returns-then-charts-ne2 : goal.returns-then-charts-ne2
+returns-then-charts-ne2 c = unequal-first _ _ _ c.with-set.ensures (ne_eqb _ 2 c.if-charts-ne2.true)
 
-pub rows_of-rows-requires : goal.rows_of-rows-requires
-rows_of-rows-requires c = record { indexed = c.requires.prepared.indexed; ascending = (ascends _ c.requires.prepared.old-faultless, c.requires.place_bound) }
+pub old_part-rows-requires : goal.old_part-rows-requires
+old_part-rows-requires c = c.requires.place_bound
 
 pub writing-requires : goal.writing-requires
 writing-requires c =
-    subst (λ (rows : List ℕ). (k : ℕ) → 0 < k → k < size rows → is_assignment (operation rows k) ≡ false) (sym c.rows_of-rows.ensures)
-    (λ k z l. later-row _ _ k c.requires.prepared.old-faultless z l)
+    subst (λ (rows : List ℕ). (k : ℕ) → 0 < k → k < size rows → is_assignment (operation rows k) ≡ false) (sym c.old_part-rows.ensures)
+    (λ k z l. later-row _ _ k c.args.charts.now.prepared.old-faultless z l)
 
 pub old_to-requires : goal.old_to-requires
-old_to-requires c = found_inside _ _ _ (sym (ap told_found c.in-At.is) ∙ c.writing.ensures)
+old_to-requires c = found_inside _ _ _ (sym c.in-Some.is ∙ c.writing.ensures)
 
-pub returns-in-At : goal.returns-in-At
-returns-in-At c = unequal-both _ _ _ c.with-set.ensures (eq-eqb _ 2 c.if-heads-ne2.false) c.rows_of-rows.ensures c.writing.ensures (ap told_found c.in-At.is) c.old_to.ensures
+pub returns-in-Some : goal.returns-in-Some
+returns-in-Some c = unequal-both _ _ _ c.with-set.ensures (eq-eqb _ 2 c.if-charts-ne2.false) c.old_part-rows.ensures c.writing.ensures c.in-Some.is c.old_to.ensures
 
-pub returns-in-Nothing : goal.returns-in-Nothing
-returns-in-Nothing c = unequal-alone _ _ _ c.with-set.ensures (eq-eqb _ 2 c.if-heads-ne2.false) c.rows_of-rows.ensures c.writing.ensures (ap told_found c.in-Nothing.is)
+pub returns-in-None : goal.returns-in-None
+returns-in-None c = unequal-alone _ _ _ c.with-set.ensures (eq-eqb _ 2 c.if-charts-ne2.false) c.old_part-rows.ensures c.writing.ensures c.in-None.is
