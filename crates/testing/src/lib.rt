@@ -8,10 +8,9 @@ ghost use Rattle.chart.specs.Charts.{charted};
 ghost use Rattle.chart.specs.Faults.{refusal};
 ghost use Rattle.testing.specs.Numbers.{operation, implication_number, bit, fault_number, fault_position, written_number, met_number};
 
-use chart::charts::{Head, Judged};
+use chart::charts::Head;
 use operations::Operation;
 use operations::assumptions::Implication;
-use operations::values::{Met, Written};
 
 // 0 never, 1 implied, 2 not implied.
 #[unsafe(no_mangle)]
@@ -62,11 +61,7 @@ pub extern "C" fn testing_exactly_one(
         b: b2,
         c: c2,
     };
-    if operations::assumptions::exactly_one(f, g) {
-        1
-    } else {
-        0
-    }
+    u32::from(operations::assumptions::exactly_one(f, g))
 }
 
 // The number of a chart's refusal, 0 where there is none.
@@ -76,8 +71,8 @@ pub extern "C" fn testing_fault(places: u32, alarm: u32, rows: &[u32]) -> u32
         ≡ fault_number (refusal (charted (record { places = places; alarm = alarm }) rows.now)) }
 {
     match chart::judge(Head { places, alarm }, rows) {
-        Judged::Faultless => 0,
-        Judged::Refused(r) => r.number,
+        Ok(()) => 0,
+        Err(r) => r.number,
     }
 }
 
@@ -88,8 +83,8 @@ pub extern "C" fn testing_fault_position(places: u32, alarm: u32, rows: &[u32]) 
         ≡ fault_position (refusal (charted (record { places = places; alarm = alarm }) rows.now)) }
 {
     match chart::judge(Head { places, alarm }, rows) {
-        Judged::Faultless => 0,
-        Judged::Refused(r) => r.position,
+        Ok(()) => 0,
+        Err(r) => r.position,
     }
 }
 
@@ -99,8 +94,8 @@ pub extern "C" fn testing_written(code: u32, a: u32, b: u32, c: u32, values: &[u
     ensures { result ≡ written_number (written_by (operation code a b c) values.now) }
 {
     match operations::values::value_written(Operation { code, a, b, c }, values) {
-        Written::Value(x) => x as u64,
-        Written::Refused(r) => 4294967296 + r.number as u64,
+        Ok(x) => x as u64,
+        Err(r) => 4294967296 + r.number as u64,
     }
 }
 
@@ -110,8 +105,7 @@ pub extern "C" fn testing_meets(code: u32, a: u32, b: u32, c: u32, values: &[u32
     ensures { result ≡ met_number (met_by (operation code a b c) values.now) }
 {
     match operations::values::meets(Operation { code, a, b, c }, values) {
-        Met::Yes => 1,
-        Met::No => 0,
-        Met::Refused(r) => 4294967296 + r.number as u64,
+        Ok(met) => u64::from(met),
+        Err(r) => 4294967296 + r.number as u64,
     }
 }

@@ -1,0 +1,2 @@
+-- Laws of the numbers that the tests are told.
+pub mod Bits
