@@ -3,7 +3,7 @@ use mathlib.Core.Path.{◌≡◌, refl, sym, ap, ap₂, subst, ◌∙◌}
 use mathlib.Core.Bool.{Bool, true, false, cond, ◌&&◌, ◌||◌, not}
 use mathlib.Core.List.{List}
 use Rattle.std.specs.Prelude.{Option, None, Some}
-use Prim.Native.Nat.{ℕ, zero, suc, ◌+◌, ◌-◌, ◌≤◌, ◌<◌}
+use Prim.Native.Nat.{ℕ, zero, suc, ◌-◌, ◌≤◌, ◌<◌}
 use native.Mathlib.Decide.{ℕ_discrete}
 use native.Mathlib.Omega.{arith}
 use mathlib.Core.Logic.{dite}
@@ -13,7 +13,6 @@ use Rattle.base.specs.Options.{when, or_else, first_of}
 use Rattle.base.specs.declared.Refusal.{Refusal}
 use Rattle.base.specs.Refusals.{due_in}
 use Rattle.base.proofs.OnSome.{OnSome, when_on, first_on}
-use Rattle.base.proofs.Options.{first_at_lem, none_at}
 use Rattle.base.proofs.Tests.{and_true, NoneSince, none_here, none_left}
 use Rattle.operations.specs.declared.Operation.{Operation}
 use Rattle.operations.specs.Operations.{is_known, is_assumption, operands_fit}
@@ -42,14 +41,6 @@ module _ (t : List ℕ) (i : ℕ) where
 pub found_below : (p : ℕ → Bool) (n i : ℕ) → Some i ≡ first_of n (λ i. when (p i) i) → i < n
 found_below p n i e =
     subst (OnSome (λ (j : ℕ). j < n)) (sym e) (first_on (λ j. j < n) n (λ i. when (p i) i) (λ j l. when_on (λ j. j < n) (p j) j l))
-
--- the loop that looks for it
-module _ (p : ℕ → Bool) (i : ℕ) (e : first_of i (λ i. when (p i) i) ≡ None) {r : Bool} (h : r ≡ p i) where
-  pub found_here : {n : ℕ} → i < n → r ≡ true → Some i ≡ first_of n (λ i. when (p i) i)
-  found_here {n} l t = let q : p i ≡ true = sym h ∙ t in sym (first_at_lem (λ i. when (p i) i) n i l e (rw q) ∙ rw q)
-
-  pub not_here : r ≡ false → first_of (i + 1) (λ i. when (p i) i) ≡ None
-  not_here t = none_at (λ i. when (p i) i) i e (rw (sym h ∙ t))
 
 -- values that are there where a test passes: the first is at the first index that passes
 module _ {A : Type 0} (x : ℕ → A) where

@@ -10,5 +10,6 @@ pub mod Reach
 pub mod Bounds
 pub mod Starts
 pub mod Words
+pub mod Found
 pub mod Takable
 pub mod Possible

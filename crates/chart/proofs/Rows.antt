@@ -1,16 +1,20 @@
 -- In a table by ascending "from" the rows that leave a place stand together, between two lower bounds. Assumes nothing.
 use mathlib.Core.Path.{◌≡◌, refl, sym, ap, ◌∙◌}
-use mathlib.Core.Bool.{cond}
+use mathlib.Core.Bool.{Bool, true, false, cond}
 use mathlib.Core.List.{List, [], ◌++◌, append_assoc, append-nil}
 use mathlib.Core.Logic.{dite}
 use Prim.Native.Nat.{ℕ, zero, suc, ◌+◌, ◌-◌, ◌*◌, ◌≤◌, ◌<◌}
 use native.Mathlib.Nat.{add-suc, add-zero, add-mul, suc-mul, add-sub_of_le, zero-add}
-use native.Mathlib.Decide.{dec_le, ℕ_discrete}
+use native.Mathlib.Decide.{dec_le, dec_lt, ℕ_discrete}
 use native.Mathlib.Omega.{arith}
-use borrow.Author.Tests.{eq-eqb, ne_eqb}
-use lib.Dec.{eqb}
+use borrow.Author.Tests.{eq-eqb, ne_eqb, lt-ltb, ltb-true, ltb-false}
+use lib.Dec.{eqb, ltb}
 use lib.ListN.{length, get_or, set, take, drop, length-set, length-take, length-drop}
-use lib.Seq.{take-add, drop-drop, get_or-set_same, get_or-set_other}
+use lib.Seq.{take-add, drop-drop, get_or-take, get_or-drop, get_or-set_same, get_or-set_other}
+use Rattle.std.specs.Prelude.{Option, None, Some, MatchOption}
+use Rattle.std.specs.Option.{unwrap_or}
+use Rattle.std.specs.Simd.{first_chunks}
+use Rattle.std.specs.List.Sorted.{IsPartitionedBy, IsPartitionPoint}
 use Rattle.chart.specs.Charts.{size, from, rows_where, leaving_of, leaving}
 use Rattle.chart.specs.inner.Ascending.{Ascending}
 use Rattle.chart.specs.inner.Index.{Lower, Indexable, End, Ends, last_of, Carried, Indexed}
@@ -67,64 +71,58 @@ part_inside t l first end o b e =
     let z : length (take (end * 6 - first * 6) (drop (first * 6) t)) ≤ length t - first * 6 = simp (length-take, length-drop) (omega arith) in
     omega (arith, ap length e)
 
--- ---- the loops that look for the two bounds
--- halving: every row before low leaves a lower place, every row from high on does not
-pub record Between (t : List ℕ) (p low high : ℕ) : Type 0 where
-  pub ordered : low ≤ high
-  pub inside : high ≤ size t
-  pub below : (k : ℕ) → k < low → from t k < p
-  pub reached : (k : ℕ) → high ≤ k → k < size t → p ≤ from t k
+-- ---- the searches for the two bounds
+-- a table as its rows: row i begins with what it leaves
+row_first : (t : List ℕ) (n i : ℕ) (d : List ℕ) → i < n → get_or (get_or (first_chunks 6 n t) i d) 0 0 ≡ from t i
+row_first t zero i d l = absurd (omega arith)
+row_first t (suc n) zero d l = get_or-take 6 t 0 0 (omega arith)
+row_first t (suc n) (suc i) d l = row_first (drop 6 t) n i d (omega arith) ∙ get_or-drop 6 t (i * 6) 0 ∙ ap (λ (k : ℕ). get_or t k 0) (omega arith)
 
--- counting up: every row before i leaves p or a lower place
-pub record Past (t : List ℕ) (p first i : ℕ) : Type 0 where
-  pub from_first : first ≤ i
-  pub inside : i ≤ size t
-  pub below : (k : ℕ) → k < i → from t k < p + 1
+row_count : (t : List ℕ) (n : ℕ) → length (first_chunks 6 n t) ≡ n
+row_count t zero = refl
+row_count t (suc n) = ap (λ (k : ℕ). suc k) (row_count (drop 6 t) n)
 
 module _ (t : List ℕ) (p : ℕ) (s : Ascending t) where
-  pub all_between : Between t p 0 (size t)
-  all_between = record { ordered = omega arith; inside = omega arith; below = λ k l. absurd (omega arith); reached = λ k l u. absurd (omega arith) }
+  abbrev each : List (List ℕ)
+  each = first_chunks 6 (size t) t
 
-  -- row m leaves a lower place, so do all before it
-  pub upper_half : {low high : ℕ} (m : ℕ) → Between t p low high → m < high → from t m < p → Between t p (m + 1) high
-  upper_half m b l h =
+  -- whether a row leaves a lower place
+  abbrev pub is_lower : List ℕ → Bool
+  is_lower r = ltb (get_or r 0 0) p
+
+  lower_at : (i : ℕ) (d : List ℕ) → i < size t → is_lower (get_or each i d) ≡ ltb (from t i) p
+  lower_at i d l = ap (λ (f : ℕ). ltb f p) (row_first t (size t) i d l)
+
+  pub parted : IsPartitionedBy is_lower each
+  parted i j d l u e =
+      let n = row_count t (size t) in
+      let h = ltb-true _ _ (sym (lower_at j d (omega arith)) ∙ e) in
+      let o = s.order i j l (omega arith) in
+      lower_at i d (omega arith) ∙ lt-ltb _ _ (omega arith)
+
+  pub lower_parted : {r : ℕ} → r ≤ length each → IsPartitionPoint (λ y. is_lower y ≡ true) (λ y. is_lower y ≡ false) each r → Lower t p r
+  lower_parted l (b, a) =
+      let n = row_count t (size t) in
       record {
-        ordered = omega arith;
-        inside = b.inside;
-        below = λ k u. (let g = s.order k m (omega arith) (omega (arith, b.inside)) in omega arith);
-        reached = b.reached;
+        inside = omega arith;
+        below = λ k u. ltb-true _ _ (sym (lower_at k [] (omega arith)) ∙ b k [] (omega arith) u);
+        reached = λ u. ltb-false _ _ (sym (lower_at _ [] u) ∙ a _ [] (omega arith) (omega arith));
       }
 
-  -- row m does not leave a lower place, nor does any after it
-  pub lower_half : {low high : ℕ} (m : ℕ) → Between t p low high → low ≤ m → m < high → p ≤ from t m → Between t p low m
-  lower_half m b l u h =
+  below : {first i : ℕ} → Lower t p first → ((k : ℕ) → first ≤ k → k < i → from t k ≡ p) → (k : ℕ) → k < i → from t k < p + 1
+  below {first} l h k u = dite (dec_lt k first) (λ v. let b = l.below k v in omega arith) (λ v. let b = h k (omega arith) u in omega arith)
+
+  -- the first row from there on that leaves another place, or the count of rows
+  pub past_found : {first : ℕ} → Lower t p first → (r : Option ℕ)
+      → MatchOption r ((k : ℕ) → first ≤ k → k < size t → from t k ≡ p)
+      (λ i. (first ≤ i) × (i < size t) × (from t i ≡ p → ⊥) × ((k : ℕ) → first ≤ k → k < i → from t k ≡ p))
+      → Lower t (p + 1) (unwrap_or r (size t))
+  past_found l None h = record { inside = omega arith; below = below l h; reached = λ u. absurd (omega arith) }
+  past_found {first} l (Some i) (f, u, n, h) =
       record {
-        ordered = l;
-        inside = omega (arith, b.inside);
-        below = b.below;
-        reached = λ k l u. (let g = s.order m k l u in omega arith);
-      }
-
-  pub met : {low high : ℕ} → Between t p low high → high ≤ low → Lower t p low
-  met b h =
-      record {
-        inside = omega (arith, b.ordered, b.inside);
-        below = b.below;
-        reached = λ u. b.reached _ h u;
-      }
-
-  pub past_none : {first : ℕ} → Lower t p first → Past t p first first
-  past_none l = record { from_first = omega arith; inside = l.inside; below = λ k u. (let h = l.below k u in omega arith) }
-
-  pub past_more : {first i : ℕ} → Past t p first i → i < size t → from t i ≡ p → Past t p first (i + 1)
-  past_more {first} {i} b l e = record { from_first = omega (arith, b.from_first); inside = omega arith; below = λ k u. (let h = s.order k i (omega arith) l in omega arith) }
-
-  pub past_ends : {first i : ℕ} → Lower t p first → Past t p first i → (i < size t → from t i ≡ p → ⊥) → Lower t (p + 1) i
-  past_ends {first} {i} l b h =
-      record {
-        inside = b.inside;
-        below = b.below;
-        reached = λ u. (let g = s.order first i b.from_first u in let r = l.reached (omega (arith, b.from_first)) in let n = h u in omega arith);
+        inside = omega arith;
+        below = below l h;
+        reached = λ u. (let g = s.order first i f u in let r = l.reached (omega arith) in omega arith);
       }
 
 -- ---- the loop that makes the index

@@ -1,5 +1,5 @@
 -- `chart::open_to` meets its contract: a chart that is judged faultless, and the place. Assumes nothing.
-use mathlib.Core.Path.{sym, ap, ◌∙◌}
+use mathlib.Core.Path.{ap, ◌∙◌}
 use Rattle.std.specs.Prelude.{◌&&◌, ltb}
 use Rattle.base.proofs.Answers.{ok-missing}
 use Rattle.chart.specs.Lookup.{open_to}

@@ -82,15 +82,7 @@ pub fn first_faulty(head: Head, rows: &[u32]) -> Option<usize>
     ensures { result
         ≡ first_of (size rows.now) (λ i. when (faulty (charted head rows.now) i) i) }
 {
-    let n = rows.len() / 6;
-    let mut i = 0;
-    while i < n {
-        if faulty(head, rows, i) {
-            return Some(i);
-        }
-        i += 1;
-    }
-    None
+    (0..rows.len() / 6).find(|&i| faulty(head, rows, i))
 }
 
 // Whether two operations are assumptions of which exactly one holds.
@@ -110,9 +102,7 @@ fn in_conflict(rows: &[u32], i: usize) -> bool
     requires ascending { Ascending rows.now }
     ensures { result ≡ conflicts rows.now i }
 {
-    let mut j = i;
-    while 0 < j {
-        j -= 1;
+    for j in (0..i).rev() {
         if from_at(rows, j) != from_at(rows, i) {
             return false;
         }
@@ -168,13 +158,5 @@ pub fn first_conflict(rows: &[u32]) -> Option<usize>
     ensures { result
         ≡ first_of (size rows.now) (λ i. when (conflicts rows.now i) i) }
 {
-    let n = rows.len() / 6;
-    let mut i = 0;
-    while i < n {
-        if conflicts(rows, i) {
-            return Some(i);
-        }
-        i += 1;
-    }
-    None
+    (0..rows.len() / 6).find(|&i| conflicts(rows, i))
 }

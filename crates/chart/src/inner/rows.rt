@@ -75,10 +75,8 @@ pub fn some_never(rows: &[u32]) -> bool
 {
     let n = rows.len() / 6;
     let mut some = false;
-    let mut i = 0;
-    while i < n {
+    for i in 0..n {
         some = some | never_holds(operation_at(rows, i));
-        i += 1;
     }
     some
 }
@@ -122,17 +120,8 @@ fn lower(rows: &[u32], place: u32) -> usize
     requires { Ascending rows.now }
     ensures { Lower rows.now place result }
 {
-    let mut low = 0;
-    let mut high = rows.len() / 6;
-    while low < high {
-        let middle = low + (high - low) / 2;
-        if from_at(rows, middle) < place {
-            low = middle + 1;
-        } else {
-            high = middle;
-        }
-    }
-    low
+    let (each, _) = rows.as_chunks::<6>();
+    each.partition_point(|row| row[0] < place)
 }
 
 // The first row from `first` on that does not leave the place.
@@ -142,14 +131,7 @@ fn past(rows: &[u32], place: u32, first: usize) -> usize
     ensures { Lower rows.now (place + 1) result }
 {
     let n = rows.len() / 6;
-    let mut i = first;
-    while i < n {
-        if from_at(rows, i) != place {
-            return i;
-        }
-        i += 1;
-    }
-    i
+    (first..n).find(|&i| from_at(rows, i) != place).unwrap_or(n)
 }
 
 // The rows from `first` up to `end`, as a part of the table.
@@ -177,16 +159,11 @@ pub fn rows_in(rows: &[u32], place: u32) -> &[u32]
 // place wins.
 fn ends(entries: &mut [u8; 130], at: usize, rows: &[u32])
     requires indexable { Indexable rows.now × (at ≤ 65) }
-    requires entries_len { (length entries.old ≡ 130) × ((p : ℕ) → p ≤ 64 → get_or entries.old (at + p) 0 ≡ 0) }
-    ensures { Ends rows.now (size rows.now) at
-        entries.old entries.new }
+    requires blank { (p : ℕ) → p ≤ 64 → get_or entries.old (at + p) 0 ≡ 0 }
+    ensures { Ends rows.now (size rows.now) at entries.old entries.new }
 {
-    let n = rows.len() / 6;
-    let mut i = 0;
-    while i < n {
-        let e = at + from_at(rows, i) as usize + 1;
-        i += 1;
-        entries[e] = i as u8;
+    for i in 0..rows.len() / 6 {
+        entries[at + from_at(rows, i) as usize + 1] = (i + 1) as u8;
     }
 }
 
@@ -199,16 +176,13 @@ fn later(last: u8, entry: u8) -> u8
 
 // A place without rows ends where the one before it ends.
 fn carry(entries: &mut [u8; 130], at: usize)
-    requires { (length entries.old ≡ 130) × (at ≤ 65) }
+    requires { at ≤ 65 }
     ensures { Carried entries.old at 65 entries.new }
 {
     let mut last: u8 = 0;
-    let mut p = 0;
-    while p < 65 {
-        let e = at + p;
-        last = later(last, entries[e]);
-        entries[e] = last;
-        p += 1;
+    for p in 0..65 {
+        last = later(last, entries[at + p]);
+        entries[at + p] = last;
     }
 }
 

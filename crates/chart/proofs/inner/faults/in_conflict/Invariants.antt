@@ -5,6 +5,3 @@ use Rattle.chart.proofs.inner.faults.in_conflict.Given as goal
 
 abbrev pub invariant-loop-j : goal.invariant-loop-j
 invariant-loop-j l = NoneSince (clash l.rows l.i) l.i l.j
-
-abbrev pub decreases-loop-j : goal.decreases-loop-j
-decreases-loop-j l = l.j

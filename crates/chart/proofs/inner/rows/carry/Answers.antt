@@ -7,10 +7,13 @@ use Rattle.chart.proofs.inner.rows.carry.Goals as goal
 
 pub loop-p-init : goal.loop-p-init
 unfolding last_of
-loop-p-init c = (carried_none _ _ c.requires.0, refl, omega arith)
+loop-p-init c = (carried_none _ _ c.told-entries, refl)
 
 pub loop-p-preserved : goal.loop-p-preserved
-loop-p-preserved c = let I = c.loop-p.invariant in let q = last_more _ _ _ _ I.0 I.1 c.later-last.ensures in (carried_more _ _ _ _ I.0 q (omega arith), q, omega arith)
+loop-p-preserved c =
+    let I = c.loop-p.invariant in
+    let q = last_more _ _ _ _ I.0 I.1 c.later-last.ensures in
+    (carried_more _ _ _ _ I.0 q (omega arith), q)
 
 pub returns : goal.returns
 returns c = let e : c.loop-p.p ≡ 65 = omega arith in rw e at c.loop-p.invariant.0

@@ -6,13 +6,10 @@ use native.Mathlib.Omega.{arith}
 use Rattle.chart.proofs.inner.rows.ends.Goals as goal
 
 pub loop-i-init : goal.loop-i-init
-loop-i-init c = (ends-none _ _ _ c.requires.entries_len.0 c.requires.entries_len.1, omega arith)
-
-pub bounds-entries-e : goal.bounds-entries-e
-bounds-entries-e c = omega (arith, c.from_at.ensures, c.requires.indexable.0.few_places c.loop-i.i c.loop-i-test.true)
+loop-i-init c = ends-none _ _ _ c.told-entries c.requires.blank
 
 pub loop-i-preserved : goal.loop-i-preserved
-loop-i-preserved c = (rw c.from_at.ensures (ends_more _ _ _ _ _ c.loop-i.invariant.0 (c.requires.indexable.0.few_places _ c.loop-i-test.true) c.requires.indexable.1), omega arith)
+loop-i-preserved c = rw c.from_at.ensures (ends_more _ _ _ _ _ c.loop-i.invariant (c.requires.indexable.0.few_places _ c.loop-i-test.true) c.requires.indexable.1)
 
 pub returns : goal.returns
-returns c = let e : c.loop-i.i ≡ size c.args.rows.now = omega arith in rw (← e) c.loop-i.invariant.0
+returns c = let e : c.loop-i.i ≡ size c.args.rows.now = omega arith in rw (← e) c.loop-i.invariant

@@ -1,5 +1,5 @@
 -- `chart::inner::rows::index` meets its contract: both tables' ends are stored, and carried to the places without rows. Assumes nothing.
-use mathlib.Core.Path.{refl, ◌∙◌}
+use mathlib.Core.Path.{◌∙◌}
 use Prim.Native.Nat.{◌+◌}
 use lib.ListN.{get_or-replicate}
 use Rattle.chart.proofs.Rows.{indexed}
@@ -7,16 +7,10 @@ use native.Mathlib.Omega.{arith}
 use Rattle.chart.proofs.inner.rows.index.Goals as goal
 
 pub ends-requires : goal.ends-requires
-ends-requires c = record { indexable = (c.requires.indexable, omega arith); entries_len = (refl, λ p u. get_or-replicate 130 (0 + p) 0 0 (omega arith)) }
+ends-requires c = record { indexable = (c.requires.indexable, omega arith); blank = λ p u. get_or-replicate 130 (0 + p) 0 0 (omega arith) }
 
 pub ends-requires-2 : goal.ends-requires-2
-ends-requires-2 c = record { indexable = (c.requires.indexable_2, omega arith); entries_len = (c.ends.ensures.long, λ p u. c.ends.ensures.above (65 + p) (omega arith) ∙ get_or-replicate 130 (65 + p) 0 0 (omega arith)) }
-
-pub carry-requires : goal.carry-requires
-carry-requires c = (c.ends-2.ensures.long, omega arith)
-
-pub carry-requires-2 : goal.carry-requires-2
-carry-requires-2 c = (c.carry.ensures.long, omega arith)
+ends-requires-2 c = record { indexable = (c.requires.indexable_2, omega arith); blank = λ p u. c.ends.ensures.above (65 + p) (omega arith) ∙ get_or-replicate 130 (65 + p) 0 0 (omega arith) }
 
 pub returns : goal.returns
 returns c = indexed _ _ c.requires.indexable c.requires.indexable_2 c.ends.ensures c.ends-2.ensures c.carry.ensures c.carry-2.ensures
