@@ -52,9 +52,9 @@ module _ (alarm : ℕ) (m s : List ℕ) (n v : ℕ) {b h : Bool} (e : b ≡ mark
     held_join w a t = graph-eq a refl held_set (rw held_due)
 
   -- else it is to wait unless its old place p is the old alarm
-  pub due-is : {p : OldPlace} {a : Bool} → b && h ≡ false → p ≡ old_of n → a ≡ eqb p.0 alarm → not a ≡ due alarm m s n v
+  pub due-is : {p : OldPlace} {a : Bool} → b && h ≡ false → p ≡ old_of n → a ≡ not (eqb p.0 alarm) → a ≡ due alarm m s n v
   unfolding due
-  due-is {p} {a} q o k = rw (sym e, sym f, sym (k ∙ ap (λ (x : OldPlace). eqb x.0 alarm) o)) (go a b h q)
+  due-is q o k = k ∙ ap (λ (x : OldPlace). not (eqb x.0 alarm)) o ∙ rw (sym e, sym f) (go (eqb (old_of n).0 alarm) b h q)
     where
       go : (a b h : Bool) → b && h ≡ false → not a ≡ not a && (not b || not h)
       go true b h q = refl

@@ -131,7 +131,7 @@ pub fn join(
     }
     members::add(seen, n);
     gain(sets, n, v);
-    if !old_of(n).is(alarm) {
+    if old_of(n) != alarm {
         waiting[n] = 1;
         members::list(waits, n);
     }

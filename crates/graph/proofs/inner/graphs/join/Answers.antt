@@ -13,16 +13,16 @@ returns-then-there-holds_all c = let A = c.args in
     let seen = held_seen A.alarm.0 A.marks.now A.sets.now A.n A.v b h c.if-there-holds_all.true A.seen.now (omega (arith, l)) c.requires.member in
     record { waits_after = (search held_listed, seen); by_index = search held_join }
 
-pub returns-then-not-is : goal.returns-then-not-is
-returns-then-not-is c = let d =
+pub returns-then-ne : goal.returns-then-ne
+returns-then-ne c = let d =
     let A = c.args in
-    due-is A.alarm.0 A.marks.now A.sets.now A.n A.v c.is_marked-there.ensures c.holds_all.ensures c.if-there-holds_all.false c.old_of.ensures c.is.ensures
+    due-is A.alarm.0 A.marks.now A.sets.now A.n A.v c.is_marked-there.ensures c.holds_all.ensures c.if-there-holds_all.false c.old_of.ensures c.ne.ensures
     in
     record { waits_after = (search listed_yes, search rules); by_index = search join_yes }
 
-pub returns-else-not-is : goal.returns-else-not-is
-returns-else-not-is c = let d =
+pub returns-else-ne : goal.returns-else-ne
+returns-else-ne c = let d =
     let A = c.args in
-    due-is A.alarm.0 A.marks.now A.sets.now A.n A.v c.is_marked-there.ensures c.holds_all.ensures c.if-there-holds_all.false c.old_of.ensures c.is.ensures
+    due-is A.alarm.0 A.marks.now A.sets.now A.n A.v c.is_marked-there.ensures c.holds_all.ensures c.if-there-holds_all.false c.old_of.ensures c.ne.ensures
     in
     record { waits_after = (search listed_no, search rules); by_index = search join_no }
