@@ -1,7 +1,7 @@
 -- The loop of a build's turns, in the form in which the code meets it. Assumes nothing.
 use mathlib.Core.Path.{◌≡◌, refl, sym, ap, ◌∙◌}
 use mathlib.Core.List.{List}
-use Rattle.std.specs.Prelude.{Some}
+use Rattle.std.specs.Prelude.{Option, None, Some}
 use Prim.Native.Nat.{ℕ, ◌^◌, ◌<◌}
 use native.Mathlib.Omega.{arith}
 use lib.ListN.{length, set, replicate}
@@ -11,9 +11,6 @@ use Rattle.base.proofs.Walks.{same_at, zeros_at}
 use Rattle.chart.specs.declared.charts.Heads.{Heads}
 use Rattle.chart.specs.Compared.{Compared, heads_of}
 use Rattle.chart.specs.Faultless.{FaultlessChart}
-use Rattle.base.specs.declared.Found.{Found}
-use Rattle.base.specs.declared.Found.TheVariants as founds
-use Rattle.base.specs.inner.Found.{told_found}
 use Rattle.chart.specs.Places.{start_pair}
 use Rattle.records.specs.Records.{index}
 use Rattle.words.specs.inner.Words.{Member, added, listed}
@@ -21,7 +18,6 @@ use Rattle.words.proofs.Words.{length-added, added-here, length-listed, listed_h
 use Rattle.graph.specs.Buffers.{Buffers, buffers}
 use Rattle.graph.specs.inner.Sized.{Sized}
 use Rattle.graph.specs.inner.Tracks.{Covers, Lists, Tracks}
-use Rattle.chart.proofs.Starts.{first_pair}
 use Rattle.detector.specs.Turns.{lowest, next, begun, taken, explored}
 use Rattle.graph.proofs.Graphs.{Shaped}
 use Rattle.graph.proofs.Parts.{graph-eq}
@@ -29,17 +25,12 @@ use Rattle.detector.proofs.Turns.{next-waits}
 use Rattle.detector.proofs.Measure.{weight, turns, begun-shaped, begun_weight}
 
 -- four buffers that were filled, and two that were then written, are a graph that has begun
-pub begun-is : (heads : Heads) {m t s w m₁ m₂ t₁ s₁ w₁ w₂ : List ℕ} {first : ℕ} → Sized (buffers m t s w) → first ≡ start_pair heads
-    → m₁ ≡ replicate (length m) 0 → m₂ ≡ set m₁ first 1 → t₁ ≡ replicate (length t) 65535 → s₁ ≡ replicate (length s) 0
-    → w₁ ≡ replicate (length w) 0 → w₂ ≡ set w₁ first 1
-    → buffers m₂ t₁ s₁ w₂ ≡ begun heads
+pub begun-is : (heads : Heads) {m m' t s w w' : List ℕ} {first : ℕ} → first ≡ start_pair heads
+    → m ≡ replicate 4160 0 → m' ≡ set m first 1 → t ≡ replicate 8192 65535 → s ≡ replicate 4096 0
+    → w ≡ replicate 4096 0 → w' ≡ set w first 1
+    → buffers m' t s w' ≡ begun heads
 unfolding begun
-begun-is heads z f a b c d e g =
-    graph-eq
-    (b ∙ (λ i. set (a i) (f i) 1) ∙ ap (λ (k : ℕ). set (replicate k 0) (start_pair heads) 1) z.marks)
-    (c ∙ ap (λ (k : ℕ). replicate k 65535) z.targets)
-    (d ∙ ap (λ (k : ℕ). replicate k 0) z.sets)
-    (g ∙ (λ i. set (e i) (f i) 1) ∙ ap (λ (k : ℕ). set (replicate k 0) (start_pair heads) 1) z.waiting)
+begun-is heads f a b c d e g = graph-eq (b ∙ (λ i. set (a i) (f i) 1)) c d (g ∙ (λ i. set (e i) (f i) 1))
 
 -- the loop stands at g, and the two sets have whom they should
 pub record Building (X : Compared) (g : Buffers) (waits seen : List ℕ) : Type 0 where
@@ -49,91 +40,68 @@ pub record Building (X : Compared) (g : Buffers) (waits seen : List ℕ) : Type 
   pub tracks : Tracks waits seen g
 
 -- sets that have the first pair are enough at the beginning
-module _ (X : Compared) (l s : List ℕ) (a : length l ≡ 65) (b : length s ≡ 64) where
-  begun-lists : Lists (listed l (first_pair X)) (begun (heads_of X)).waiting
+module _ (heads : Heads) (l s : List ℕ) (a : length l ≡ 65) (b : length s ≡ 64) where
+  begun-lists : Lists (listed l (start_pair heads)) (begun heads).waiting
   unfolding begun
   begun-lists =
       record {
-        long = length-listed l (first_pair X) ∙ a;
-        each = λ i c p. rw (one_only 4096 (first_pair X) 1 i p) (listed_here l (first_pair X) a (omega arith));
+        long = length-listed l (start_pair heads) ∙ a;
+        each = λ i c p. rw (one_only 4096 (start_pair heads) 1 i p) (listed_here l (start_pair heads) a (omega arith));
       }
 
-  first_seen : Member (added s (first_pair X)) (first_pair X)
-  first_seen = added-here s (first_pair X) (omega arith) (omega arith)
+  first_seen : Member (added s (start_pair heads)) (start_pair heads)
+  first_seen = added-here s (start_pair heads) (omega arith) (omega arith)
 
-  begun-covers : Covers (added s (first_pair X)) (begun (heads_of X))
+  begun-covers : Covers (added s (start_pair heads)) (begun heads)
   unfolding begun
   begun-covers =
       record {
-        long = length-added s (first_pair X) ∙ b;
-        marks = λ i c p. rw (one_only 4160 (first_pair X) 1 i p) first_seen;
+        long = length-added s (start_pair heads) ∙ b;
+        marks = λ i c p. rw (one_only 4160 (start_pair heads) 1 i p) first_seen;
         targets = λ i r c d u. absurd (u (same_at 8192 65535 (index i r) (omega arith)));
         sets = λ i c p. absurd (omega (arith, zeros_at 4096 i));
-        waiting = λ i c p. rw (one_only 4096 (first_pair X) 1 i p) first_seen;
+        waiting = λ i c p. rw (one_only 4096 (start_pair heads) 1 i p) first_seen;
       }
 
-pub build_begun : (X : Compared) {g : Buffers} (l s : List ℕ) {l' s' : List ℕ} {p q : ℕ} → FaultlessChart X.old → FaultlessChart X.new
-    → g ≡ begun (heads_of X) → length l ≡ 65 → p ≡ first_pair X → l' ≡ listed l p
-    → length s ≡ 64 → q ≡ first_pair X → s' ≡ added s q → Building X g l' s'
+  pub begun-tracks : {g : Buffers} {l' s' : List ℕ} {first : ℕ} → g ≡ begun heads → first ≡ start_pair heads
+      → l' ≡ listed l first → s' ≡ added s first → Tracks l' s' g
+  begun-tracks e f x y = rw (e, x, y, f) (record { lists = begun-lists; covers = begun-covers })
+
+pub build_begun : (X : Compared) {g : Buffers} {waits seen : List ℕ} → FaultlessChart X.old → FaultlessChart X.new
+    → g ≡ begun (heads_of X) → Tracks waits seen g → Building X g waits seen
 unfolding explored
-build_begun X l s F G e a b c x y z =
-    rw (e, c, b, z, y)
-    (record {
+build_begun X F G e T =
+    record {
       old-faultless = F;
       new-faultless = G;
-      going = record { good = begun-shaped X F G; turns = 2 ^ 80; enough = begun_weight X F G; same = refl };
-      tracks = record { lists = begun-lists X l s a x; covers = begun-covers X l s a x };
-    })
+      going = rw e (record { good = begun-shaped X F G; turns = 2 ^ 80; enough = begun_weight X F G; same = refl });
+      tracks = T;
+    }
 
 module _ (X : Compared) {g : Buffers} {waits seen : List ℕ} (B : Building X g waits seen) where
-  pub build_sized : Sized g
-  build_sized = B.going.good.sized
-
-  pub build_looks : (length g.waiting ≡ 4096) × Lists waits g.waiting
-  build_looks = (B.going.good.sized.waiting, B.tracks.lists)
-
-  pub build_tracks : {waits₁ : List ℕ} → Lists waits₁ g.waiting → Tracks waits₁ seen g
-  build_tracks L = record { lists = L; covers = B.tracks.covers }
-
-  module _ {f : Found} {waits₁ : List ℕ} (e : (told_found f ≡ lowest g.waiting) × Lists waits₁ g.waiting) where
-    found : {n : ℕ} → f ≡ founds.At n → next g ≡ Some n
+  module _ {n : ℕ} (e : Some n ≡ lowest g.waiting) where
+    found : next g ≡ Some n
     unfolding next
-    found a = sym e.0 ∙ ap told_found a
+    found = sym e
 
-    pub build_below : {n : ℕ} → f ≡ founds.At n → n < 4096
-    build_below {n} a = omega (arith, (next-waits g n (found a)).below, B.going.good.sized.waiting)
+    pub build_below : n < 4096
+    build_below = omega (arith, (next-waits g n found).below, B.going.good.sized.waiting)
 
-    pub build_less : {n : ℕ} {h : Buffers} → f ≡ founds.At n → h ≡ taken X g n → weight h < weight g
-    build_less a q = less_by next (taken X) weight Shaped (turns X B.old-faultless B.new-faultless) B.going.good (found a) q
+    module _ {h : Buffers} (q : h ≡ taken X g n) where
+      pub build_less : weight h < weight g
+      build_less = less_by next (taken X) weight Shaped (turns X B.old-faultless B.new-faultless) B.going.good found q
 
-    pub build_turn : {n : ℕ} {h : Buffers} {waits' seen' : List ℕ} → f ≡ founds.At n → Tracks waits' seen' h × (h ≡ taken X g n)
-        → Building X h waits' seen'
-    build_turn a (T, q) =
-        let F = B.old-faultless in
-        let G = B.new-faultless in
-        record {
-          old-faultless = F;
-          new-faultless = G;
-          going = again_by next (taken X) weight Shaped (turns X F G) B.going (found a) q;
-          tracks = T;
-        }
+      pub build_turn : {waits' seen' : List ℕ} → Tracks waits' seen' h → Building X h waits' seen'
+      build_turn T =
+          let F = B.old-faultless in
+          let G = B.new-faultless in
+          record {
+            old-faultless = F;
+            new-faultless = G;
+            going = again_by next (taken X) weight Shaped (turns X F G) B.going found q;
+            tracks = T;
+          }
 
-    pub build_done : f ≡ founds.Nothing → Covers seen g × (g ≡ explored X)
-    unfolding next
-    build_done a =
-        let t = turns X B.old-faultless B.new-faultless in
-        (B.tracks.covers, done_by next (taken X) weight Shaped t B.going (sym e.0 ∙ ap told_found a))
-
--- lengths that stay
-module _ {m t s w m' t' s' w' : List ℕ} (z : Sized (buffers m t s w)) (z' : Sized (buffers m' t' s' w')) where
-  pub same-marks : length m' ≡ length m
-  same-marks = z'.marks ∙ sym z.marks
-
-  pub same-targets : length t' ≡ length t
-  same-targets = z'.targets ∙ sym z.targets
-
-  pub same-sets : length s' ≡ length s
-  same-sets = z'.sets ∙ sym z.sets
-
-  pub same-waiting : length w' ≡ length w
-  same-waiting = z'.waiting ∙ sym z.waiting
+  pub build_done : None ≡ lowest g.waiting → g ≡ explored X
+  unfolding next
+  build_done e = done_by next (taken X) weight Shaped (turns X B.old-faultless B.new-faultless) B.going (sym e)

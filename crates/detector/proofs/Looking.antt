@@ -16,9 +16,6 @@ use Rattle.base.specs.Walks.{first_from}
 use Rattle.base.proofs.Walks.{skip_at, stop_at, end_at}
 use Rattle.sets.specs.Sets.{bit, without}
 use Rattle.sets.proofs.Sets.{bit-none, without-kept}
-use Rattle.base.specs.declared.Found.{Found}
-use Rattle.base.specs.declared.Found.TheVariants as founds
-use Rattle.base.specs.inner.Found.{told_found}
 use Rattle.words.specs.inner.Words.{Member, Listed, LowestFrom}
 use Rattle.words.proofs.Rests.{coming_start, coming_less}
 use Rattle.graph.specs.inner.Tracks.{Lists}
@@ -130,30 +127,22 @@ module _ (w : List ℕ) (long : length w ≡ 4096) where
           rw (get_or-set_same l' 64 x 0 (omega (arith, N.long)))
           (coming_less (coming_start (get_or l 64 0)) M.0 M.1 (z ∙ ap (λ (y : ℕ). without y p) e))
 
-      -- f was found there
-      module _ {f : Found} (F : LowestOf w p (told_found f)) where
-        pub look_here : {n : ℕ} → f ≡ founds.At n → Some n ≡ lowest w
-        look_here {n} e = go (subst (λ (x : Found). LowestOf w p (told_found x)) e F)
-          where
-            go : LowestOf w p (Some n) → Some n ≡ lowest w
-            go (a, s, h) =
-                lowest-is n (omega (arith, M.1)) s
-                (λ i b. dite (dec_lt i (64 * p)) (λ d. before i d) (λ d. h i (omega arith) b))
+      -- a pair was found there
+      pub look_here : {n : ℕ} → LowestOf w p (Some n) → Some n ≡ lowest w
+      look_here {n} (a, s, h) =
+          lowest-is n (omega (arith, M.1)) s (λ i b. dite (dec_lt i (64 * p)) (λ d. before i d) (λ d. h i (omega arith) b))
 
-        -- none: the place is dropped
-        pub look_on : {l' : List ℕ} {x : ℕ} → f ≡ founds.Nothing → Lists l' w → x ≡ without (get_or l' 64 0) p → Lists (set l' 64 x) w
-        look_on {l'} {x} e N z = record { long = length-set l' 64 x ∙ N.long; each = each }
-          where
-            nobody : LowestOf w p None
-            nobody = subst (λ (y : Found). LowestOf w p (told_found y)) e F
+      -- none was: the place is dropped
+      pub look_on : {l' : List ℕ} {x : ℕ} → LowestOf w p None → Lists l' w → x ≡ without (get_or l' 64 0) p → Lists (set l' 64 x) w
+      look_on {l'} {x} nobody N z = record { long = length-set l' 64 x ∙ N.long; each = each }
+        where
+          other : (i : ℕ) → i / 64 ≡ p → get_or w i 0 ≡ 0
+          other i h = nobody i (omega arith) (omega arith)
 
-            other : (i : ℕ) → i / 64 ≡ p → get_or w i 0 ≡ 0
-            other i h = nobody i (omega arith) (omega arith)
-
-            each : (i : ℕ) → i < 4096 → 0 < get_or w i 0 → Listed (set l' 64 x) i
-            each i b s =
-                let o = N.each i b s in (
-                  rw (get_or-set_other l' 64 (i / 64) x 0 (λ h. omega arith)) o.0,
-                  rw (get_or-set_same l' 64 x 0 (omega (arith, N.long)), z)
-                      (without-kept (i / 64) (get_or l' 64 0) p (omega arith) M.1 (λ h. omega (arith, other i h)) o.1),
-                )
+          each : (i : ℕ) → i < 4096 → 0 < get_or w i 0 → Listed (set l' 64 x) i
+          each i b s =
+              let o = N.each i b s in (
+                rw (get_or-set_other l' 64 (i / 64) x 0 (λ h. omega arith)) o.0,
+                rw (get_or-set_same l' 64 x 0 (omega (arith, N.long)), z)
+                    (without-kept (i / 64) (get_or l' 64 0) p (omega arith) M.1 (λ h. omega (arith, other i h)) o.1),
+              )

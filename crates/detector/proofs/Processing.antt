@@ -2,14 +2,12 @@
 use mathlib.Core.Path.{◌≡◌, sym, ap, ◌∙◌}
 use mathlib.Core.Bool.{Bool, true, false}
 use mathlib.Core.List.{List}
+use Rattle.std.specs.Prelude.{Option, None, Some}
 use Prim.Native.Nat.{ℕ, ◌<◌}
 use native.Mathlib.Omega.{arith}
 use Rattle.chart.specs.declared.places.NewPlace.{NewPlace}
 use Rattle.chart.specs.Places.{pair_number, kept_number}
-use Rattle.align.specs.inner.Told.{told}
 use Rattle.align.specs.declared.spots.Spot.{Spot}
-use Rattle.align.specs.declared.spots.Aligned.{Aligned}
-use Rattle.align.specs.declared.spots.Aligned.TheVariants as aligneds
 use Rattle.words.specs.inner.Words.{added}
 use Rattle.graph.specs.Buffers.{Buffers, buffers, marked, keep, aim, due, join}
 use Rattle.graph.specs.inner.Sized.{Sized}
@@ -18,14 +16,14 @@ use Rattle.graph.proofs.Tracking.{keep-tracks, aim-tracks, join-tracks}
 use Rattle.detector.specs.Turns.{arrived, processed}
 
 module _ (alarm n r : ℕ) (m t s w : List ℕ) (q : NewPlace) where
-  pub came_is : {g : Buffers} {h : Spot} {came : Aligned} → came ≡ aligneds.To h → g ≡ arrived alarm (buffers m t s w) n r q h
-      → g ≡ processed alarm (buffers m t s w) n r q (told came)
+  pub came_is : {g : Buffers} {h : Spot} {came : Option Spot} → came ≡ Some h → g ≡ arrived alarm (buffers m t s w) n r q h
+      → g ≡ processed alarm (buffers m t s w) n r q came
   unfolding processed
   came_is c a = a ∙ rw c
 
-  failed_is : {m' t' s' w' t'' : List ℕ} {k : ℕ} {came : Aligned} → came ≡ aligneds.Failed
+  failed_is : {m' t' s' w' t'' : List ℕ} {k : ℕ} {came : Option Spot} → came ≡ None
       → buffers m' t' s' w' ≡ keep (buffers m t s w) q → k ≡ kept_number q → ((s w : List ℕ) → buffers m' t'' s w ≡ aim (buffers m' t' s w) n r k)
-      → buffers m' t'' s' w' ≡ processed alarm (buffers m t s w) n r q (told came)
+      → buffers m' t'' s' w' ≡ processed alarm (buffers m t s w) n r q came
   unfolding processed
   failed_is {s' = s'} {w' = w'} c a k b = b s' w' ∙ (λ i. aim (a i) n r (k i)) ∙ rw c
 
@@ -44,9 +42,9 @@ module _ (alarm n r : ℕ) (m t s w : List ℕ) (q : NewPlace) where
   -- the same, with who waits and who was seen
   module _ {l seen : List ℕ} (x : n < 4096) (y : r < 2) (z : q.0 < 64) (S : Sized (buffers m t s w))
       (K : Tracks l seen (buffers m t s w)) where
-    pub process_fails : {m' t' s' w' t'' : List ℕ} {k : ℕ} {came : Aligned} → came ≡ aligneds.Failed
+    pub process_fails : {m' t' s' w' t'' : List ℕ} {k : ℕ} {came : Option Spot} → came ≡ None
         → buffers m' t' s' w' ≡ keep (buffers m t s w) q → k ≡ kept_number q → ((s w : List ℕ) → buffers m' t'' s w ≡ aim (buffers m' t' s w) n r k)
-        → Tracks l seen (buffers m' t'' s' w') × (buffers m' t'' s' w' ≡ processed alarm (buffers m t s w) n r q (told came))
+        → Tracks l seen (buffers m' t'' s' w') × (buffers m' t'' s' w' ≡ processed alarm (buffers m t s w) n r q came)
     process_fails {m'} {t'} {s'} {w'} {t''} {k} c a e b = (
       rw (b s' w') (aim-tracks (buffers m' t' s' w') n r k x y (rw a (keep-tracks (buffers m t s w) q S z K))),
       failed_is c a e b,

@@ -2,14 +2,14 @@
 use mathlib.Core.Path.{◌≡◌, refl, sym, ap, subst, ◌∙◌}
 use mathlib.Core.Bool.{Bool, true, false, ◌&&◌, not}
 use mathlib.Core.Logic.{dite}
-use mathlib.Core.List.{List}
-use Rattle.std.specs.Prelude.{Some}
+use mathlib.Core.List.{List, [], ◌∷◌}
+use Rattle.std.specs.Prelude.{Option, Some}
 use Prim.Native.Nat.{ℕ, zero, suc, ◌+◌, ◌%◌, ◌^◌, ◌≤◌, ◌<◌}
 use native.Mathlib.Decide.{dec_lt}
 use native.Mathlib.Omega.{arith}
 use borrow.Author.Tests.{le-ltb}
 use lib.Dec.{ltb}
-use lib.ListN.{get_or, set, length-set}
+use lib.ListN.{get_or, set, replicate, length-set}
 use Rattle.operations.specs.Operations.{is_known, operands_fit}
 use Rattle.operations.specs.Trials.{never_holds}
 use Rattle.chart.specs.declared.places.OldPlace.{OldPlace}
@@ -20,9 +20,7 @@ use Rattle.chart.specs.Faultless.{FaultlessChart}
 use Rattle.detector.specs.inner.Skipped.{NeverIf, Skipped}
 use Rattle.chart.specs.Places.{old_of, new_of}
 use Rattle.align.specs.declared.spots.Spot.{Spot}
-use Rattle.align.specs.declared.spots.Aligned.{Aligned}
 use Rattle.align.specs.Steps.{step}
-use Rattle.align.specs.inner.Told.{told}
 use Rattle.chart.proofs.Parts.{part_right, row-to}
 use Rattle.chart.proofs.Takable.{takable, by_test}
 use Rattle.words.specs.inner.Words.{removed}
@@ -35,11 +33,13 @@ use Rattle.graph.proofs.Tracking.{unwait-tracks}
 use Rattle.detector.proofs.Turns.{no_row, a-row, step_of_fits}
 
 -- ---- which of two rows never hold
-pub skips_none : (rows : List ℕ) → ((k : ℕ) → k < size rows → never_holds (operation rows k) ≡ false) → Skipped (record { first = false; second = false }) rows
-skips_none rows N = record { first = λ l. sym (N 0 l); second = λ l. sym (N 1 l) }
+pub skips_none : (rows : List ℕ) → ((k : ℕ) → k < size rows → never_holds (operation rows k) ≡ false) → Skipped (replicate 2 false) rows
+skips_none rows N zero b l = sym (N 0 l)
+skips_none rows N (suc zero) b l = sym (N 1 l)
+skips_none rows N (suc (suc r)) b l = absurd (omega arith)
 
-pub skips_by : {part rows : List ℕ} {a b : Bool} → part ≡ rows → a ≡ can_be_taken part 0 → b ≡ can_be_taken part 1 → Skipped (record { first = not a; second = not b }) rows
-skips_by {part} {rows} {a} {b} e f g = record { first = one 0 f; second = one 1 g }
+pub skips_by : {part rows : List ℕ} {a b : Bool} → part ≡ rows → a ≡ can_be_taken part 0 → b ≡ can_be_taken part 1 → Skipped (not a ∷ not b ∷ []) rows
+skips_by {part} {rows} {a} {b} e f g = both
   where
     twice : (x : Bool) → not (not x) ≡ x
     twice true = refl
@@ -47,6 +47,11 @@ skips_by {part} {rows} {a} {b} e f g = record { first = one 0 f; second = one 1 
 
     one : {x : Bool} (k : ℕ) → x ≡ can_be_taken part k → NeverIf (not x) rows k
     one k h l = ap not (h ∙ ap (λ (l : List ℕ). can_be_taken l k) e ∙ by_test rows k l) ∙ twice (never_holds (operation rows k))
+
+    both : (r : ℕ) → r < 2 → NeverIf (get_or (not a ∷ not b ∷ []) r false) rows r
+    both zero c = one 0 f
+    both (suc zero) c = one 1 g
+    both (suc (suc r)) c = absurd (omega arith)
 
 -- ---- the part of the new table that leaves the pair's new place, and a row of it that can be taken
 -- whether one can be taken: it is there, and is none that never holds
@@ -92,15 +97,15 @@ module _ (X : Compared) (n r : ℕ) {q' : NewPlace} {part : List ℕ} (a : q' �
   can : {d : Bool} → t ≡ d → can_be_taken (rows_of X.new n) r ≡ d
   can = part_takable X.new n r a b u
 
-  module _ {p : OldPlace} (came : Aligned) (o : p ≡ old_of n) (s : told came ≡ step X (record { place = p; set = v }) (operation part r) (record { 0 = to part r })) (y : t ≡ true) where
-    stepped : told came ≡ step_of X n v r
+  module _ {p : OldPlace} (came : Option Spot) (o : p ≡ old_of n) (s : came ≡ step X (record { place = p; set = v }) (operation part r) (record { 0 = to part r })) (y : t ≡ true) where
+    stepped : came ≡ step_of X n v r
     unfolding step_of
     stepped = s ∙ (λ i. step X (record { place = o i; set = v }) (operation (is i) r) (record { 0 = to (is i) r }))
 
-    pub came_fits : FaultlessChart X.old → FaultlessChart X.new → n < 4096 → v < 2 ^ 64 → (h : Spot) → told came ≡ Some h → h.place.0 < 64
+    pub came_fits : FaultlessChart X.old → FaultlessChart X.new → n < 4096 → v < 2 ^ 64 → (h : Spot) → came ≡ Some h → h.place.0 < 64
     came_fits F G l w h e = (step_of_fits X F G n v r (can y) 64 F.few_places (omega arith) w h (sym stepped ∙ e)).place
 
-    pub row-there : (g : Buffers) {g' : Buffers} (q : NewPlace) → q.0 ≡ to part r → g' ≡ processed X.old.head.alarm g n r q (told came) → g' ≡ row_done X g n v r
+    pub row-there : (g : Buffers) {g' : Buffers} (q : NewPlace) → q.0 ≡ to part r → g' ≡ processed X.old.head.alarm g n r q came → g' ≡ row_done X g n v r
     row-there g q e h =
         h ∙ (λ i. processed X.old.head.alarm g n r (part_leads X.new n r a b q e i) (stepped i)) ∙ sym (a-row X g n v r (can y) refl)
 
@@ -122,17 +127,15 @@ module _ (X : Compared) (g : Buffers) (n : ℕ) where
   -- where the loop stands before row r, with the set v, the graph h and who waits and was seen; it began with g
   pub record Turning (r v : ℕ) (h : Buffers) (waits seen : List ℕ) : Type 0 where
     pub most : r ≤ 2
-    pub sized : Sized h
     pub tracks : Tracks waits seen h
     pub none_done : r ≡ 0 → (h ≡ g) × (v ≡ get_or g.sets n 0)
     pub one_done : r ≡ 1 → (h ≡ row_done X g n (get_or g.sets n 0) 0) × (v ≡ get_or g.sets n 0)
     pub both_done : r ≡ 2 → h ≡ second_done X (row_done X g n (get_or g.sets n 0) 0) n (get_or g.sets n 0)
 
-  pub turn_begins : {waits seen : List ℕ} → Sized g → Tracks waits seen g → Turning 0 (get_or g.sets n 0) g waits seen
-  turn_begins S K =
+  pub turn_begins : {waits seen : List ℕ} → Tracks waits seen g → Turning 0 (get_or g.sets n 0) g waits seen
+  turn_begins K =
       record {
         most = omega arith;
-        sized = S;
         tracks = K;
         none_done = λ e. (refl, refl);
         one_done = λ e. absurd (omega arith);
@@ -154,42 +157,34 @@ module _ (X : Compared) (g : Buffers) (n : ℕ) where
   second_is {h = h} e a b c = c ∙ (λ i. row_done X h n (b i) 1) ∙ (λ i. row_done X (e i) n (set_now (e i).marks (e i).sets n (a i)) 1)
 
   pub turn_row : (r : ℕ) {v u : ℕ} {h h' : Buffers} {waits seen waits' seen' : List ℕ} → Turning r v h waits seen → r < 2
-      → u ≡ set_now h.marks h.sets n v → Tracks waits' seen' h' × (h' ≡ row_done X h n u r) → Sized h' → Turning (r + 1) u h' waits' seen'
-  turn_row zero T l b (K, c) S =
+      → u ≡ set_now h.marks h.sets n v → Tracks waits' seen' h' × (h' ≡ row_done X h n u r) → Turning (r + 1) u h' waits' seen'
+  turn_row zero T l b (K, c) =
       let z = T.none_done refl in
       let w = own_first z.0 z.1 b in
       record {
         most = omega arith;
-        sized = S;
         tracks = K;
         none_done = λ e. absurd (omega arith);
         one_done = λ e. (c ∙ (λ i. row_done X (z.0 i) n (w i) 0), w);
         both_done = λ e. absurd (omega arith);
       }
-  turn_row (suc zero) T l b (K, c) S =
+  turn_row (suc zero) T l b (K, c) =
       let z = T.one_done refl in
       record {
         most = omega arith;
-        sized = S;
         tracks = K;
         none_done = λ e. absurd (omega arith);
         one_done = λ e. absurd (omega arith);
         both_done = λ e. second_is z.0 z.1 b c;
       }
-  turn_row (suc (suc r)) T l b c S = absurd (omega arith)
+  turn_row (suc (suc r)) T l b c = absurd (omega arith)
 
-pub turn_done : (X : Compared) (m t s w : List ℕ) (n : ℕ) {w₁ waits seen : List ℕ} {r v : ℕ} {h : Buffers} → w₁ ≡ set w n 0
-    → Turning X (buffers m t s w₁) n r v h waits seen → 2 ≤ r → Tracks waits seen h × (h ≡ taken X (buffers m t s w) n)
+pub turn_done : (X : Compared) (m t s w : List ℕ) (n : ℕ) {waits seen : List ℕ} {r v : ℕ} {h : Buffers}
+    → Turning X (buffers m t s (set w n 0)) n r v h waits seen → 2 ≤ r → h ≡ taken X (buffers m t s w) n
 unfolding taken unwait
-turn_done X m t s w n a T l = (
-  T.tracks,
-  T.both_done (omega (arith, T.most)) ∙ (λ i. second_done X (row_done X (buffers m t s (a i)) n (get_or s n 0) 0) n (get_or s n 0)),
-)
+turn_done X m t s w n T l = T.both_done (omega (arith, T.most))
 
-pub unwait-sized : {m t s w w₁ : List ℕ} (n : ℕ) → Sized (buffers m t s w) → w₁ ≡ set w n 0 → Sized (buffers m t s w₁)
-unwait-sized n S a = record { marks = S.marks; targets = S.targets; sets = S.sets; waiting = rw (a, length-set) S.waiting }
-
-pub unwait-kept_up : {m t s w w₁ waits waits₁ seen : List ℕ} (n : ℕ) → n < 4096 → Sized (buffers m t s w)
-    → Tracks waits seen (buffers m t s w) → w₁ ≡ set w n 0 → waits₁ ≡ removed waits n → Tracks waits₁ seen (buffers m t s w₁)
+pub unwait-kept_up : {m t s w waits waits₁ seen : List ℕ} (n : ℕ) → n < 4096 → Sized (buffers m t s w)
+    → Tracks waits seen (buffers m t s w) → waits₁ ≡ removed waits n → Tracks waits₁ seen (buffers m t s (set w n 0))
 unfolding unwait
-unwait-kept_up n b S K a e = rw a (unwait-tracks (buffers _ _ _ _) n S b K e)
+unwait-kept_up n b S K e = unwait-tracks (buffers _ _ _ _) n S b K e
