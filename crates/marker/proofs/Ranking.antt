@@ -1,6 +1,6 @@
 -- Algorithm 1 in the form in which the code meets it. Assumes nothing.
 use mathlib.Core.Path.{◌≡◌, sym, ap, ◌∙◌}
-use mathlib.Core.Bool.{Bool, true, false, ◌||◌}
+use mathlib.Core.Bool.{Bool, false, ◌||◌}
 use mathlib.Core.List.{List}
 use mathlib.Core.Logic.{dite}
 use Prim.Native.Nat.{ℕ, ◌+◌, ◌*◌, ◌≤◌, ◌<◌}
@@ -87,7 +87,7 @@ module _ (m : List ℕ) (n : ℕ) where
   unfolding in_q
   in_past l = let e : get_or m n 0 ≡ 0 = get_or-eq_default m 0 l in rw e
 
-  pub in_one : get_or m n 0 ≡ 1 → true ≡ in_q m n
+  pub in_one : get_or m n 0 ≡ 1 → eqb (get_or m n 0) 1 ≡ in_q m n
   unfolding in_q
   in_one e = rw e
 

@@ -13,7 +13,6 @@ ghost use Rattle.marker.specs.inner.Counts.{Counted};
 
 use crate::inner::openings::open_if;
 use crate::inner::spread::spread;
-use graph::inner::buffers;
 use records::{Marks, Targets};
 use sets::inner::bits::without;
 use words::inner::members;
@@ -32,11 +31,8 @@ fn plain_row(marks: &mut Marks, from: usize, v: u8)
     requires { from + 64 ≤ 4160 }
     ensures { marks.new ≡ remade from (from + 64) (plain_as v) marks.old }
 {
-    let mut i = from;
-    while i < from + 64 {
-        let x = marks[i];
-        marks[i] = plain_mark(v, x);
-        i += 1;
+    for i in from..from + 64 {
+        marks[i] = plain_mark(v, marks[i]);
     }
 }
 
@@ -45,12 +41,10 @@ fn plain(marks: &mut Marks, seen: &[u64])
     requires { Holds seen.now marks.old }
     ensures { marks.new ≡ plain_marks marks.old }
 {
-    let mut p = 0;
-    while p < seen.len() {
-        if seen[p] != 0 {
+    for (p, word) in seen.iter().enumerate() {
+        if *word != 0 {
             plain_row(marks, 64 * p, 4);
         }
-        p += 1;
     }
     plain_row(marks, 4096, 2);
 }
@@ -110,9 +104,7 @@ fn sweep_down(marks: &mut Marks, targets: &Targets, rest: &mut [u64]) -> usize
         × HoldsBeyond rest.new marks.new }
 {
     let mut n = 0;
-    let mut p = rest.len();
-    while 0 < p {
-        p -= 1;
+    for p in (0..rest.len()).rev() {
         n += sweep_word_down(marks, targets, rest, p);
     }
     n
@@ -125,10 +117,8 @@ fn sweep_up(marks: &mut Marks, targets: &Targets, rest: &mut [u64]) -> usize
         × HoldsBeyond rest.new marks.new }
 {
     let mut n = 0;
-    let mut p = 0;
-    while p < rest.len() {
+    for p in 0..rest.len() {
         n += sweep_word_up(marks, targets, rest, p);
-        p += 1;
     }
     n
 }
@@ -166,17 +156,6 @@ fn open_rest(marks: &mut Marks, targets: &Targets, rest: &mut [u64])
     }
 }
 
-fn copy(from: &[u64], to: &mut [u64])
-    requires { length to.old ≡ length from.now }
-    ensures { to.new ≡ from.now }
-{
-    let mut p = 0;
-    while p < from.len() {
-        to[p] = from[p];
-        p += 1;
-    }
-}
-
 // At first any pair seen may be opened.
 fn open_all(marks: &mut Marks, targets: &Targets, seen: &[u64])
     requires { Holds seen.now marks.old }
@@ -185,7 +164,7 @@ fn open_all(marks: &mut Marks, targets: &Targets, seen: &[u64])
 {
     let mut words = [0u64; 64];
     let rest = &mut words[..seen.len()];
-    copy(seen, rest);
+    rest.copy_from_slice(seen);
     open_rest(marks, targets, rest);
 }
 
@@ -255,10 +234,8 @@ fn cover_all(marks: &mut Marks, targets: &Targets, seen: &[u64]) -> Counts
         opened: 0,
         covered: 0,
     };
-    let mut p = 0;
-    while p < seen.len() {
+    for p in 0..seen.len() {
         c = cover_word(marks, targets, seen, p, c);
-        p += 1;
     }
     c
 }
@@ -271,7 +248,7 @@ pub fn rank(marks: &mut Marks, targets: &Targets, n: usize, seen: &[u64]) -> Cou
         × (result.opened ≡ count 1 marks.new) × (result.covered ≡ count 3 marks.new) }
 {
     plain(marks, seen);
-    buffers::put8(marks, n, 1);
+    marks[n] = 1;
     open_all(marks, targets, seen);
     cover_all(marks, targets, seen)
 }

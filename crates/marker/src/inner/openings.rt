@@ -3,7 +3,6 @@ ghost use Rattle.std.specs.Prelude.{◌≡◌, ◌<◌, length, get_or};
 ghost use Rattle.marker.specs.Marks.{in_q, opening};
 ghost use Rattle.marker.specs.inner.Openings.{Tried};
 
-use graph::inner::buffers;
 use records::{Marks, Targets};
 
 // Whether a target is an open or kept node.
@@ -11,14 +10,7 @@ fn in_q(marks: &Marks, n: u16) -> bool
     ensures { result ≡ in_q marks.now n }
 {
     let at = n as usize;
-    if marks.len() <= at {
-        return false;
-    }
-    let x = marks[at];
-    if x == 1 {
-        return true;
-    }
-    x == 2
+    at < marks.len() && (marks[at] == 1 || marks[at] == 2)
 }
 
 // Whether pair i is beyond and has such a target. Both targets are asked in any case, which spares a jump between them.
@@ -39,7 +31,7 @@ pub fn open_if(marks: &mut Marks, targets: &Targets, i: usize) -> usize
     ensures { Tried targets.now marks.old i result marks.new }
 {
     if opens(&*marks, targets, i) {
-        buffers::put8(marks, i, 1);
+        marks[i] = 1;
         return 1;
     }
     0

@@ -56,10 +56,8 @@ fn lead_all(marks: &Marks, targets: &Targets, rest: &[u64], leads: &mut Leads)
     ensures { leads.new ≡ each (led_from targets.now marks.now) 0 4096
         leads.old }
 {
-    let mut p = 0;
-    while p < rest.len() {
+    for p in 0..rest.len() {
         lead_word(marks, targets, rest, leads, p);
-        p += 1;
     }
 }
 
@@ -69,10 +67,8 @@ fn open_place(marks: &mut Marks, targets: &Targets, q: usize) -> usize
     ensures { Spread targets.now marks.old result marks.new }
 {
     let mut n = 0;
-    let mut p = 0;
-    while p < 64 {
+    for p in 0..64 {
         n += open_if(marks, targets, 64 * p + q);
-        p += 1;
     }
     n
 }
@@ -96,11 +92,9 @@ fn spread_once(marks: &mut Marks, targets: &Targets, leads: &Leads, places: u64)
     ensures { Spread targets.now marks.old result marks.new }
 {
     let mut next = 0;
-    let mut q = 0;
-    while q < 64 {
-        let found = spread_to(marks, targets, leads[q], places, q);
+    for (q, led) in leads.iter().enumerate() {
+        let found = spread_to(marks, targets, *led, places, q);
         next = joined(next, found);
-        q += 1;
     }
     next
 }

@@ -9,8 +9,8 @@ use Rattle.marker.proofs.inner.marks.open_all.Goals as goal
 pub slice_bounds-rest-end : goal.slice_bounds-rest-end
 slice_bounds-rest-end c = sym (length-take-le _ _ (omega (arith, c.requires.most)))
 
-pub copy-requires : goal.copy-requires
-copy-requires c = length-take-le _ _ (omega (arith, c.requires.most))
+pub copy_from_slice-requires : goal.copy_from_slice-requires
+copy_from_slice-requires c = length-take-le _ _ (omega (arith, c.requires.most))
 
 pub open_rest-requires : goal.open_rest-requires
 open_rest-requires c = search holds_copied

@@ -3,7 +3,7 @@ use mathlib.Core.Path.{◌∙◌}
 use Rattle.marker.proofs.Ranking.{plain-start, plain_more, plain_past, plain_end}
 use native.Mathlib.Omega.{arith}
 use Rattle.marker.proofs.inner.marks.plain.Goals as goal
-use Rattle.marker.proofs.inner.marks.plain.Goals.{then-seen-p-ne0, else-seen-p-ne0}
+use Rattle.marker.proofs.inner.marks.plain.Goals.{then-word-ne0, else-word-ne0}
 
 pub loop-p-init : goal.loop-p-init
 loop-p-init c = search plain-start
@@ -11,9 +11,9 @@ loop-p-init c = search plain-start
 pub loop-p-preserved : goal.loop-p-preserved
 loop-p-preserved c =
     let P = c.loop-p.invariant in
-    elim c.if-seen-p-ne0.branch [
-      | then-seen-p-ne0 w ↦ plain_more P (omega arith) (w.marks-is ∙ w.plain_row.ensures)
-      | else-seen-p-ne0 w ↦ plain_past P (omega arith) c.requires w.if-seen-p-ne0.false w.marks-is
+    elim c.if-word-ne0.branch [
+      | then-word-ne0 w ↦ plain_more P (omega arith) (w.marks-is ∙ w.plain_row.ensures)
+      | else-word-ne0 w ↦ plain_past P (omega arith) c.requires w.if-word-ne0.false w.marks-is
     ]
 
 pub returns : goal.returns

@@ -1,11 +1,6 @@
 -- `marker::inner::marks::plain` meets its contract. Assumes nothing.
-use Prim.Native.Nat.{◌-◌}
-use lib.ListN.{length}
 use Rattle.marker.proofs.Ranking.{Plain}
 use Rattle.marker.proofs.inner.marks.plain.Given as goal
 
 abbrev pub invariant-loop-p : goal.invariant-loop-p
 invariant-loop-p l = Plain l.initial.marks l.marks l.p
-
-abbrev pub decreases-loop-p : goal.decreases-loop-p
-decreases-loop-p l = length l.seen - l.p

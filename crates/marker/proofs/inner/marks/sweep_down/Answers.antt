@@ -4,10 +4,10 @@ use borrow.Author.Rules.{rules}
 use Rattle.marker.proofs.inner.marks.sweep_down.Goals as goal
 
 pub loop-p-init : goal.loop-p-init
-loop-p-init c = (search down_start, search rules, search rules, search rules)
+loop-p-init c = (search down_start, search rules, search rules)
 
 pub loop-p-preserved : goal.loop-p-preserved
-loop-p-preserved c = (search down_more, search rules, search rules, search rules)
+loop-p-preserved c = (search down_more, search rules, search rules)
 
 pub returns : goal.returns
 returns c = (search down_end, search rules)
