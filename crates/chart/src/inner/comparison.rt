@@ -7,6 +7,7 @@ use crate::inner::rows::{index, rows_at};
 use crate::places::{NewPlace, OldPlace};
 
 // The heads and both tables, with an index of the tables, so that no lookup has to search.
+#[derive(Drop)]
 pub struct Comparison<'a> {
     pub heads: Heads,
     pub old_rows: &'a [u32],
