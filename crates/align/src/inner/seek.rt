@@ -14,14 +14,7 @@ pub fn same(rows: &[u32], part: &[u32], j: usize) -> Option<usize>
     requires { j < size part.now }
     ensures { result ≡ find rows.now (λ o. same o (operation part.now j)) }
 {
-    let mut k = 0;
-    while k * 6 + 5 < rows.len() {
-        if same_operation(rows, k, part, j) {
-            return Some(k);
-        }
-        k += 1;
-    }
-    None
+    (0..rows.len() / 6).find(|&k| same_operation(rows, k, part, j))
 }
 
 // The assignment of a place, which can only be its first row: where a place has two, both are assumptions.
@@ -70,12 +63,5 @@ pub fn implied(rows: &[u32], o: Operation) -> Option<usize>
     if assumptions::never(o) {
         return None;
     }
-    let mut k = 0;
-    while k * 6 + 5 < rows.len() {
-        if implies(o, operation_at(rows, k)) {
-            return Some(k);
-        }
-        k += 1;
-    }
-    None
+    (0..rows.len() / 6).find(|&k| implies(o, operation_at(rows, k)))
 }
