@@ -1,6 +1,7 @@
 -- The test of two assumptions is exact. Assumes nothing.
 use Rattle.std.proofs.Common.{◌≡◌, ℕ, zero, suc, ◌^◌, ◌<◌, Bool, true, false, cond, not, T, eqb, ◌↔◌, List, [], ◌∷◌, length, get_or, sym, refl, ap, ◌∙◌, subst, ap₂, subst₂, le_of_suc-le-suc, not-suc-le-zero, mod-lt, T_not, pow_pos}
 use lib.Dec.{not_T}
+use Rattle.std.specs.Prelude.{Option, Some, None, unwrap_or}
 use Rattle.operations.specs.declared.Operation.{Operation}
 use Rattle.operations.specs.declared.assumptions.Implication.{Implication}
 use Rattle.operations.specs.declared.assumptions.Implication.TheVariants.{Never, Implied, NotImplied}
@@ -8,10 +9,10 @@ use Rattle.operations.specs.declared.inner.trials.Seats.{Seats}
 use Rattle.operations.specs.Operations.{is_assumption, with_constant, plus, order, relation, related_in, holds}
 use Rattle.operations.specs.Values.{Values, var}
 use Rattle.operations.specs.Assumptions.{Operands, NeverHolds, Implies, ExactlyOne, Means}
-use Rattle.operations.specs.Trials.{alike, inside, own, seats, trial, points_of, shown, shown_by, together, never, never_holds, implies, exclusive, implication}
+use Rattle.operations.specs.Trials.{alike, inside, own, joint, seats, trial, points_of, shown, shown_by, together, never, never_holds, implies, exclusive, implication}
 use Rattle.base.proofs.Tests.{T_and, T_both, T_true, is_true, differ, yields, opposite, and_true}
 use Rattle.base.proofs.Lists.{any_at, any_all}
-use Rattle.operations.proofs.Trials.{joint, bound-small, points-small, tried}
+use Rattle.operations.proofs.Trials.{bound-small, points-small, tried}
 
 pub alike_self : (b : Bool) → T (alike b b)
 alike_self true = tt
@@ -51,10 +52,14 @@ holds_tab f F v =
     ap₂ (λ (m n : ℕ). related_in (order f) (relation f) m (cond (with_constant f) f.c n))
     (tab_at v 64 f.a F.a) (tab_at v 64 f.b F.b)
 
-trial-small : (s : Seats) → s.rest < 2 ^ 32 → (x y : ℕ) → x < 2 ^ 32 → y < 2 ^ 32 → (k : ℕ) → trial s x y k < 2 ^ 32
+trial-small : (s : Seats) → unwrap_or s.rest 0 < 2 ^ 32 → (x y : ℕ) → x < 2 ^ 32 → y < 2 ^ 32 → (k : ℕ) → trial s x y k < 2 ^ 32
 unfolding trial
-trial-small s h x y hx hy k = pick (eqb k s.first) hx (pick (eqb k s.second) hy (pick s.apart h hy))
+trial-small s h x y hx hy k = pick (eqb k s.first) hx (pick (eqb k s.second) hy (other s.rest h))
   where
+    other : (o : Option ℕ) → unwrap_or o 0 < 2 ^ 32 → unwrap_or o y < 2 ^ 32
+    other None h = hy
+    other (Some z) h = h
+
     pick : (b : Bool) {m n : ℕ} → m < 2 ^ 32 → n < 2 ^ 32 → cond b m n < 2 ^ 32
     pick true h k = h
     pick false h k = k
@@ -75,11 +80,12 @@ module _ (f g : Operation) (hf : f.c < 2 ^ 32) (hg : g.c < 2 ^ 32) where
       any_at (shown_by (seats f g) f p g q l) l t.x t.x_in (any_at (shown (seats f g) f p g q t.x) l t.y t.y_in
       (rw (t.same_f, t.same_g, a, b) (T_both (alike p p) (alike q q) (alike_self p) (alike_self q))))
 
-  rest-small : (seats f g).rest < 2 ^ 32
+  rest-small : unwrap_or (seats f g).rest 0 < 2 ^ 32
   unfolding seats
   rest-small = go (inside f g) (inside g f)
     where
-      go : (a b : Bool) → (cond a (joint f.a) (cond b (joint g.a) (record { first = own f g; second = own g f; apart = true; rest = plus (order f) 1 }))).rest < 2 ^ 32
+      go : (a b : Bool)
+          → unwrap_or (cond a (joint f.a) (cond b (joint g.a) (record { first = own f g; second = own g f; rest = Some (plus (order f) 1) }))).rest 0 < 2 ^ 32
       go true b = pow_pos 32
       go false true = pow_pos 32
       go false false = mod-lt _ (pow_pos 32)
@@ -163,10 +169,6 @@ with_meaning P p e = (e, subst P (sym e) p)
 
 pub never_tested : (f : Operation) {r : Bool} → r ≡ never f → (r ≡ never f) × (Operands f → (r ≡ true) ↔ NeverHolds f)
 never_tested f = with_meaning (λ (r : Bool). Operands f → (r ≡ true) ↔ NeverHolds f) (never_means f)
-
-pub never-holds_tested : (o : Operation) {r : Bool} → r ≡ never_holds o
-    → (r ≡ never_holds o) × (Operands o → (r ≡ true) ↔ ((is_assumption o ≡ true) × NeverHolds o))
-never-holds_tested o = with_meaning (λ (r : Bool). Operands o → (r ≡ true) ↔ ((is_assumption o ≡ true) × NeverHolds o)) (never-holds_means o)
 
 module _ (f g : Operation) where
   pub tested : {r : Implication} → r ≡ implication f g → (r ≡ implication f g) × (Operands f → Operands g → Means r f g)

@@ -5,12 +5,11 @@ use lib.Dec.{eqb_refl}
 use Rattle.operations.specs.declared.Operation.{Operation}
 use Rattle.operations.specs.declared.inner.trials.Seats.{Seats}
 use Rattle.operations.specs.Operations.{with_constant, plus, minus, order, holds}
-use Rattle.operations.specs.Trials.{seats, trial, bound, points, points_of, shown, shown_by, together}
+use Rattle.operations.specs.Trials.{joint, seats, trial, bound, points, points_of, shown, shown_by, together}
 use Rattle.operations.specs.inner.ShortWays.{repeated, meets, meets_both}
 use Rattle.base.proofs.Tests.{T_or_l, T_or_r}
 use Rattle.base.specs.Lists.{any}
 use Rattle.base.proofs.Lists.{has, has_at, any_same, any_again}
-use Rattle.operations.proofs.Trials.{joint}
 
 -- ---- where points stand again
 -- the points without those at the front that stand again

@@ -19,12 +19,6 @@ both_ways true b h k = sym (is_true b (h tt))
 both_ways false true h k = absurd (k tt)
 both_ways false false h k = refl
 
--- one of two tests, by a third
-pub either : (b x y : Bool) → (b && x) || (not b && y) ≡ cond b x y
-either true true y = refl
-either true false y = refl
-either false x y = refl
-
 -- ---- one assumption
 module _ (f : Operation) (h : f.c < 2 ^ 32) (p : Bool) where
   abbrev r : ℕ

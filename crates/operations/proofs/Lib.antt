@@ -1,4 +1,5 @@
 -- Laws that several proofs cite.
+pub mod Searches
 pub mod Codes
 pub mod Order
 pub mod TwoOrders

@@ -1,7 +1,6 @@
 -- Few values stand for all: how values compare with each other and with constants, in any order. Assumes nothing.
-use Rattle.std.proofs.Common.{◌≡◌, ℕ, zero, suc, ◌+◌, ◌-◌, ◌%◌, ◌^◌, ◌<◌, ◌≤◌, Bool, true, false, not, ◌&&◌, ◌||◌, T, eqb, ltb, leb, ◌≢◌, ◌⊎◌, List, [], ◌∷◌, get_or, sym, refl, ap, ◌∙◌, subst, inl, inr, arith, le-ltb, lt-ltb, eq-eqb, ne_eqb, le-leb}
+use Rattle.std.proofs.Common.{◌≡◌, ℕ, zero, suc, ◌+◌, ◌-◌, ◌%◌, ◌^◌, ◌<◌, ◌≤◌, Bool, true, false, ◌&&◌, ◌||◌, T, eqb, ltb, ◌≢◌, ◌⊎◌, List, [], ◌∷◌, get_or, sym, refl, ap, ◌∙◌, subst, inl, inr, arith, le-ltb, lt-ltb, eq-eqb, ne_eqb, le-leb}
 use native.Mathlib.Decide.{ℕ_discrete, dec_lt}
-use lib.ListN.{get_or-eq_default}
 use borrow.Author.Tests.{lt-leb}
 use Rattle.operations.specs.Operations.{plus, minus, key, related}
 use Rattle.operations.specs.Trials.{points}
@@ -36,11 +35,6 @@ module _ (r a b : ℕ) where
   pub related_gt : b < a → related r a b ≡ get_or above-table r false
   unfolding related
   related_gt h = rw (ne_eqb a b (λ e. omega arith), le-ltb a b (omega arith), lt-leb a b h, lt-ltb b a h, le-leb b a (omega arith))
-
--- there are no other relations
-pub related-none : (r a b : ℕ) → 6 ≤ r → false ≡ related r a b
-unfolding related
-related-none r a b h = sym (get_or-eq_default (eqb a b ∷ not (eqb a b) ∷ ltb a b ∷ leb a b ∷ ltb b a ∷ leb b a ∷ []) false h)
 
 pub related_same : (r : ℕ) {a b u w : ℕ} → Same a b u w → related r a b ≡ related r u w
 related_same r {a} {b} {u} {w} S = go (ℕ_discrete a b) (dec_lt a b)

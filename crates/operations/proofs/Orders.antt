@@ -1,16 +1,16 @@
 -- Where neither of two assumptions has a constant, only the order of two values matters. Assumes nothing.
-use Rattle.std.proofs.Common.{◌≡◌, ℕ, ◌^◌, ◌<◌, Bool, true, false, cond, not, ◌&&◌, ◌||◌, T, eqb, List, inl, inr}
+use Rattle.std.proofs.Common.{◌≡◌, ℕ, ◌^◌, ◌<◌, Bool, true, false, cond, not, ◌&&◌, ◌||◌, T, eqb, List, sym, inl, inr}
 use borrow.Author.Tests.{not-true}
 use Rattle.base.proofs.Tests.{T_or, T_or_l, T_or_r, and_true}
 use Rattle.base.specs.Lists.{any}
 use Rattle.base.proofs.Lists.{has, has_at, any_at, any_all}
 use Rattle.operations.specs.declared.Operation.{Operation}
 use Rattle.operations.specs.Operations.{with_constant, plus, order, holds}
-use Rattle.operations.specs.Trials.{inside, seats, trial, points_of, shown, together}
+use Rattle.operations.specs.Trials.{joint, inside, seats, trial, points_of, shown, together}
 use Rattle.operations.specs.inner.ShortWays.{paired}
 use Rattle.operations.proofs.Order.{Alike, same_self, same_flip, five}
 use Rattle.operations.proofs.TwoOrders.{order_small, inside_both}
-use Rattle.operations.proofs.Trials.{joint, holds-pair, points-small}
+use Rattle.operations.proofs.Trials.{holds-pair, points-small}
 use Rattle.operations.proofs.Independent.{both_ways}
 
 -- with other values in the same order, f does the same
@@ -106,7 +106,6 @@ module _ (f : Operation) (p : Bool) (g : Operation) (q : Bool) (k : paired f g �
             | inr A ↦ T_or_r tried_4 (seen t s) (seen_same x y t s A j)
           ]
 
--- the same by the numbers that the code has for the two orders and the number after the first
-pub orders_are : (f : Operation) (p : Bool) (g : Operation) (q : Bool) → paired f g ≡ true → {s t e : ℕ} → s ≡ order f → t ≡ order g → e ≡ plus s 1
-    → let seen = shown (joint f.a) f p g q in (((seen s e || seen s s) || seen e s) || seen s t) || seen t s ≡ together f p g q
-orders_are f p g q k a b h = rw (h, a, b) (orders_is f p g q k)
+pub orders_of : (f : Operation) (p : Bool) (g : Operation) (q : Bool) → paired f g ≡ true
+    → together f p g q ≡ ((((shown (joint f.a) f p g q (order f) (plus (order f) 1) || shown (joint f.a) f p g q (order f) (order f)) || shown (joint f.a) f p g q (plus (order f) 1) (order f)) || shown (joint f.a) f p g q (order f) (order g)) || shown (joint f.a) f p g q (order g) (order f))
+orders_of f p g q k = sym (orders_is f p g q k)

@@ -1,10 +1,11 @@
 -- Whatever two assumptions make of some values, they make of a trial. Assumes nothing.
 use Rattle.std.proofs.Common.{◌≡◌, ℕ, ◌^◌, ◌<◌, Bool, true, false, cond, not, ◌&&◌, T, eqb, ◌≢◌, ◌⊎◌, List, sym, refl, ap, ◌∙◌, subst, subst₂, inl, inr, mod-lt, arith, eqb→eq, T_not, pow_pos, eq-eqb, ne_eqb}
 use native.Mathlib.Decide.{ℕ_discrete}
+use Rattle.std.specs.Prelude.{Some}
 use Rattle.operations.specs.declared.Operation.{Operation}
 use Rattle.operations.specs.declared.inner.trials.Seats.{Seats}
 use Rattle.operations.specs.Operations.{with_constant, plus, minus, order, holds}
-use Rattle.operations.specs.Trials.{partner, compares, inside, own, seats, trial, bound, points_of}
+use Rattle.operations.specs.Trials.{partner, compares, inside, own, joint, seats, trial, bound, points_of}
 use Rattle.base.proofs.Tests.{T_and, T_or, T_or_r}
 use Rattle.base.proofs.Lists.{has, All}
 use Rattle.operations.proofs.Order.{Alike, related_same, same_flip, same_self, beside, Point, Ends, below, Stand, stand, ends_s, ends_t, point_c, point_d}
@@ -46,9 +47,6 @@ tried_swap : {l : List ℕ} {f g : Operation} {v : ℕ → ℕ} {t : Seats} → 
 tried_swap R = record { x = R.x; y = R.y; x_in = R.x_in; y_in = R.y_in; same_f = R.same_g; same_g = R.same_f }
 
 -- ---- one assumption inside the other: x at i and y at all others
-abbrev pub joint : ℕ → Seats
-joint i = record { first = i; second = i; apart = false; rest = 0 }
-
 -- m stands for n: x for u, or y for w
 data Seat (x u y w : ℕ) : ℕ → ℕ → Type 0 where
   at_x : Seat x u y w x u
@@ -176,7 +174,7 @@ module _ (l : List ℕ) (v : ℕ → ℕ) (small : (k : ℕ) → v k < 2 ^ 32) w
 
 module _ (i j z x y : ℕ) where
   abbrev loose : Seats
-  loose = record { first = i; second = j; apart = true; rest = z }
+  loose = record { first = i; second = j; rest = Some z }
 
   trial-first : trial loose x y i ≡ x
   unfolding trial
@@ -237,7 +235,7 @@ module _ (f g : Operation) (hf : f.c < 2 ^ 32) (hg : g.c < 2 ^ 32) (v : ℕ → 
       G = point_d (order f) (order g) (bound f) (bound g) (bound-small g hg)
 
       go : (b d : Bool) → inside f g ≡ b → inside g f ≡ d
-          → Tried P f g v (cond b (joint f.a) (cond d (joint g.a) (record { first = own f g; second = own g f; apart = true; rest = z })))
+          → Tried P f g v (cond b (joint f.a) (cond d (joint g.a) (record { first = own f g; second = own g f; rest = Some z })))
       go true d q r =
           let (m, n) = T_and (compares g f.a) (compares g (partner f)) (rw q tt) in
           joined P v small f g E E' F G (compares-is g f.a m) (compares-is g (partner f) n)

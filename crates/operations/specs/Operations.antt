@@ -127,7 +127,8 @@ key least x = minus x least
 -- ---- assumptions
 -- "r: 0 =, 1 ≠, 2 <, 3 ≤, 4 >, 5 ≥"
 unfoldable pub related : ℕ → ℕ → ℕ → Bool
-related r x y = slice_index_or ((x == y) ∷ not (x == y) ∷ nat_lt x y ∷ nat_le x y ∷ nat_lt y x ∷ nat_le y x ∷ []) r false
+related r x y =
+    slice_index_or ((x == y) ∷ not (x == y) ∷ nat_lt x y ∷ nat_le x y ∷ nat_lt y x ∷ nat_le y x ∷ []) r false
 
 -- whether r holds of two values in the order with this least value: "values read as two's complement of 32 bits,
 -- constants too" (document 02, #102)

@@ -2,7 +2,7 @@
 -- first meet the second"; and of two rows of one place, "exactly one holds, for all values". Both assumptions are tried
 -- on a few values that stand for all. That the answers are those of Assumptions.antt, over all values, is proved
 -- (proofs/Exact.antt): whoever believes that file may pass over this one.
-use Rattle.std.specs.Prelude.{ℕ, Bool, true, false, cond, not, ◌&&◌, ◌||◌, List, [], ◌∷◌, ◌==◌}
+use Rattle.std.specs.Prelude.{ℕ, Bool, true, false, cond, not, ◌&&◌, ◌||◌, List, [], ◌∷◌, ◌==◌, Some, None, unwrap_or}
 use Rattle.base.specs.Lists.{any}
 use Rattle.operations.specs.declared.Operation.{Operation}
 use Rattle.operations.specs.declared.assumptions.Implication.{Implication}
@@ -32,18 +32,22 @@ inside f g = compares g f.a && compares g (partner f)
 abbrev pub own : Operation → Operation → ℕ
 own f g = cond (compares g f.a) (partner f) f.a
 
+-- for "all values", x to one variable and y to all others
+abbrev pub joint : ℕ → Seats
+joint i = record { first = i; second = i; rest = None }
+
 -- for "all values", which variables a trial gives x and y to: where one is inside the other, x to its first variable
 -- and y to all others; else x and y to a variable that only f and only g compares, and to all others a value that is at
 -- no end of either order
 unfoldable pub seats : Operation → Operation → Seats
 seats f g =
-    cond (inside f g) (record { first = f.a; second = f.a; apart = false; rest = 0 })
-    (cond (inside g f) (record { first = g.a; second = g.a; apart = false; rest = 0 })
-    (record { first = own f g; second = own g f; apart = true; rest = plus (order f) 1 }))
+    cond (inside f g) (joint f.a)
+    (cond (inside g f) (joint g.a)
+    (record { first = own f g; second = own g f; rest = Some (plus (order f) 1) }))
 
 -- one of "all values", the trial with x and y: the value that it gives to variable k
 unfoldable pub trial : Seats → ℕ → ℕ → ℕ → ℕ
-trial s x y k = cond (k == s.first) x (cond (k == s.second) y (cond s.apart s.rest y))
+trial s x y k = cond (k == s.first) x (cond (k == s.second) y (unwrap_or s.rest y))
 
 -- the c of "compares va with c", where f has it; else the least value of its order, which is tried anyway
 abbrev pub bound : Operation → ℕ

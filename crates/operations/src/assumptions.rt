@@ -9,7 +9,7 @@ use crate::inner::trials::{follows, independent, possible, sought};
 use crate::{Operation, is_assumption_code};
 
 // What the test of two assumptions answers.
-#[derive(Clone, Copy)]
+#[derive(Clone, Copy, Debug, PartialEq, Eq)]
 pub enum Implication {
     // No values meet the first.
     Never,
@@ -19,6 +19,7 @@ pub enum Implication {
 }
 
 // Whether no values meet f.
+#[tactic(auto, using(crate::proofs::Exact::never_tested))]
 pub fn never(f: Operation) -> bool
     ensures is { result ≡ never f }
     ensures means { Operands f → (result ≡ true) ↔ NeverHolds f }
@@ -28,6 +29,7 @@ pub fn never(f: Operation) -> bool
 
 // Whether the row of an operation can never be taken: o is an assumption, and no values meet it. Both are worked out,
 // so that no jump depends on o.
+#[tactic(auto, unfolding(crate::specs::Trials::never_holds))]
 pub fn never_holds(o: Operation) -> bool
     ensures is { result ≡ never_holds o }
     ensures means { Operands o → (result ≡ true) ↔ ((is_assumption o ≡ true) × NeverHolds o) }

@@ -19,7 +19,7 @@ pub struct Operation {
     pub c: u32,
 }
 
-#[derive(Clone, Copy)]
+#[derive(Clone, Copy, Debug, PartialEq, Eq)]
 pub enum Kind {
     Assignment,
     ConstantComparison,
@@ -28,7 +28,7 @@ pub enum Kind {
 }
 
 // What an operand is to its operation.
-#[derive(Clone, Copy)]
+#[derive(Clone, Copy, Debug, PartialEq, Eq)]
 pub enum Operand {
     Variable,
     Constant,
@@ -37,15 +37,14 @@ pub enum Operand {
 
 // Kinds of codes are told apart by ranges here alone; with_constant and is_assumption_code reckon with the code, and
 // the tables of limit_b, limit_c and opposite (inner/opposed.rt) go by the codes themselves.
+#[tactic(auto, unfolding(crate::specs::Operations::kind))]
 pub fn kind_of(code: u32) -> Kind
     ensures { result ≡ kind code }
 {
     match code {
         0..=5 => Kind::Assignment,
-        16..=21 => Kind::ConstantComparison,
-        24..=29 => Kind::ConstantComparison,
-        32..=37 => Kind::VariableComparison,
-        40..=45 => Kind::VariableComparison,
+        16..=21 | 24..=29 => Kind::ConstantComparison,
+        32..=37 | 40..=45 => Kind::VariableComparison,
         _ => Kind::Unknown,
     }
 }
@@ -53,12 +52,7 @@ pub fn kind_of(code: u32) -> Kind
 pub fn is_known(o: Operation) -> bool
     ensures { result ≡ is_known o }
 {
-    match kind_of(o.code) {
-        Kind::Assignment => true,
-        Kind::ConstantComparison => true,
-        Kind::VariableComparison => true,
-        Kind::Unknown => false,
-    }
+    !matches!(kind_of(o.code), Kind::Unknown)
 }
 
 // Whether the operations with this code are assignments: for whoever has a row in a table, which need not be copied to
@@ -66,12 +60,7 @@ pub fn is_known(o: Operation) -> bool
 pub fn is_assignment_code(code: u32) -> bool
     ensures { (o : Operation) → o.code ≡ code → result ≡ is_assignment o }
 {
-    match kind_of(code) {
-        Kind::Assignment => true,
-        Kind::ConstantComparison => false,
-        Kind::VariableComparison => false,
-        Kind::Unknown => false,
-    }
+    matches!(kind_of(code), Kind::Assignment)
 }
 
 pub fn is_assignment(o: Operation) -> bool
@@ -81,6 +70,7 @@ pub fn is_assignment(o: Operation) -> bool
 }
 
 // Whether the operations with this code are assumptions. It is reckoned, so that no jump depends on the code.
+#[tactic(auto, unfolding(crate::specs::Operations::kind))]
 pub fn is_assumption_code(code: u32) -> bool
     ensures { (o : Operation) → o.code ≡ code → result ≡ is_assumption o }
 {
@@ -90,22 +80,18 @@ pub fn is_assumption_code(code: u32) -> bool
 pub fn is_assumption(o: Operation) -> bool
     ensures { result ≡ is_assumption o }
 {
-    match kind_of(o.code) {
-        Kind::Assignment => false,
-        Kind::ConstantComparison => true,
-        Kind::VariableComparison => true,
-        Kind::Unknown => false,
-    }
+    is_assumption_code(o.code)
 }
 
 // Whether it compares with its constant: reckoned with the code, so that the step, which asks it of every assumption,
 // takes no jump.
+#[tactic(auto, unfolding(crate::specs::Operations::kind))]
 pub fn with_constant(o: Operation) -> bool
     ensures { result ≡ with_constant o }
 {
     // The code that this one repeats, if it repeats one.
     let code = o.code / 16 * 16 + o.code % 8;
-    std::num::wrapping_sub_u32(code, 16) < 6
+    code.wrapping_sub(16) < 6
 }
 
 // The least value of the order in which it compares: 0, or that of two's complement.
@@ -116,45 +102,42 @@ pub fn order_of(o: Operation) -> u32
 }
 
 // What b is to an operation.
+#[tactic(auto, unfolding(crate::specs::Operations::operand_b))]
 pub fn operand_b(o: Operation) -> Operand
     ensures { result ≡ operand_b o }
 {
     match kind_of(o.code) {
-        Kind::Assignment => {
-            if o.code == 0 {
-                return Operand::Unused;
-            }
+        Kind::Assignment => if o.code == 0 {
+            Operand::Unused
+        } else {
             Operand::Variable
-        }
-        Kind::ConstantComparison => Operand::Unused,
+        },
         Kind::VariableComparison => Operand::Variable,
-        Kind::Unknown => Operand::Unused,
+        Kind::ConstantComparison | Kind::Unknown => Operand::Unused,
     }
 }
 
 // What c is to an assignment.
+#[tactic(auto, unfolding(crate::specs::Operations::assigned_c))]
 fn assigned_c(code: u32) -> Operand
     ensures { result ≡ assigned_c code }
 {
     match code {
-        0 => Operand::Constant,
-        1 => Operand::Unused,
-        2 => Operand::Constant,
-        3 => Operand::Variable,
-        4 => Operand::Variable,
+        0 | 2 => Operand::Constant,
+        3 | 4 => Operand::Variable,
         _ => Operand::Unused,
     }
 }
 
 // What c is to an operation.
+#[tactic(auto, unfolding(crate::specs::Operations::operand_c))]
 pub fn operand_c(o: Operation) -> Operand
     ensures { result ≡ operand_c o }
 {
     match kind_of(o.code) {
         Kind::Assignment => assigned_c(o.code),
         Kind::ConstantComparison => Operand::Constant,
-        Kind::VariableComparison => Operand::Unused,
-        Kind::Unknown => Operand::Unused,
+        Kind::VariableComparison | Kind::Unknown => Operand::Unused,
     }
 }
 
@@ -170,20 +153,16 @@ fn fits(operand: Operand, x: u32) -> bool
 }
 
 // Whether every operand is as the code wants it.
+#[tactic(auto, unfolding(crate::specs::Operations::operands_fit))]
 pub fn operands_fit(o: Operation) -> bool
     ensures { result ≡ operands_fit o }
 {
-    if 63 < o.a {
-        return false;
-    }
-    if fits(operand_b(o), o.b) {
-        return fits(operand_c(o), o.c);
-    }
-    false
+    o.a <= 63 && fits(operand_b(o), o.b) && fits(operand_c(o), o.c)
 }
 
 // The least number that cannot stand in the place of b; 0 for a code that is not known. By a table of codes and not by
 // their kinds, so that judging a row takes no jump.
+#[tactic(auto, unfolding(crate::specs::Operations::kind, crate::specs::Operations::operand_b))]
 fn limit_b(code: u32) -> u32
     ensures { (o : Operation) → o.code ≡ code → (b : ℕ) → nat_lt b result ≡ is_known o && fits (operand_b o) b }
 {
@@ -224,6 +203,7 @@ fn limit_b(code: u32) -> u32
 
 // Likewise for c, of which a constant may be any u32. No code that is known has the 0 of the others, so that the table
 // has them all.
+#[tactic(auto, unfolding(crate::specs::Operations::kind, crate::specs::Operations::operand_c, crate::specs::Operations::assigned_c))]
 fn limit_c(code: u32) -> u64
     ensures { (o : Operation) → o.code ≡ code → (c : ℕ) → c < 2 ^ 32
         → nat_lt c result ≡ is_known o && fits (operand_c o) c }
@@ -267,5 +247,5 @@ fn limit_c(code: u32) -> u64
 pub fn is_right(o: Operation) -> bool
     ensures { result ≡ is_known o && operands_fit o }
 {
-    (o.a <= 63) & (o.b < limit_b(o.code)) & ((o.c as u64) < limit_c(o.code))
+    (o.a <= 63) & (o.b < limit_b(o.code)) & (u64::from(o.c) < limit_c(o.code))
 }

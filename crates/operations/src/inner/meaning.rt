@@ -19,32 +19,29 @@ fn held(values: &[u32], k: u32) -> u32
 pub fn plus(x: u32, y: u32) -> u32
     ensures { result ≡ plus x y }
 {
-    std::num::wrapping_add_u32(x, y)
+    x.wrapping_add(y)
 }
 
 // The difference that wraps.
 pub fn minus(x: u32, y: u32) -> u32
     ensures { result ≡ minus x y }
 {
-    std::num::wrapping_sub_u32(x, y)
+    x.wrapping_sub(y)
 }
 
 // The difference that stops at nought.
 fn monus(x: u32, y: u32) -> u32
     ensures { result ≡ monus x y }
 {
-    if x < y {
-        return 0;
-    }
-    x - y
+    x.saturating_sub(y)
 }
 
+#[tactic(auto, using(crate::proofs::Codes::fitting), unfolding(crate::specs::Operations::value))]
 pub fn value(o: Operation, values: &[u32]) -> u32
     requires { (is_assignment o ≡ true) × (operands_fit o ≡ true) × (length values.now ≡ 64) }
     ensures { result ≡ value o (var values.now) }
 {
-    let code = o.code;
-    match code {
+    match o.code {
         0 => o.c,
         1 => held(values, o.b),
         2 => plus(held(values, o.b), o.c),
@@ -55,48 +52,27 @@ pub fn value(o: Operation, values: &[u32]) -> u32
 }
 
 // Whether the relation r holds of a number and one above it, as of 0 and 1.
+#[tactic(auto, unfolding(crate::specs::Operations::related))]
 pub fn when_below(r: u32) -> bool
     ensures { result ≡ related r 0 1 }
 {
-    match r {
-        0 => false,
-        1 => true,
-        2 => true,
-        3 => true,
-        4 => false,
-        5 => false,
-        _ => false,
-    }
+    matches!(r, 1 | 2 | 3)
 }
 
 // Whether the relation r holds of equal numbers.
+#[tactic(auto, unfolding(crate::specs::Operations::related))]
 pub fn when_equal(r: u32) -> bool
     ensures { result ≡ related r 1 1 }
 {
-    match r {
-        0 => true,
-        1 => false,
-        2 => false,
-        3 => true,
-        4 => false,
-        5 => true,
-        _ => false,
-    }
+    matches!(r, 0 | 3 | 5)
 }
 
 // Whether the relation r holds of a number and one below it, as of 1 and 0.
+#[tactic(auto, unfolding(crate::specs::Operations::related))]
 pub fn when_above(r: u32) -> bool
     ensures { result ≡ related r 1 0 }
 {
-    match r {
-        0 => false,
-        1 => true,
-        2 => false,
-        3 => false,
-        4 => true,
-        5 => true,
-        _ => false,
-    }
+    matches!(r, 1 | 4 | 5)
 }
 
 // The relation r between two numbers: 0 =, 1 ≠, 2 <, 3 ≤, 4 >, 5 ≥. All of it is worked out, so that no jump depends
@@ -122,6 +98,7 @@ pub fn related_in(least: u32, r: u32, x: u32, y: u32) -> bool
 }
 
 // What va is compared with.
+#[tactic(auto, using(crate::proofs::Codes::fitting))]
 fn right(o: Operation, values: &[u32]) -> u32
     requires { (operands_fit o ≡ true) × (length values.now ≡ 64) }
     ensures { result ≡ right o (var values.now) }
@@ -132,6 +109,7 @@ fn right(o: Operation, values: &[u32]) -> u32
     held(values, o.b)
 }
 
+#[tactic(auto, using(crate::proofs::Codes::fitting), unfolding(crate::specs::Operations::holds))]
 pub fn holds(o: Operation, values: &[u32]) -> bool
     requires { (operands_fit o ≡ true) × (length values.now ≡ 64) }
     ensures { result ≡ holds o (var values.now) }

@@ -6,6 +6,7 @@ ghost use Rattle.operations.specs.inner.Opposed.{OppositeCodes, Opposed};
 use crate::Operation;
 
 // The code that compares in the opposite way, in the same order; 6, which is no code, where there is none.
+#[tactic(auto, using(crate::proofs::Opposed::opposite_relations), unfolding(crate::specs::Operations::kind))]
 fn opposite(code: u32) -> u32
     ensures { (result ≢ 6) → OppositeCodes code result }
 {
@@ -40,6 +41,7 @@ fn opposite(code: u32) -> u32
 
 // Whether f and g are assumptions that compare the same in opposite ways, as the two rows of most places do: no trial
 // is needed then.
+#[tactic(auto, using(crate::proofs::Opposed::opposed_codes))]
 pub fn opposed(f: Operation, g: Operation) -> bool
     ensures { result ≡ true → (is_assumption f ≡ true) × (is_assumption g ≡ true) × Opposed f g }
 {

@@ -3,23 +3,34 @@
 ghost use Rattle.std.specs.Prelude.{◌≡◌, true, false};
 ghost use Rattle.base.specs.Lists.{any};
 ghost use Rattle.operations.specs.Operations.{with_constant, right, holds};
-ghost use Rattle.operations.specs.Trials.{alike, partner, compares, inside, own, seats, trial, bound, points, shown, shown_by, together, never, implies};
+ghost use Rattle.operations.specs.Trials.{alike, partner, compares, inside, own, joint, seats, trial, bound, points, shown, shown_by, together, never, implies};
 ghost use Rattle.operations.specs.inner.ShortWays.{paired, fixed, disjoint, independent, can_be_below, can_be_above, repeated, meets_both};
 
 use crate::inner::meaning::{key, minus, plus, related_in, when_above, when_below, when_equal};
 use crate::{Operation, order_of, with_constant};
 
 // The variables to which a trial gives its two values, and what it gives to the others, where each of two assumptions
-// has a variable of its own.
+// has a variable of its own; else these have the second value too.
 #[derive(Clone, Copy)]
 pub struct Seats {
     pub first: u32,
     pub second: u32,
-    pub apart: bool,
-    pub rest: u32,
+    pub rest: Option<u32>,
+}
+
+// The first value for this variable, and the second for all others.
+fn joint(first: u32) -> Seats
+    ensures { result ≡ joint first }
+{
+    Seats {
+        first,
+        second: first,
+        rest: None,
+    }
 }
 
 // The value that a trial with x and y gives to variable k.
+#[tactic(auto, unfolding(crate::specs::Trials::trial))]
 fn trial(s: Seats, x: u32, y: u32, k: u32) -> u32
     ensures { result ≡ trial s x y k }
 {
@@ -29,7 +40,7 @@ fn trial(s: Seats, x: u32, y: u32, k: u32) -> u32
     if k == s.second {
         return y;
     }
-    if s.apart { s.rest } else { y }
+    s.rest.unwrap_or(y)
 }
 
 // What va is compared with in a trial.
@@ -44,6 +55,7 @@ fn right(f: Operation, s: Seats, x: u32, y: u32) -> u32
 }
 
 // Whether a trial meets f.
+#[tactic(auto, unfolding(crate::specs::Operations::holds))]
 fn holds(f: Operation, s: Seats, x: u32, y: u32) -> bool
     ensures { result ≡ holds f (trial s x y) }
 {
@@ -82,40 +94,31 @@ fn own(f: Operation, g: Operation) -> u32
     if compares(g, f.a) { partner(f) } else { f.a }
 }
 
+#[tactic(auto, unfolding(crate::specs::Trials::seats))]
 fn seats_of(f: Operation, g: Operation) -> Seats
     ensures { result ≡ seats f g }
 {
     if inside(f, g) {
-        return Seats {
-            first: f.a,
-            second: f.a,
-            apart: false,
-            rest: 0,
-        };
+        return joint(f.a);
     }
     if inside(g, f) {
-        return Seats {
-            first: g.a,
-            second: g.a,
-            apart: false,
-            rest: 0,
-        };
+        return joint(g.a);
     }
     Seats {
         first: own(f, g),
         second: own(g, f),
-        apart: true,
-        rest: plus(order_of(f), 1),
+        rest: Some(plus(order_of(f), 1)),
     }
 }
 
 fn alike(a: bool, b: bool) -> bool
     ensures { result ≡ alike a b }
 {
-    if a { b } else { !b }
+    a == b
 }
 
 // Whether the trial with x and y meets f as p says, and g as q says.
+#[tactic(auto, unfolding(crate::specs::Trials::shown))]
 fn shown(s: Seats, f: Operation, p: bool, g: Operation, q: bool, x: u32, y: u32) -> bool
     ensures { result ≡ shown s f p g q x y }
 {
@@ -125,27 +128,13 @@ fn shown(s: Seats, f: Operation, p: bool, g: Operation, q: bool, x: u32, y: u32)
 fn shown_by(s: Seats, f: Operation, p: bool, g: Operation, q: bool, l: &[u32], x: u32) -> bool
     ensures { result ≡ shown_by s f p g q l.now x }
 {
-    let mut i = 0;
-    while i < l.len() {
-        if shown(s, f, p, g, q, x, l[i]) {
-            return true;
-        }
-        i += 1;
-    }
-    false
+    l.iter().any(|&y| shown(s, f, p, g, q, x, y))
 }
 
 fn shown_by_some(s: Seats, f: Operation, p: bool, g: Operation, q: bool, l: &[u32]) -> bool
     ensures { result ≡ any (shown_by s f p g q l.now) l.now }
 {
-    let mut i = 0;
-    while i < l.len() {
-        if shown_by(s, f, p, g, q, l, l[i]) {
-            return true;
-        }
-        i += 1;
-    }
-    false
+    l.iter().any(|&x| shown_by(s, f, p, g, q, l, x))
 }
 
 // The constant that f compares with, if it has one; else the least value of its order.
@@ -174,6 +163,7 @@ fn points(s: u32, t: u32, c: u32, d: u32) -> [u32; 10]
 }
 
 // So many points at the front are known to stand again after them.
+#[tactic(auto, unfolding(crate::specs::inner::ShortWays::repeated))]
 fn repeated(s: u32, t: u32, c: u32, d: u32) -> usize
     ensures { result ≡ repeated s t c d }
 {
@@ -210,14 +200,7 @@ fn meets_both(f: Operation, p: bool, g: Operation, q: bool, x: u32) -> bool
 fn met_by_some(f: Operation, p: bool, g: Operation, q: bool, l: &[u32]) -> bool
     ensures { result ≡ any (meets_both f p g q) l.now }
 {
-    let mut i = 0;
-    while i < l.len() {
-        if meets_both(f, p, g, q, l[i]) {
-            return true;
-        }
-        i += 1;
-    }
-    false
+    l.iter().any(|&x| meets_both(f, p, g, q, x))
 }
 
 // The search where both compare one variable with constants: one value is tried at a time.
@@ -241,6 +224,7 @@ fn paired(f: Operation, g: Operation) -> bool
 
 // The search where neither has a constant: only the order of the two variables matters, so that one is tried below, at
 // and above the other; and, where the two orders differ, below in the one and above in the other.
+#[tactic(auto, using(crate::proofs::Orders::orders_of))]
 fn by_orders(f: Operation, p: bool, g: Operation, q: bool) -> bool
     requires { paired f g ≡ true }
     ensures { result ≡ together f p g q }
@@ -248,28 +232,9 @@ fn by_orders(f: Operation, p: bool, g: Operation, q: bool) -> bool
     let s = order_of(f);
     let t = order_of(g);
     let e = plus(s, 1);
-    let seats = Seats {
-        first: f.a,
-        second: f.a,
-        apart: false,
-        rest: 0,
-    };
-    if shown(seats, f, p, g, q, s, e) {
-        return true;
-    }
-    if shown(seats, f, p, g, q, s, s) {
-        return true;
-    }
-    if shown(seats, f, p, g, q, e, s) {
-        return true;
-    }
-    if s == t {
-        return false;
-    }
-    if shown(seats, f, p, g, q, s, t) {
-        return true;
-    }
-    shown(seats, f, p, g, q, t, s)
+    let seats = joint(f.a);
+    let seen = |x, y| shown(seats, f, p, g, q, x, y);
+    seen(s, e) || seen(s, s) || seen(e, s) || s != t && (seen(s, t) || seen(t, s))
 }
 
 // Whether f compares a variable with itself, so that it makes the same of all values.
@@ -287,6 +252,7 @@ fn disjoint(f: Operation, g: Operation) -> bool
 }
 
 // Whether what f makes of values has nothing to do with what g makes of them.
+#[tactic(auto, unfolding(crate::specs::inner::ShortWays::independent))]
 pub fn independent(f: Operation, g: Operation) -> bool
     ensures { result ≡ independent f g }
 {
@@ -294,6 +260,7 @@ pub fn independent(f: Operation, g: Operation) -> bool
 }
 
 // The search for two that may have to do with each other.
+#[tactic(auto, using(crate::proofs::Independent::one_shared))]
 pub fn sought(f: Operation, p: bool, g: Operation, q: bool) -> bool
     requires { independent f g ≡ false }
     ensures { result ≡ together f p g q }

@@ -5,9 +5,3 @@ use Rattle.operations.proofs.inner.trials.follows.Goals as goal
 
 pub returns-then-independent : goal.returns-then-independent
 returns-then-independent c = let a = c.args in λ n. ap not c.possible.ensures ∙ apart-implies a.f a.g (omega arith) (omega arith) (sym c.independent.ensures ∙ c.if-independent.true) n
-
-pub sought-requires : goal.sought-requires
-sought-requires c = sym c.independent.ensures ∙ c.if-independent.false
-
-pub returns : goal.returns
-returns c = λ n. ap not c.sought.ensures

@@ -1,16 +1,14 @@
--- `operations::inner::trials::shown_by` meets its contract: no earlier point shows it. Assumes nothing.
-use Rattle.std.proofs.Common.{refl, arith}
-use Rattle.base.proofs.Lists.{some-here, none_here, none_at_all}
+-- `operations::inner::trials::shown_by` meets its contract: by std's search. Assumes nothing.
+use Rattle.std.proofs.Common.{◌∙◌, rules, tests}
+use Rattle.std.proofs.lemmas.Iterator.{YieldsList-from_slice}
+use Rattle.std.proofs.lemmas.Iterator.Search.{any_from_yields_List}
+use Rattle.operations.specs.Trials.{shown}
+use Rattle.operations.proofs.Searches.{any_of_std}
 use Rattle.operations.proofs.inner.trials.shown_by.Goals as goal
 
-pub loop-i-init : goal.loop-i-init
-loop-i-init c = record { within = omega arith; rest = refl }
-
-pub returns-then-shown : goal.returns-then-shown
-returns-then-shown c = some-here _ _ _ c.loop-i.invariant c.loop-i-test.true c.shown.ensures c.if-shown.true
-
-pub loop-i-preserved : goal.loop-i-preserved
-loop-i-preserved c = none_here _ _ _ c.loop-i.invariant c.loop-i-test.true c.shown.ensures c.if-shown.false
-
 pub returns : goal.returns
-returns c = none_at_all _ _ _ c.loop-i.invariant c.loop-i-test.false
+returns c =
+    let a = c.args in
+    let p = shown a.s a.f a.p a.g a.q a.x in
+    any_from_yields_List p _ _ _ c.any.ensures.ran (YieldsList-from_slice a.l.now cc) (λ x b q k. search (rules, tests))
+    ∙ any_of_std p a.l.now
