@@ -9,13 +9,6 @@ pub assigning : (x : ℕ) → by_kind (kind x) true false false false ≡ true �
 unfolding kind
 assigning x e = grind (arith, common_steps)
 
--- ---- the tables of what can stand in the places of b and c
-pub right_by_tables : (o : Operation)
-    → (leb o.a 63 && (is_known o && fits (operand_b o) o.b)) && (is_known o && fits (operand_c o) o.c)
-    ≡ is_known o && operands_fit o
-unfolding operands_fit
-right_by_tables o = grind (arith, common_steps)
-
 -- ---- operands that fit
 module _ (o : Operation) (h : operands_fit o ≡ true) where
   pub fit-a : o.a < 64
@@ -32,4 +25,5 @@ module _ (o : Operation) (h : operands_fit o ≡ true) where
   unfolding operands_fit kind operand_c assigned_c
   fit-c l u = grind (arith, common_steps)
 
-pub ruleset fitting = (fit-a, fit-b, fit-c)
+-- what `value` and `holds` (src/inner/meaning.rt) rest on
+pub ruleset fitting = (assigning, fit-a, fit-b, fit-c)

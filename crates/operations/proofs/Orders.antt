@@ -65,9 +65,9 @@ module _ (f : Operation) (p : Bool) (g : Operation) (q : Bool) (k : paired f g �
   abbrev shows : Bool
   shows = tried_4 || seen t s
 
-  pub orders_is : shows ≡ together f p g q
+  pub orders_is : together f p g q ≡ shows
   unfolding together seats
-  orders_is = rw parts.2 (both_ways shows (any (λ x. any (seen x) l) l) there back)
+  orders_is = rw parts.2 (both_ways (any (λ x. any (seen x) l) l) shows back there)
     where
       by : (x y : ℕ) → T (has l x) → T (has l y) → T (seen x y) → T (any (λ x. any (seen x) l) l)
       by x y m n h = any_at (λ x. any (seen x) l) l x m (any_at (seen x) l y n h)
@@ -105,7 +105,3 @@ module _ (f : Operation) (p : Bool) (g : Operation) (q : Bool) (k : paired f g �
             | inl (inr A) ↦ T_or_l tried_4 (seen t s) (T_or_r tried_3 (seen s t) (seen_same x y s t A j))
             | inr A ↦ T_or_r tried_4 (seen t s) (seen_same x y t s A j)
           ]
-
-pub orders_of : (f : Operation) (p : Bool) (g : Operation) (q : Bool) → paired f g ≡ true
-    → together f p g q ≡ ((((shown (joint f.a) f p g q (order f) (plus (order f) 1) || shown (joint f.a) f p g q (order f) (order f)) || shown (joint f.a) f p g q (plus (order f) 1) (order f)) || shown (joint f.a) f p g q (order f) (order g)) || shown (joint f.a) f p g q (order g) (order f))
-orders_of f p g q k = sym (orders_is f p g q k)

@@ -47,6 +47,7 @@ tried_swap : {l : List ℕ} {f g : Operation} {v : ℕ → ℕ} {t : Seats} → 
 tried_swap R = record { x = R.x; y = R.y; x_in = R.x_in; y_in = R.y_in; same_f = R.same_g; same_g = R.same_f }
 
 -- ---- one assumption inside the other: x at i and y at all others
+
 -- m stands for n: x for u, or y for w
 data Seat (x u y w : ℕ) : ℕ → ℕ → Type 0 where
   at_x : Seat x u y w x u

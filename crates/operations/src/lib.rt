@@ -244,6 +244,7 @@ fn limit_c(code: u32) -> u64
 }
 
 // Whether the code is known and every operand is as it wants it.
+#[tactic(auto, unfolding(crate::specs::Operations::operands_fit))]
 pub fn is_right(o: Operation) -> bool
     ensures { result ≡ is_known o && operands_fit o }
 {

@@ -177,6 +177,7 @@ fn repeated(s: u32, t: u32, c: u32, d: u32) -> usize
 }
 
 // The search over all trials, without the points that are known to stand again.
+#[tactic(auto, using(crate::proofs::Fewer::few))]
 fn by_trials(f: Operation, p: bool, g: Operation, q: bool) -> bool
     ensures { result ≡ together f p g q }
 {
@@ -204,6 +205,7 @@ fn met_by_some(f: Operation, p: bool, g: Operation, q: bool, l: &[u32]) -> bool
 }
 
 // The search where both compare one variable with constants: one value is tried at a time.
+#[tactic(auto, using(crate::proofs::Fewer::few))]
 fn by_values(f: Operation, p: bool, g: Operation, q: bool) -> bool
     requires { (with_constant f ≡ true) × (with_constant g ≡ true) × (f.a ≡ g.a) }
     ensures { result ≡ together f p g q }
@@ -224,7 +226,7 @@ fn paired(f: Operation, g: Operation) -> bool
 
 // The search where neither has a constant: only the order of the two variables matters, so that one is tried below, at
 // and above the other; and, where the two orders differ, below in the one and above in the other.
-#[tactic(auto, using(crate::proofs::Orders::orders_of))]
+#[tactic(auto, using(crate::proofs::Orders::orders_is))]
 fn by_orders(f: Operation, p: bool, g: Operation, q: bool) -> bool
     requires { paired f g ≡ true }
     ensures { result ≡ together f p g q }
