@@ -235,8 +235,10 @@ fn by_orders(f: Operation, p: bool, g: Operation, q: bool) -> bool
     let t = order_of(g);
     let e = plus(s, 1);
     let seats = joint(f.a);
-    let seen = |x, y| shown(seats, f, p, g, q, x, y);
-    seen(s, e) || seen(s, s) || seen(e, s) || s != t && (seen(s, t) || seen(t, s))
+    shown(seats, f, p, g, q, s, e)
+        || shown(seats, f, p, g, q, s, s)
+        || shown(seats, f, p, g, q, e, s)
+        || s != t && (shown(seats, f, p, g, q, s, t) || shown(seats, f, p, g, q, t, s))
 }
 
 // Whether f compares a variable with itself, so that it makes the same of all values.
