@@ -6,9 +6,10 @@ use mathlib.Core.Logic.{dite}
 use Prim.Native.Nat.{ℕ, ◌+◌, ◌*◌, ◌-◌, ◌/◌, ◌%◌, ◌≤◌, ◌<◌}
 use native.Mathlib.Omega.{arith}
 use native.Mathlib.Decide.{ℕ_discrete, dec_lt}
-use borrow.Author.Tests.{lt-ltb, le-ltb}
-use lib.Dec.{ltb}
-use lib.ListN.{length, get_or, set, take, drop, replicate, length-set, get_or-eq_default}
+use borrow.Author.Tests.{lt-ltb, le-ltb, eq-eqb, ne_eqb}
+use lib.Dec.{eqb, ltb}
+use Rattle.std.specs.Int.{from_bool}
+use lib.ListN.{length, get_or, set, take, drop, replicate, get_or-eq_default, drop_of_length-le}
 use lib.Seq.{get_or-set_same, get_or-set_other, get_or-take, length-take-le}
 use Rattle.base.specs.Says.{eq, each, bool}
 use Rattle.base.specs.Walks.{pass, count}
@@ -82,7 +83,6 @@ pub record Redirecting (m t₀ : List ℕ) (p word : ℕ) (t : List ℕ) (rest :
   pub k : ℕ
   pub coming : Coming word rest k
   pub done : Remaking (128 * p) (128 * p + 128) (redirected m) t₀ t (128 * p + 2 * k)
-  pub long : length t ≡ 8192
 
 module _ (m t₀ : List ℕ) (p word : ℕ) (U : (i r : ℕ) → i < 64 → r < 2 → (get_or t₀ (index (64 * p + i) r) 0 ≡ 65535 → ⊥) → bit word i ≡ 1) where
   -- pairs between the bits have no targets
@@ -98,7 +98,7 @@ module _ (m t₀ : List ℕ) (p word : ℕ) (U : (i r : ℕ) → i < 64 → r < 
   pub word_start : length t₀ ≡ 8192 → p < 64 → Redirecting m t₀ p word t₀ word
   word_start l b =
       let z : 128 * p + 2 * 0 ≡ 128 * p = omega arith in
-      record { k = 0; coming = coming_start word; done = rw z (remaking_start (128 * p) (128 * p + 128) (redirected m) t₀ (omega arith) (omega arith)); long = l }
+      record { k = 0; coming = coming_start word; done = rw z (remaking_start (128 * p) (128 * p + 128) (redirected m) t₀ (omega arith) (omega arith)) }
 
   module _ {t : List ℕ} {rest : ℕ} (R : Redirecting m t₀ p word t rest) where
     on : {q : ℕ} → LowestFrom word R.k q → Remaking (128 * p) (128 * p + 128) (redirected m) t₀ t (128 * p + 2 * q)
@@ -111,7 +111,7 @@ module _ (m t₀ : List ℕ) (p word : ℕ) (U : (i r : ℕ) → i < 64 → r < 
         let one = remaking_more (128 * p) (128 * p + 128) (redirected m) (on (coming_next R.coming L.0 L.1)) (omega (arith, L.1)) f in
         let two = remaking_more (128 * p) (128 * p + 128) (redirected m) one (omega (arith, L.1)) (g ∙ ap (redirected m) (sym (get_or-set_other t at (at + 1) x 0 (λ h. omega arith)))) in
         let w : at + 1 + 1 ≡ 128 * p + 2 * (q + 1) = omega arith in
-        record { k = q + 1; coming = coming_more R.coming L.0 L.1 e; done = rw w at two; long = simp length-set R.long }
+        record { k = q + 1; coming = coming_more R.coming L.0 L.1 e; done = rw w at two }
 
     pub word_less : {q z : ℕ} → LowestFrom rest 0 q × (q < 64) → z ≡ without rest q → z < rest
     word_less L e = coming_less R.coming L.0 L.1 e
@@ -220,16 +220,11 @@ module _ (heads : Heads) (m : List ℕ) {k : ℕ} {b : Bool} (a : k ≡ start_ke
       let v = n ∙ ap new_of e in
       rw (ap (marked m) (sym a) ∙ sym d ∙ t) (ap not (h ∙ (λ i. bool (fair heads (u i) (v i)))))
 
-pub lone_is : (heads : Heads) {m t s w m₁ m₂ t₁ s₁ w₁ : List ℕ} {k : ℕ} → Sized (buffers m t s w) → k ≡ start_kept heads
-    → m₁ ≡ replicate (length m) 0 → m₂ ≡ set m₁ k 2 → t₁ ≡ replicate (length t) 65535 → s₁ ≡ replicate (length s) 0 → w₁ ≡ replicate (length w) 0
-    → buffers m₂ t₁ s₁ w₁ ≡ lone heads
+pub lone_is : (heads : Heads) {m t s w : List ℕ} {k : ℕ} → k ≡ start_kept heads
+    → m ≡ replicate 4160 0 → t ≡ replicate 8192 65535 → s ≡ replicate 4096 0 → w ≡ replicate 4096 0
+    → buffers (set m k 2) t s w ≡ lone heads
 unfolding lone
-lone_is heads z f a b c d e =
-    graph-eq
-    (b ∙ (λ i. set (a i) (f i) 2) ∙ ap (λ (k : ℕ). set (replicate k 0) (start_kept heads) 2) z.marks)
-    (c ∙ ap (λ (k : ℕ). replicate k 65535) z.targets)
-    (d ∙ ap (λ (k : ℕ). replicate k 0) z.sets)
-    (e ∙ ap (λ (k : ℕ). replicate k 0) z.waiting)
+lone_is heads f a b c d = graph-eq (λ i. set (a i) (f i) 2) b c d
 
 -- its marks: one kept node, no open or covered one
 module _ (heads : Heads) {m t s w : List ℕ} (e : buffers m t s w ≡ lone heads) where
@@ -254,30 +249,32 @@ module _ (heads : Heads) {m t s w : List ℕ} (e : buffers m t s w ≡ lone head
       omega (arith, ap (count 2) is, a, b)
 
 -- ---- counting
--- of the elements from a up to i, n are v
-pub record Counting (v : ℕ) (l : List ℕ) (a n i : ℕ) : Type 0 where
-  pub few : n ≤ i - a
-  pub least : a ≤ i
-  pub same : count v (drop a l) ≡ n + count v (drop i l)
+-- of the elements up to i, n are v
+pub record Counting (v : ℕ) (l : List ℕ) (n i : ℕ) : Type 0 where
+  pub few : n ≤ i
+  pub same : count v l ≡ n + count v (drop i l)
 
 module _ (v : ℕ) (l : List ℕ) where
-  pub count-start : (a : ℕ) → Counting v l a 0 a
-  count-start a = record { few = omega arith; least = omega arith; same = omega arith }
+  pub count-start : Counting v l 0 0
+  count-start = record { few = omega arith; same = omega arith }
 
-  -- one element more
-  pub count-one : {a b n i o : ℕ} → Counting v l a n i → i < b → b ≤ length l → (get_or l i 0 ≡ v → o ≡ 1) × ((get_or l i 0 ≡ v → ⊥) → o ≡ 0) × (o ≤ 1) → Counting v l a (n + o) (i + 1)
-  count-one {i = i} C h k e =
-      record {
-        few = omega (arith, C.few, C.least, e.2);
-        least = omega (arith, C.least);
-        same =
-            dite (ℕ_discrete (get_or l i 0) v)
-            (λ y. omega (arith, C.same, e.0 y, count-here v l i (omega arith) y)) (λ y. omega (arith, C.same, e.1 y, count_else v l i (omega arith) y));
-      }
+  module _ {n i : ℕ} (C : Counting v l n i) where
+    -- one element more
+    pub count-one : {o : ℕ} → i < length l → o ≡ from_bool (eqb (get_or l i 0) v) → Counting v l (n + o) (i + 1)
+    count-one {o} b e = go (ℕ_discrete (get_or l i 0) v)
+      where
+        go : Dec (get_or l i 0 ≡ v) → Counting v l (n + o) (i + 1)
+        go (yes y) =
+            let z : o ≡ 1 = e ∙ ap from_bool (eq-eqb (get_or l i 0) v y) in
+            record { few = omega (arith, C.few); same = omega (arith, C.same, count-here v l i b y) }
+        go (no y) =
+            let z : o ≡ 0 = e ∙ ap from_bool (ne_eqb (get_or l i 0) v y) in
+            record { few = omega (arith, C.few); same = omega (arith, C.same, count_else v l i b y) }
 
-  -- a row of 64
-  pub count-row : {a n i : ℕ} → Counting v l a n i → i ≤ a + 64 → a + 64 ≤ i → (count v (drop a l) ≡ n + count v (drop (a + 64) l)) × (n ≤ 64)
-  count-row {a} {n} {i} C p q = let e : i ≡ a + 64 = omega arith in (rw e at C.same, omega (arith, C.few))
+    -- all of them
+    pub count-all : length l ≤ i → n ≡ count v l
+    unfolding count
+    count-all b = let z : count v (drop i l) ≡ 0 = ap (count v) (drop_of_length-le l b) in omega (arith, C.same)
 
 -- ---- the end
 module _ (heads : Heads) (m t s w : List ℕ) {b : Bool} (e : b ≡ alone heads m) where
@@ -314,7 +311,7 @@ module _ (heads : Heads) (m : List ℕ) {b : Bool} (e : b ≡ alone heads m) whe
 
   pub summed_joint : {k r : ℕ} {c : Counts} (t m₁ : List ℕ) → b ≡ false → k ≡ start_pair heads → length m ≡ 4160 → length t ≡ 8192
       → (m₁ ≡ final_marks k t m) × (c.opened ≡ count 1 m₁) × (c.covered ≡ count 3 m₁)
-      → (count 2 (drop 4096 m₁) ≡ r + count 2 (drop (4096 + 64) m₁)) × (r ≤ 64)
+      → r ≡ count 2 (drop 4096 m₁)
       → record { start = k; opened = c.opened; kept = r; covered = c.covered } ≡ summary (start_of heads m) m₁
   summed_joint {k} t m₁ q d lm lt f h =
       summary-is m₁ (start_joint heads m e q d) f.1 (kept-is k t m lm lt (omega arith) f.0 h) f.2

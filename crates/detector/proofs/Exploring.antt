@@ -25,12 +25,11 @@ use Rattle.detector.proofs.Turns.{next-waits}
 use Rattle.detector.proofs.Measure.{weight, turns, begun-shaped, begun_weight}
 
 -- four buffers that were filled, and two that were then written, are a graph that has begun
-pub begun-is : (heads : Heads) {m m' t s w w' : List ℕ} {first : ℕ} → first ≡ start_pair heads
-    → m ≡ replicate 4160 0 → m' ≡ set m first 1 → t ≡ replicate 8192 65535 → s ≡ replicate 4096 0
-    → w ≡ replicate 4096 0 → w' ≡ set w first 1
-    → buffers m' t s w' ≡ begun heads
+pub begun-is : (heads : Heads) {m t s w : List ℕ} {first : ℕ} → first ≡ start_pair heads
+    → m ≡ replicate 4160 0 → t ≡ replicate 8192 65535 → s ≡ replicate 4096 0 → w ≡ replicate 4096 0
+    → buffers (set m first 1) t s (set w first 1) ≡ begun heads
 unfolding begun
-begun-is heads f a b c d e g = graph-eq (b ∙ (λ i. set (a i) (f i) 1)) c d (g ∙ (λ i. set (e i) (f i) 1))
+begun-is heads f a b c d = graph-eq (λ i. set (a i) (f i) 1) b c (λ i. set (d i) (f i) 1)
 
 -- the loop stands at g, and the two sets have whom they should
 pub record Building (X : Compared) (g : Buffers) (waits seen : List ℕ) : Type 0 where

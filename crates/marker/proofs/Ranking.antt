@@ -117,12 +117,10 @@ module _ (n : ℕ) (t m : List ℕ) (lm : length m ≡ 4160) (lt : length t ≡ 
         omega arith
 
     -- only kept nodes are kept
-    pub kept-is : {r : ℕ} → (count 2 (drop 4096 x) ≡ r + count 2 (drop (4096 + 64) x)) × (r ≤ 64) → r ≡ count 2 x
-    unfolding count
+    pub kept-is : {r : ℕ} → r ≡ count 2 (drop 4096 x) → r ≡ count 2 x
     kept-is c =
-        let z : count 2 (drop 4160 x) ≡ 0 = ap (count 2) (drop_of_length-le x {i = 4160} (omega (arith, ranks.long))) in
         let g = count_gap 2 x {i = 0} 4096 (omega arith) (omega (arith, ranks.long)) (λ k a d q. omega (arith, rank-node (set m n 1) x ranks k q)) in
-        omega (arith, c.0)
+        omega arith
 
   -- before covering none was covered
   covered-is : {x : List ℕ} (y r : ℕ) → x ≡ all_opened t (set (plain_marks m) n 1) → y ≡ r + count 3 x → r ≡ y

@@ -1,12 +1,11 @@
 // The end of a build: targets of kept places, the lone kept start, and the marks of Algorithm 1.
-ghost use Rattle.std.specs.Prelude.{◌≡◌, false, map, ℕ, ◌+◌, ◌*◌, ◌≤◌, ◌<◌, length, get_or, take, drop};
+ghost use Rattle.std.specs.Prelude.{◌≡◌, false, map, ℕ, ◌+◌, ◌*◌, ◌≤◌, ◌<◌, length, get_or, take};
 ghost use Rattle.base.specs.Walks.{count};
 ghost use Rattle.sets.specs.Sets.{bit};
 ghost use Rattle.records.specs.Records.{index};
 ghost use Rattle.chart.specs.Places.{start_pair};
 ghost use Rattle.words.specs.inner.Words.{Member};
 ghost use Rattle.graph.specs.Buffers.{buffers};
-ghost use Rattle.graph.specs.inner.Sized.{Sized};
 ghost use Rattle.graph.specs.inner.Tracks.{Covers};
 ghost use Rattle.marker.specs.inner.Spans.{remade};
 ghost use Rattle.condition.specs.Builds.{redirected, alone, lone, finished, start_of, summary};
@@ -15,16 +14,17 @@ use crate::Summary;
 use align::inner::step::fair;
 use chart::charts::Heads;
 use chart::inner::pairs::{kept, new_of, old_of, start_kept, start_pair};
-use graph::inner::buffers;
+use graph::Waiting;
 use graph::inner::graphs::is_marked;
 use marker::inner::marks::rank;
 use records::inner::marks::blank;
+use records::{Marks, Sets, Targets};
 use sets::inner::bits::without;
+use words::Pairs;
 use words::inner::members;
 
 // A target whose new place is kept becomes that kept node. Both are asked at once, so that there is one branch alone.
-fn redirect(marks: &[u8], x: u16) -> u16
-    requires { length marks.now ≡ 4160 }
+fn redirect(marks: &Marks, x: u16) -> u16
     ensures { result ≡ redirected marks.now x }
 {
     let node = kept(new_of(x as usize));
@@ -35,8 +35,8 @@ fn redirect(marks: &[u8], x: u16) -> u16
 }
 
 // Both targets of the pairs with old place p that are bits of the word: no other has one.
-fn redirect_word(marks: &[u8], targets: &mut [u16], p: usize, word: u64)
-    requires marks_len { (length marks.now ≡ 4160) × (length targets.old ≡ 8192) × (p < 64) }
+fn redirect_word(marks: &Marks, targets: &mut Targets, p: usize, word: u64)
+    requires p_bound { p < 64 }
     requires by_index { (i r : ℕ) → i < 64 → r < 2 → (get_or targets.old (index (64 * p + i) r) 0 ≡ 65535 → ⊥) → bit word i
         ≡ 1 }
     ensures { targets.new ≡ remade (128 * p) (128 * p + 128) (redirected marks.now)
@@ -55,22 +55,20 @@ fn redirect_word(marks: &[u8], targets: &mut [u16], p: usize, word: u64)
 }
 
 // Those of every pair that was seen.
-fn redirect_all(marks: &[u8], targets: &mut [u16], seen: &[u64])
-    requires marks_len { (length marks.now ≡ 4160) × (length targets.old ≡ 8192) × (length seen.now ≤ 64) }
+fn redirect_all(marks: &Marks, targets: &mut Targets, seen: &[u64])
+    requires seen_len { length seen.now ≤ 64 }
     requires by_index { (i r : ℕ) → i < 4096 → r < 2 → (get_or targets.old (index i r) 0 ≡ 65535 → ⊥)
         → Member seen.now i }
     ensures { targets.new ≡ map (redirected marks.now) targets.old }
 {
-    let mut p = 0;
-    while p < seen.len() {
-        redirect_word(marks, targets, p, seen[p]);
-        p += 1;
+    for (p, word) in seen.iter().enumerate() {
+        redirect_word(marks, targets, p, *word);
     }
 }
 
 // The same. Where no place is kept, which is soon seen, no target is redirected.
-fn redirect_kept(marks: &[u8], targets: &mut [u16], seen: &[u64])
-    requires marks_len { (length marks.now ≡ 4160) × (length targets.old ≡ 8192) × (length seen.now ≤ 64) }
+fn redirect_kept(marks: &Marks, targets: &mut Targets, seen: &[u64])
+    requires seen_len { length seen.now ≤ 64 }
     requires by_index { (i r : ℕ) → i < 4096 → r < 2 → (get_or targets.old (index i r) 0 ≡ 65535 → ⊥)
         → Member seen.now i }
     ensures { targets.new ≡ map (redirected marks.now) targets.old }
@@ -86,19 +84,16 @@ fn used(seen: &[u64]) -> usize
     ensures { (result ≤ length seen.now) × ((n : ℕ) → Member seen.now n
         → Member (take result seen.now) n) }
 {
-    let mut n = seen.len();
-    while 0 < n {
-        if seen[n - 1] != 0 {
-            return n;
+    for n in (0..seen.len()).rev() {
+        if seen[n] != 0 {
+            return n + 1;
         }
-        n -= 1;
     }
-    n
+    0
 }
 
 // Whether the new start is kept, or is the new alarm without the old one being the old alarm.
-fn is_alone(heads: Heads, marks: &[u8]) -> bool
-    requires { length marks.now ≡ 4160 }
+fn is_alone(heads: Heads, marks: &Marks) -> bool
     ensures { result ≡ alone heads marks.now }
 {
     if is_marked(marks, start_kept(heads)) {
@@ -111,43 +106,28 @@ fn is_alone(heads: Heads, marks: &[u8]) -> bool
 // The new start alone, kept.
 fn leave_alone(
     heads: Heads,
-    marks: &mut [u8],
-    targets: &mut [u16],
-    sets: &mut [u64],
-    waiting: &mut [u8],
+    marks: &mut Marks,
+    targets: &mut Targets,
+    sets: &mut Sets,
+    waiting: &mut Waiting,
 )
-    requires { Sized (buffers marks.old targets.old sets.old waiting.old) }
-    ensures { buffers marks.new targets.new sets.new waiting.new
-        ≡ lone heads }
+    ensures { buffers marks.new targets.new sets.new waiting.new ≡ lone heads }
 {
-    buffers::fill8(marks, 0);
-    buffers::put8(marks, start_kept(heads), 2);
-    buffers::fill16(targets, 65535);
-    buffers::fill64(sets, 0);
-    buffers::fill8(waiting, 0);
+    marks.fill(0);
+    marks[start_kept(heads)] = 2;
+    targets.fill(65535);
+    sets.fill(0);
+    waiting.fill(0);
 }
 
-// One, if a mark is v.
-fn one_if(x: u8, v: u8) -> u8
-    ensures { (x ≡ v → result ≡ 1) × ((x ≡ v → ⊥) → result ≡ 0) × (result ≤ 1) }
-{
-    if x == v {
-        return 1;
-    }
-    0
-}
-
-// How many of the 64 marks from i on are v. Few enough for a small number, so that many are counted together.
-fn count_row(marks: &[u8], i: usize, v: u8) -> usize
-    requires { i + 64 ≤ length marks.now }
-    ensures { (count v (drop i marks.now) ≡ result + count v (drop (i + 64) marks.now))
-        × (result ≤ 64) }
+// How many of a row of marks are v. They are few enough for a small number, so that many are counted together.
+fn count_row(row: &[u8], v: u8) -> usize
+    requires { length row.now ≤ 64 }
+    ensures { result ≡ count v row.now }
 {
     let mut n = 0;
-    let mut k = i;
-    while k < i + 64 {
-        n += one_if(marks[k], v);
-        k += 1;
+    for mark in row {
+        n += u8::from(*mark == v);
     }
     n as usize
 }
@@ -157,18 +137,16 @@ fn count_row(marks: &[u8], i: usize, v: u8) -> usize
 // unless its new place is left alone. Whoever has buffers as found hands over a set with all pairs.
 pub fn finish(
     heads: Heads,
-    marks: &mut [u8],
-    targets: &mut [u16],
-    sets: &mut [u64],
-    waiting: &mut [u8],
-    seen: &[u64],
+    marks: &mut Marks,
+    targets: &mut Targets,
+    sets: &mut Sets,
+    waiting: &mut Waiting,
+    seen: &Pairs,
 ) -> Summary
-    requires sized { Sized (buffers marks.old targets.old sets.old waiting.old) }
-    requires covers { Covers seen.now (buffers marks.old targets.old sets.old waiting.old)
+    requires { Covers seen.now (buffers marks.old targets.old sets.old waiting.old)
         × (alone heads marks.old ≡ false → Member seen.now (start_pair heads)) }
     ensures { (buffers marks.new targets.new sets.new waiting.new
-        ≡ finished heads (buffers marks.old targets.old sets.old
-        waiting.old))
+        ≡ finished heads (buffers marks.old targets.old sets.old waiting.old))
         × (result ≡ summary (start_of heads marks.old) marks.new) }
 {
     if is_alone(heads, &*marks) {
@@ -188,7 +166,7 @@ pub fn finish(
     Summary {
         start: first,
         opened: counts.opened,
-        kept: count_row(&*marks, 4096, 2),
+        kept: count_row(&marks[4096..], 2),
         covered: counts.covered,
     }
 }

@@ -1,14 +1,16 @@
 -- `condition::inner::finish::count_row` meets its contract. Assumes nothing.
-use Rattle.condition.proofs.Finishing.{count-start, count-one, count-row}
-use borrow.Author.Rules.{rules}
 use native.Mathlib.Omega.{arith}
+use Rattle.condition.proofs.Finishing.{count-start, count-one, count-all}
 use Rattle.condition.proofs.inner.finish.count_row.Goals as goal
 
-pub loop-k-init : goal.loop-k-init
-loop-k-init c = (count-start _ _ _, search rules)
+pub loop-mark-init : goal.loop-mark-init
+loop-mark-init c = count-start _ _
 
-pub loop-k-preserved : goal.loop-k-preserved
-loop-k-preserved c = (search count-one, search rules)
+pub overflow_add-n : goal.overflow_add-n
+overflow_add-n c = omega (arith, (count-one _ _ c.loop-mark.invariant c.loop-mark-test.true c.from-n.ensures).few)
+
+pub loop-mark-preserved : goal.loop-mark-preserved
+loop-mark-preserved c = count-one _ _ c.loop-mark.invariant c.loop-mark-test.true c.from-n.ensures
 
 pub returns : goal.returns
-returns c = count-row _ _ c.loop-k.invariant.0 c.loop-k.invariant.1 (omega arith)
+returns c = count-all _ _ c.loop-mark.invariant (omega arith)

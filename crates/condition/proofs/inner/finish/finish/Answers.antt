@@ -1,9 +1,14 @@
 -- `condition::inner::finish::finish` meets its contract. Assumes nothing.
-use mathlib.Core.Path.{sym, ◌∙◌}
+use mathlib.Core.Path.{sym, ap, ◌∙◌}
+use lib.ListN.{drop}
 use lib.Seq.{length-take-le}
 use Rattle.condition.proofs.Finishing.{used_most, used_targets, used_holds, used_here, finish_alone, finish_joint, summed_alone, summed_joint}
 use borrow.Author.Rules.{rules}
+use native.Mathlib.Omega.{arith}
+use Rattle.std.proofs.lemmas.List.{take_all, length-drop}
+use Rattle.base.specs.Walks.{count}
 use Rattle.condition.proofs.inner.finish.finish.Goals as goal
+
 
 pub returns-then-is_alone : goal.returns-then-is_alone
 returns-then-is_alone c = (search finish_alone, summed_alone _ _ c.is_alone.ensures c.if-is_alone.true c.start_kept.ensures c.leave_alone.ensures)
@@ -12,14 +17,17 @@ pub slice_bounds-cut-end : goal.slice_bounds-cut-end
 slice_bounds-cut-end c = sym (length-take-le _ _ c.used-top.ensures.0)
 
 pub redirect_kept-requires : goal.redirect_kept-requires
-redirect_kept-requires c = let C = c.requires.covers.0 in
+redirect_kept-requires c = let C = c.requires.0 in
     let U = c.used-top.ensures in
-    record { marks_len = (search rules, search rules, used_most C U); by_index = used_targets C U }
+    record { seen_len = used_most C U; by_index = used_targets C U }
 
 pub rank-counts-requires : goal.rank-counts-requires
 rank-counts-requires c =
     let U = c.used-top.ensures in
-    (search rules, search rules, search rules, used_holds c.requires.covers.0 U, used_here c.requires.covers.0 U c.start_pair-first.ensures (c.requires.covers.1 (sym c.is_alone.ensures ∙ c.if-is_alone.false)))
+    (omega (arith, c.start_pair-first.ensures), used_holds c.requires.0 U, used_here c.requires.0 U c.start_pair-first.ensures (c.requires.1 (sym c.is_alone.ensures ∙ c.if-is_alone.false)))
 
 pub returns : goal.returns
-returns c = (search finish_joint, summed_joint _ _ c.is_alone.ensures _ _ c.if-is_alone.false c.start_pair-first.ensures c.requires.sized.marks (c.redirect_kept.auto.targets ∙ c.requires.sized.targets) c.rank-counts.ensures c.count_row.ensures)
+returns c =
+    let m = c.rank-counts.new.marks in
+    let last = take_all 64 (drop 4096 m) (omega (arith, length-drop 4096 m, c.rank-counts.array_long)) in
+    (search finish_joint, summed_joint _ _ c.is_alone.ensures _ _ c.if-is_alone.false c.start_pair-first.ensures c.told-marks c.redirect_kept.array_long c.rank-counts.ensures (c.count_row.ensures ∙ ap (count 2) last))

@@ -1,11 +1,6 @@
 -- `condition::inner::finish::redirect_all` meets its contract. Assumes nothing.
-use Prim.Native.Nat.{◌-◌}
-use lib.ListN.{length}
 use Rattle.condition.proofs.Finishing.{Through}
 use Rattle.condition.proofs.inner.finish.redirect_all.Given as goal
 
 abbrev pub invariant-loop-p : goal.invariant-loop-p
 invariant-loop-p l = Through l.marks l.initial.targets l.targets l.p
-
-abbrev pub decreases-loop-p : goal.decreases-loop-p
-decreases-loop-p l = length l.seen - l.p

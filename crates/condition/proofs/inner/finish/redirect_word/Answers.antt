@@ -1,15 +1,10 @@
 -- `condition::inner::finish::redirect_word` meets its contract. Assumes nothing.
 use native.Mathlib.Omega.{arith}
-use lib.ListN.{length-set}
 use Rattle.condition.proofs.Finishing.{word_start, word_again, word_less, word_end}
-use native.Mathlib.Omega.{arith}
 use Rattle.condition.proofs.inner.finish.redirect_word.Goals as goal
 
 pub loop-rest-init : goal.loop-rest-init
-loop-rest-init c = search word_start
-
-pub bounds-targets-at-in-loop-rest-3 : goal.bounds-targets-at-in-loop-rest-3
-bounds-targets-at-in-loop-rest-3 c = simp length-set (omega (arith, c.loop-rest.invariant.long, c.lowest-q.ensures.1))
+loop-rest-init c = word_start _ _ _ _ c.requires.by_index c.told-targets c.requires.p_bound
 
 pub loop-rest-smaller : goal.loop-rest-smaller
 loop-rest-smaller c = word_less _ _ _ _ c.requires.by_index c.loop-rest.invariant c.lowest-q.ensures c.without-rest.ensures

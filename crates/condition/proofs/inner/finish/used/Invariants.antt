@@ -4,6 +4,3 @@ use Rattle.condition.proofs.inner.finish.used.Given as goal
 
 abbrev pub invariant-loop-n : goal.invariant-loop-n
 invariant-loop-n l = Ends l.seen l.n
-
-abbrev pub decreases-loop-n : goal.decreases-loop-n
-decreases-loop-n l = l.n
