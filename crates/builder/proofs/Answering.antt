@@ -7,7 +7,7 @@ use Prim.Native.Nat.{ℕ}
 use native.Mathlib.Omega.{arith}
 use Rattle.base.specs.declared.Refusal.{Refusal}
 use Rattle.base.specs.Says.{bool}
-use Rattle.base.proofs.Answers.{different}
+use Rattle.base.specs.Answers.{Answer}
 use Rattle.base.proofs.Says.{says}
 use Rattle.base.proofs.Tests.{T_true}
 use Rattle.chart.proofs.Words.{Words}
@@ -25,16 +25,7 @@ use Rattle.condition.specs.Builds.{finished, start_of, built, recorded, summary}
 use Rattle.builder.proofs.Passing.{record_passes}
 use Rattle.paper.specs.Returned.{Returned}
 use Rattle.paper.proofs.Theorem.{demand_2}
-use Rattle.builder.specs.declared.answers.Built.{Built}
-use Rattle.builder.specs.declared.answers.Built.TheVariants as builts
-use Rattle.builder.specs.Answers.{told, lent, refusal, answered, left}
-
--- answers that say the same are the same
-pub told-one : (x y : Built) → told x ≡ told y → x ≡ y
-told-one (builts.Done s) (builts.Done t) e = let z : s ≡ t = cc in ap builts.Done z
-told-one (builts.Done s) (builts.Refused r) e = absurd (different e)
-told-one (builts.Refused r) (builts.Done t) e = absurd (different (sym e))
-told-one (builts.Refused r) (builts.Refused q) e = let z : r ≡ q = cc in ap builts.Refused z
+use Rattle.builder.specs.Answers.{lent, refusal, answered, left}
 
 -- ---- what is not refused
 pub record Accepted (X : Compared) (g : Buffers) : Type 0 where
@@ -92,7 +83,7 @@ module _ (X : Compared) (g : Buffers) (A : Accepted X g) {m₁ t₁ s₁ w₁ : 
   done_leaves = b ∙ rw (A.none-due, left)
 
   -- what is left, with the start that is answered, is the record of the build
-  module _ (x : Summary) (e : builts.Done sm ≡ builts.Done x) where
+  module _ (x : Summary) (e : ◌≡◌ {A = Answer Summary} (Ok sm) (Ok x)) where
     record_is : record_of x.start m₁ t₁ s₁ ≡ recorded X
     unfolding recorded summary
     record_is =
@@ -116,5 +107,5 @@ module _ (X : Compared) (g : Buffers) {r : Refusal} (e : refusal X g ≡ Some r)
   unfolding left
   refused-leaves = rw (e, left)
 
-pub never_done : {A : Type 0} (r : Refusal) (x : Summary) → builts.Refused r ≡ builts.Done x → A
+pub never_done : {A : Type 0} (r : Refusal) (x : Summary) → ◌≡◌ {A = Answer Summary} (Err r) (Ok x) → A
 never_done r x e = let z : ◌≡◌ {A = ℕ} 0 1 = cc in absurd (omega arith)

@@ -1,7 +1,7 @@
 -- The numbers of a build are small, and its refusals fit. Assumes nothing.
 use mathlib.Core.Path.{◌≡◌, sym, ap, subst, ◌∙◌}
 use mathlib.Core.Logic.{⊎_elim}
-use Rattle.std.specs.Prelude.{None}
+use Rattle.std.specs.Prelude.{None, Ok, Err}
 use Prim.Native.Nat.{ℕ, ◌≤◌}
 use native.Mathlib.Omega.{arith}
 use Rattle.base.specs.declared.Refusal.{Refusal}
@@ -20,9 +20,8 @@ use Rattle.checker.proofs.Passed.{lengths, passed}
 use Rattle.graph.specs.Buffers.{Buffers}
 use Rattle.condition.specs.declared.Summary.{Summary}
 use Rattle.condition.specs.Builds.{recorded, summary}
-use Rattle.builder.specs.declared.answers.Built.{Built}
-use Rattle.builder.specs.declared.answers.Built.TheVariants.{Done, Refused}
-use Rattle.builder.specs.Answers.{told, lent, refusal, answered}
+use Rattle.base.specs.Answers.{Answer}
+use Rattle.builder.specs.Answers.{lent, refusal, answered}
 use Rattle.builder.specs.inner.Small.{Small}
 use Rattle.builder.proofs.Passing.{record_passes}
 use Rattle.builder.proofs.Answering.{accepted}
@@ -55,9 +54,9 @@ module _ (X : Compared) (g : Buffers) where
       (λ e. let A = accepted X g e in summary-small X (recorded X) (record_passes X A.old-faultless A.new-faultless A.named))
 
   -- the case of it that the code comes upon
-  module _ {b : Built} (is : told b ≡ answered X g) where
-    pub done_small : {s : Summary} → b ≡ Done s → Small s
-    done_small e = subst (FitsOr Small) (sym is ∙ ap told e) build_fits
+  module _ {b : Answer Summary} (is : b ≡ answered X g) where
+    pub done_small : {s : Summary} → b ≡ Ok s → Small s
+    done_small e = subst (FitsOr Small) (sym is ∙ e) build_fits
 
-    pub refused-fits : {r : Refusal} → b ≡ Refused r → Fits r
-    refused-fits e = subst (FitsOr Small) (sym is ∙ ap told e) build_fits
+    pub refused-fits : {r : Refusal} → b ≡ Err r → Fits r
+    refused-fits e = subst (FitsOr Small) (sym is ∙ e) build_fits

@@ -1,6 +1,6 @@
 -- What a build answers, and what it leaves in the four buffers ("Who can cause a refusal", "Four questions for each
 -- public call").
-use Rattle.std.specs.Prelude.{Option, None, Some, length, Ok, Err}
+use Rattle.std.specs.Prelude.{Option, None, Some, length}
 use Rattle.base.specs.Answers.{Answer}
 use Rattle.base.specs.declared.Refusal.{Refusal}
 use Rattle.base.specs.Refusals.{unless}
@@ -10,14 +10,7 @@ use Rattle.chart.specs.Faults.{judged}
 use Rattle.checker.specs.Checks.{sized}
 use Rattle.condition.specs.declared.Summary.{Summary}
 use Rattle.condition.specs.Builds.{built, recorded, summary}
-use Rattle.builder.specs.declared.answers.Built.{Built}
-use Rattle.builder.specs.declared.answers.Built.TheVariants as builts
 use Rattle.graph.specs.Buffers.{Buffers, graph_in}
-
--- what the code's answer says, "for each of the enum's cases"
-abbrev pub told : Built → Answer Summary
-told (builts.Done s) = Ok s
-told (builts.Refused r) = Err r
 
 -- "Lent: marks (4,160 bytes), targets (8,192 u16, [..]), sets (4,096 u64, [..]), waiting (4,096 bytes)": the stated
 -- lengths

@@ -2,29 +2,26 @@
 // bad input itself.
 #![tactic(auto)]
 
-ghost use Rattle.std.specs.Prelude.{◌≡◌, None};
+ghost use Rattle.std.specs.Prelude.{◌≡◌, None, Ok};
 ghost use Rattle.base.specs.Says.{bool};
 ghost use Rattle.chart.specs.Compared.{compared};
 ghost use Rattle.chart.specs.Faultless.{FaultlessChart};
 ghost use Rattle.records.specs.Records.{record_of};
 ghost use Rattle.checker.specs.Checks.{refusal as check_refusal};
-ghost use Rattle.builder.specs.declared.answers.Built.TheVariants.{Done};
 ghost use Rattle.condition.specs.declared.Summary.{Summary};
 ghost use Rattle.graph.specs.Buffers.{buffers};
 ghost use Rattle.graph.specs.inner.Sized.{Sized};
 ghost use Rattle.condition.specs.Builds.{built, recorded, summary};
 ghost use Rattle.paper.specs.Returned.{Returned};
-ghost use Rattle.builder.specs.Answers.{told, lent, answered, left};
+ghost use Rattle.builder.specs.Answers.{lent, answered, left};
 
-use answers::Built;
-use chart::charts::{Heads, Judged};
-use chart::inner::rows;
+use base::Refusal;
+use chart::charts::Heads;
+use chart::inner::comparison::Comparison;
 use checker::inner::lengths::sized;
 use condition::Summary;
 use condition::inner::finish::finish;
 use detector::inner::explore::explore;
-
-pub mod answers; // answers.rt: what a build answers
 
 // Whether each of the four lent lengths is the stated one.
 fn lent(marks: &[u8], targets: &[u16], sets: &[u64], waiting: &[u8]) -> bool
@@ -55,11 +52,12 @@ fn complete<'a>(
         (recorded (compared heads old_rows.now new_rows.now)).start
         marks.new) }
 {
-    let index = rows::index(old_rows, new_rows);
-    let mut seen = [0u64; 64];
-    explore(
-        heads, old_rows, new_rows, &index, marks, targets, sets, waiting, &mut seen,
-    );
+    let charts = Comparison::new(heads, old_rows, new_rows);
+    let marks = marks.as_mut_array::<4160>().unwrap();
+    let targets = targets.as_mut_array::<8192>().unwrap();
+    let sets = sets.as_mut_array::<4096>().unwrap();
+    let waiting = waiting.as_mut_array::<4096>().unwrap();
+    let seen = explore(&charts, marks, targets, sets, waiting);
     finish(heads, marks, targets, sets, waiting, &seen)
 }
 
@@ -74,25 +72,22 @@ pub fn build<'a>(
     targets: &mut [u16],
     sets: &mut [u64],
     waiting: &mut [u8],
-) -> Built
-    ensures answer { told result
-        ≡ answered (compared heads old_rows.now new_rows.now)
+) -> Result<Summary, Refusal>
+    ensures answer { result ≡ answered (compared heads old_rows.now new_rows.now)
         (buffers marks.old targets.old sets.old waiting.old) }
     ensures leaves { buffers marks.new targets.new sets.new waiting.new
         ≡ left (compared heads old_rows.now new_rows.now)
         (buffers marks.old targets.old sets.old waiting.old) }
-    ensures passes { (s : Summary) → result ≡ Done s
+    ensures passes { (s : Summary) → result ≡ Ok s
         → check_refusal (compared heads old_rows.now new_rows.now)
         (record_of s.start marks.new targets.new sets.new) ≡ None }
-    ensures algorithms { (s : Summary) → result ≡ Done s
+    ensures algorithms { (s : Summary) → result ≡ Ok s
         → Returned (compared heads old_rows.now new_rows.now)
         (record_of s.start marks.new targets.new sets.new) }
 {
     let lengths = lent(&*marks, &*targets, &*sets, &*waiting);
-    match chart::judged(lengths, heads, old_rows, new_rows) {
-        Judged::Faultless => Built::Done(complete(
-            heads, old_rows, new_rows, marks, targets, sets, waiting,
-        )),
-        Judged::Refused(r) => Built::Refused(r),
-    }
+    chart::judged(lengths, heads, old_rows, new_rows)?;
+    Ok(complete(
+        heads, old_rows, new_rows, marks, targets, sets, waiting,
+    ))
 }

@@ -163,7 +163,7 @@ module _ (X : Compared) where
     lines5to10 : (x : Option ℕ) → find (rows_at X p) (λ o'. same o' o) ≡ x → Lines5to18 X p s o (Some (assigned X (record { place = p; set = s }) o x))
     unfolding assigned rewritten
     lines5to10 None e =
-        lines10 (record { assignment = t; None = λ q E. T_true (sym (no_edge p (λ o'. same o' o) e o q E.edge) ∙ same_self o) })
+        lines10 (record { assignment = t; none = λ q E. T_true (sym (no_edge p (λ o'. same o' o) e o q E.edge) ∙ same_self o) })
         (writing_row X p o.a) refl
     lines5to10 (Some k) e = go (meets s (read_set o)) refl
       where

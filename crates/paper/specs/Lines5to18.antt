@@ -72,7 +72,7 @@ module _ (X : Compared) where
     -- the else of line 10: op' is assignment, and no (ℓ_1, op', ℓ_2) ∈ G
     pub record NoEqual : Type 0 where
       pub assignment : is_assignment op' ≡ true
-      pub None : (ℓ₂ : OldPlace) → Lines5and6 ℓ₂ → ⊥
+      pub none : (ℓ₂ : OldPlace) → Lines5and6 ℓ₂ → ⊥
 
     -- footnote 6, in edition 2: the implementation "also keeps the alignment if an assignment exists that changes the
     -- same variables": some (ℓ_1, op, ℓ_2) ∈ G with wrt(op) = wrt(op')

@@ -1,9 +1,0 @@
-// What a build answers.
-use base::Refusal;
-use condition::Summary;
-
-#[derive(Clone, Copy)]
-pub enum Built {
-    Done(Summary),
-    Refused(Refusal),
-}
