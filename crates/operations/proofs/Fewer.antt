@@ -1,4 +1,5 @@
--- Fewer trials are enough where points stand again, and where both assumptions compare one variable with constants. Assumes nothing.
+-- Fewer trials are enough where points stand again, and where both assumptions compare one variable with constants.
+-- Assumes nothing.
 use Rattle.std.proofs.Common.{◌≡◌, ℕ, ◌-◌, ◌≤◌, Bool, true, false, cond, ◌&&◌, T, eqb, List, [], ◌∷◌, take, drop, sym, refl, ap, ◌∙◌, arith, eq-eqb, ne_eqb}
 use native.Mathlib.Decide.{ℕ_discrete}
 use lib.Dec.{eqb_refl}

@@ -1,43 +1,39 @@
 -- Two assumptions that compare the same in opposite ways: exactly one holds, whatever the values. Assumes nothing.
 use Rattle.std.proofs.Common.{◌≡◌, ℕ, ◌/◌, ◌<◌, Bool, true, false, cond, not, ◌&&◌, eqb, ltb, get_or, sym, refl, ap, ◌∙◌, subst, arith, ltb-true, eqb-true}
 use native.Mathlib.Decide.{ℕ_discrete, dec_lt}
+use Rattle.std.proofs.lemmas.Grind.{common_steps}
 use Rattle.base.proofs.Lists.{any_false}
 use Rattle.base.proofs.Tests.{and_true}
 use Rattle.operations.specs.declared.Operation.{Operation}
 use Rattle.operations.specs.Operations.{is_assumption, order, key, relation, related, related_in, with_constant, right, holds}
 use Rattle.operations.specs.inner.Opposed.{OppositeCodes, Opposed}
 use Rattle.operations.specs.Trials.{alike, seats, trial, points_of, shown, shown_by, together, exclusive}
-use Rattle.operations.proofs.Order.{below-table, equal_table, above-table, related_lt, related-eq, related_gt}
-
--- s holds where r does not, if it is so of numbers that are below, equal and above
-turned : (r s : ℕ) → get_or below-table s false ≡ not (get_or below-table r false) → get_or equal_table s false ≡ not (get_or equal_table r false)
-    → get_or above-table s false ≡ not (get_or above-table r false) → (x y : ℕ) → related s x y ≡ not (related r x y)
-turned r s b e a x y = go (ℕ_discrete x y) (dec_lt x y)
-  where
-    go : Dec (x ≡ y) → Dec (x < y) → related s x y ≡ not (related r x y)
-    go (yes q) l = related-eq s x y q ∙ e ∙ ap not (sym (related-eq r x y q))
-    go (no n) (yes l) = related_lt s x y l ∙ b ∙ ap not (sym (related_lt r x y l))
-    go (no n) (no l) = related_gt s x y (omega arith) ∙ a ∙ ap not (sym (related_gt r x y (omega arith)))
 
 -- = and ≠, < and ≥, ≤ and >
 module _ (x y : ℕ) where
   pub opposite_0 : related 0 x y ≡ not (related 1 x y)
-  opposite_0 = turned 1 0 refl refl refl x y
+  unfolding related
+  opposite_0 = grind (arith, common_steps)
 
   pub opposite_1 : related 1 x y ≡ not (related 0 x y)
-  opposite_1 = turned 0 1 refl refl refl x y
+  unfolding related
+  opposite_1 = grind (arith, common_steps)
 
   pub opposite_2 : related 2 x y ≡ not (related 5 x y)
-  opposite_2 = turned 5 2 refl refl refl x y
+  unfolding related
+  opposite_2 = grind (arith, common_steps)
 
   pub opposite_3 : related 3 x y ≡ not (related 4 x y)
-  opposite_3 = turned 4 3 refl refl refl x y
+  unfolding related
+  opposite_3 = grind (arith, common_steps)
 
   pub opposite_4 : related 4 x y ≡ not (related 3 x y)
-  opposite_4 = turned 3 4 refl refl refl x y
+  unfolding related
+  opposite_4 = grind (arith, common_steps)
 
   pub opposite_5 : related 5 x y ≡ not (related 2 x y)
-  opposite_5 = turned 2 5 refl refl refl x y
+  unfolding related
+  opposite_5 = grind (arith, common_steps)
 
 pub ruleset opposite_relations = (opposite_0, opposite_1, opposite_2, opposite_3, opposite_4, opposite_5)
 

@@ -2,6 +2,7 @@
 use Rattle.std.proofs.Common.{◌≡◌, ℕ, zero, suc, ◌+◌, ◌-◌, ◌%◌, ◌^◌, ◌<◌, ◌≤◌, Bool, true, false, ◌&&◌, ◌||◌, T, eqb, ltb, ◌≢◌, ◌⊎◌, List, [], ◌∷◌, get_or, sym, refl, ap, ◌∙◌, subst, inl, inr, arith, le-ltb, lt-ltb, eq-eqb, ne_eqb, le-leb}
 use native.Mathlib.Decide.{ℕ_discrete, dec_lt}
 use borrow.Author.Tests.{lt-leb}
+use Rattle.std.proofs.lemmas.Grind.{common_steps}
 use Rattle.operations.specs.Operations.{plus, minus, key, related}
 use Rattle.operations.specs.Trials.{points}
 use Rattle.base.proofs.Tests.{or_none}
@@ -26,15 +27,15 @@ above-table = false ∷ true ∷ false ∷ false ∷ true ∷ true ∷ []
 module _ (r a b : ℕ) where
   pub related_lt : a < b → related r a b ≡ get_or below-table r false
   unfolding related
-  related_lt h = rw (ne_eqb a b (λ e. omega arith), lt-ltb a b h, le-leb a b (omega arith), le-ltb b a (omega arith), lt-leb b a h)
+  related_lt h = grind (arith, common_steps)
 
   pub related-eq : a ≡ b → related r a b ≡ get_or equal_table r false
   unfolding related
-  related-eq h = rw (eq-eqb a b h, le-ltb a b (omega arith), le-leb a b (omega arith), le-ltb b a (omega arith), le-leb b a (omega arith))
+  related-eq h = grind (arith, common_steps)
 
   pub related_gt : b < a → related r a b ≡ get_or above-table r false
   unfolding related
-  related_gt h = rw (ne_eqb a b (λ e. omega arith), le-ltb a b (omega arith), lt-leb a b h, lt-ltb b a h, le-leb b a (omega arith))
+  related_gt h = grind (arith, common_steps)
 
 pub related_same : (r : ℕ) {a b u w : ℕ} → Same a b u w → related r a b ≡ related r u w
 related_same r {a} {b} {u} {w} S = go (ℕ_discrete a b) (dec_lt a b)

@@ -11,7 +11,7 @@ pub mod inner; // inner.rt: for the crates above
 pub mod values; // values.rt: one operation on 64 lent values
 
 // The operation of a row: its code "op" and the operands.
-#[derive(Clone, Copy)]
+#[derive(Clone, Copy, Debug, PartialEq, Eq)]
 pub struct Operation {
     pub code: u32,
     pub a: u32,

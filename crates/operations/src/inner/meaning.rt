@@ -11,8 +11,7 @@ fn held(values: &[u32], k: u32) -> u32
     requires { (k < 64) × (length values.now ≡ 64) }
     ensures { result ≡ var values.now k }
 {
-    let at = k as usize;
-    values[at]
+    values[k as usize]
 }
 
 // The sum, which wraps.
