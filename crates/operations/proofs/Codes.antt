@@ -1,8 +1,8 @@
 -- What follows of an operation's code and operands. Assumes nothing.
-use Rattle.std.proofs.Common.{◌≡◌, ℕ, ◌<◌, ◌≤◌, true, false, ◌&&◌, leb, arith}
+use Rattle.std.proofs.Common.{◌≡◌, ℕ, ◌<◌, ◌≤◌, true, false, arith}
 use Rattle.std.proofs.lemmas.Grind.{common_steps}
 use Rattle.operations.specs.declared.Operation.{Operation}
-use Rattle.operations.specs.Operations.{kind, by_kind, is_known, operand_b, assigned_c, operand_c, fits, operands_fit}
+use Rattle.operations.specs.Operations.{kind, by_kind, operand_b, assigned_c, operand_c, operands_fit}
 
 -- the codes of assignments are 0 to 5
 pub assigning : (x : ℕ) → by_kind (kind x) true false false false ≡ true → x ≤ 5

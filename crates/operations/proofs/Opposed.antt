@@ -1,6 +1,5 @@
 -- Two assumptions that compare the same in opposite ways: exactly one holds, whatever the values. Assumes nothing.
-use Rattle.std.proofs.Common.{◌≡◌, ℕ, ◌/◌, ◌<◌, Bool, true, false, cond, not, ◌&&◌, eqb, ltb, get_or, sym, refl, ap, ◌∙◌, subst, arith, ltb-true, eqb-true}
-use native.Mathlib.Decide.{ℕ_discrete, dec_lt}
+use Rattle.std.proofs.Common.{◌≡◌, ℕ, ◌/◌, Bool, true, false, cond, not, ◌&&◌, eqb, ltb, refl, ap, ◌∙◌, subst, arith, ltb-true, eqb-true}
 use Rattle.std.proofs.lemmas.Grind.{common_steps}
 use Rattle.base.proofs.Lists.{any_false}
 use Rattle.base.proofs.Tests.{and_true}

@@ -1,5 +1,5 @@
 -- Where neither of two assumptions has a constant, only the order of two values matters. Assumes nothing.
-use Rattle.std.proofs.Common.{◌≡◌, ℕ, ◌^◌, ◌<◌, Bool, true, false, cond, not, ◌&&◌, ◌||◌, T, eqb, List, sym, inl, inr}
+use Rattle.std.proofs.Common.{◌≡◌, ℕ, ◌^◌, ◌<◌, Bool, true, false, cond, not, ◌&&◌, ◌||◌, T, eqb, List, inl, inr}
 use borrow.Author.Tests.{not-true}
 use Rattle.base.proofs.Tests.{T_or, T_or_l, T_or_r, and_true}
 use Rattle.base.specs.Lists.{any}

@@ -35,12 +35,12 @@ fn trial(s: Seats, x: u32, y: u32, k: u32) -> u32
     ensures { result ≡ trial s x y k }
 {
     if k == s.first {
-        return x;
+        x
+    } else if k == s.second {
+        y
+    } else {
+        s.rest.unwrap_or(y)
     }
-    if k == s.second {
-        return y;
-    }
-    s.rest.unwrap_or(y)
 }
 
 // What va is compared with in a trial.
@@ -99,15 +99,15 @@ fn seats_of(f: Operation, g: Operation) -> Seats
     ensures { result ≡ seats f g }
 {
     if inside(f, g) {
-        return joint(f.a);
-    }
-    if inside(g, f) {
-        return joint(g.a);
-    }
-    Seats {
-        first: own(f, g),
-        second: own(g, f),
-        rest: Some(plus(order_of(f), 1)),
+        joint(f.a)
+    } else if inside(g, f) {
+        joint(g.a)
+    } else {
+        Seats {
+            first: own(f, g),
+            second: own(g, f),
+            rest: Some(plus(order_of(f), 1)),
+        }
     }
 }
 
@@ -162,18 +162,17 @@ fn points(s: u32, t: u32, c: u32, d: u32) -> [u32; 10]
     ]
 }
 
-// So many points at the front are known to stand again after them.
+// So many points at the front are known to stand again after them: in one order three, and two more for each bound
+// that is its least value.
 #[tactic(auto, unfolding(crate::specs::inner::ShortWays::repeated))]
 fn repeated(s: u32, t: u32, c: u32, d: u32) -> usize
     ensures { result ≡ repeated s t c d }
 {
-    if s != t {
-        return 0;
+    if s == t {
+        3 + 2 * usize::from(c == t) + 2 * usize::from(d == t)
+    } else {
+        0
     }
-    if c == t {
-        return if d == t { 7 } else { 5 };
-    }
-    if d == t { 5 } else { 3 }
 }
 
 // The search over all trials, without the points that are known to stand again.

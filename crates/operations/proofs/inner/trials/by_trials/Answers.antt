@@ -1,6 +1,5 @@
 -- `operations::inner::trials::by_trials` meets its contract: the points that are left out stand again. Assumes nothing.
-use Rattle.operations.proofs.Fewer.{few, by_left}
-use Rattle.std.proofs.Common.{arith}
+use Rattle.operations.proofs.Fewer.{by_left}
 use Rattle.operations.proofs.inner.trials.by_trials.Goals as goal
 
 pub returns : goal.returns

@@ -1,7 +1,6 @@
 -- `operations::inner::trials::by_values` meets its contract: the values of one variable, without those that
 -- stand again. Assumes nothing.
-use Rattle.std.proofs.Common.{arith}
-use Rattle.operations.proofs.Fewer.{few, with-constant-bound, by_one}
+use Rattle.operations.proofs.Fewer.{with-constant-bound, by_one}
 use Rattle.operations.proofs.inner.trials.by_values.Goals as goal
 
 pub returns : goal.returns
