@@ -161,7 +161,7 @@ pub fn operands_fit(o: Operation) -> bool
 }
 
 // The least number that cannot stand in the place of b; 0 for a code that is not known. By a table of codes and not by
-// their kinds, so that judging a row takes no jump.
+// their kinds, so that judging a row takes no jump. Each code has an arm: arms of ranges would be tested by jumps.
 #[tactic(auto, unfolding(crate::specs::Operations::kind, crate::specs::Operations::operand_b))]
 fn limit_b(code: u32) -> u32
     ensures { (o : Operation) → o.code ≡ code → (b : ℕ) → nat_lt b result ≡ is_known o && fits (operand_b o) b }
