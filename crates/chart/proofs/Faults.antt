@@ -7,8 +7,8 @@ use Prim.Native.Nat.{ℕ, zero, suc, ◌-◌, ◌≤◌, ◌<◌}
 use native.Mathlib.Decide.{ℕ_discrete}
 use native.Mathlib.Omega.{arith}
 use mathlib.Core.Logic.{dite}
-use borrow.Author.Tests.{eq-eqb, ne_eqb, le-ltb, le-leb, lt-leb, leb-true, eqb-false, not-true, not-false}
-use lib.Dec.{eqb, leb, ltb}
+use borrow.Author.Tests.{eq-eqb, ne_eqb, le-leb, leb-true, eqb-false, not-true, not-false}
+use lib.Dec.{eqb, leb}
 use Rattle.base.specs.Options.{when, or_else, first_of}
 use Rattle.base.specs.declared.Refusal.{Refusal}
 use Rattle.base.specs.Refusals.{due_in}
@@ -20,21 +20,9 @@ use Rattle.operations.specs.inner.Opposed.{Opposed}
 use Rattle.operations.specs.Trials.{exclusive}
 use Rattle.operations.proofs.Opposed.{opposed_one}
 use Rattle.chart.specs.Charts.{Chart, size, from, operation}
-use Rattle.chart.specs.Faults.{strays, from_before, descends, clash, conflicts, row_fault, conflict_fault, rows_fault}
+use Rattle.chart.specs.Faults.{strays, descends, clash, conflicts, row_fault, conflict_fault, rows_fault}
 use Rattle.chart.specs.inner.Ascending.{Ascending}
 use Rattle.chart.specs.inner.Faulty.{faulty, row_number}
-
--- ---- fault 5
-module _ (t : List ℕ) (i : ℕ) where
-  pub first-row : i ≡ 0 → false ≡ descends t i
-  first-row e = rw e (sym (le-ltb (from t 0) 0 (omega arith)))
-
-  pub later-row : (i ≡ 0 → ⊥) → ltb (from t i) (from t (i - 1)) ≡ descends t i
-  later-row n = ap (ltb (from t i)) (before i n)
-    where
-      before : (i : ℕ) → (i ≡ 0 → ⊥) → from t (i - 1) ≡ from_before t i
-      before zero n = absurd (n refl)
-      before (suc i) n = let e : suc i - 1 ≡ i = omega arith in rw e
 
 -- ---- the first row that has a fault, by its index
 -- an index that is found is below the bound
@@ -105,27 +93,12 @@ module _ (k : ℕ) (C : Chart) where
       none_told h = sym (ap (value_at conflict_at) h) ∙ after-rows
 
 -- ---- conflicts
--- whether the row k before row i leaves the same place
-module _ (t : List ℕ) (i k : ℕ) where
-  pub place_none : i < k → false ≡ leb k i && eqb (from t (i - k)) (from t i)
-  place_none l = rw (lt-leb k i l)
-
-  pub place-there : k ≤ i → eqb (from t (i - k)) (from t i) ≡ leb k i && eqb (from t (i - k)) (from t i)
-  place-there l = rw (le-leb k i l)
-
-pub place_inside : (k i : ℕ) (x r : Bool) → r ≡ leb k i && x → not r ≡ false → k ≤ i
-place_inside k i x r e h = leb-true k i (and_true (leb k i) x (sym e ∙ not-false r h)).0
-
 -- rows of another place do not clash
 pub other_place : (t : List ℕ) (i j : ℕ) → (from t j ≡ from t i → ⊥) → clash t i j ≡ false
 unfolding clash
 other_place t i j n = rw (ne_eqb (from t j) (from t i) n)
 
 -- rows of one place do where they are not assumptions of which exactly one holds
-pub not_both : (a b x : Bool) → a && b ≡ false → false ≡ a && (b && x)
-not_both true b x e = rw e
-not_both false b x e = refl
-
 pub one_place : (t : List ℕ) (i j : ℕ) → from t j ≡ from t i → (f g : Operation) → f ≡ operation t j → g ≡ operation t i
     → (r : Bool) → r ≡ is_assumption f && (is_assumption g && exclusive f g) → clash t i j ≡ not r
 unfolding clash

@@ -82,25 +82,25 @@ row_count : (t : List ℕ) (n : ℕ) → length (first_chunks 6 n t) ≡ n
 row_count t zero = refl
 row_count t (suc n) = ap (λ (k : ℕ). suc k) (row_count (drop 6 t) n)
 
+-- whether a row leaves a place below p
+abbrev pub is_lower : ℕ → List ℕ → Bool
+is_lower p r = ltb (get_or r 0 0) p
+
 module _ (t : List ℕ) (p : ℕ) (s : Ascending t) where
   abbrev each : List (List ℕ)
   each = first_chunks 6 (size t) t
 
-  -- whether a row leaves a lower place
-  abbrev pub is_lower : List ℕ → Bool
-  is_lower r = ltb (get_or r 0 0) p
-
-  lower_at : (i : ℕ) (d : List ℕ) → i < size t → is_lower (get_or each i d) ≡ ltb (from t i) p
+  lower_at : (i : ℕ) (d : List ℕ) → i < size t → is_lower p (get_or each i d) ≡ ltb (from t i) p
   lower_at i d l = ap (λ (f : ℕ). ltb f p) (row_first t (size t) i d l)
 
-  pub parted : IsPartitionedBy is_lower each
+  pub parted : IsPartitionedBy (is_lower p) each
   parted i j d l u e =
       let n = row_count t (size t) in
       let h = ltb-true _ _ (sym (lower_at j d (omega arith)) ∙ e) in
       let o = s.order i j l (omega arith) in
       lower_at i d (omega arith) ∙ lt-ltb _ _ (omega arith)
 
-  pub lower_parted : {r : ℕ} → r ≤ length each → IsPartitionPoint (λ y. is_lower y ≡ true) (λ y. is_lower y ≡ false) each r → Lower t p r
+  pub lower_parted : {r : ℕ} → r ≤ length each → IsPartitionPoint (λ y. is_lower p y ≡ true) (λ y. is_lower p y ≡ false) each r → Lower t p r
   lower_parted l (b, a) =
       let n = row_count t (size t) in
       record {
@@ -129,44 +129,6 @@ module _ (t : List ℕ) (p : ℕ) (s : Ascending t) where
 -- the first row of a table is the lower bound of place 0
 pub lower_first : (t : List ℕ) → Lower t 0 0
 lower_first t = record { inside = omega arith; below = λ k l. absurd (omega arith); reached = λ l. omega arith }
-
--- no row seen, and no entry made
-pub ends-none : (t : List ℕ) (at : ℕ) (e : List ℕ) → length e ≡ 130 → ((p : ℕ) → p ≤ 64 → get_or e (at + p) 0 ≡ 0) → Ends t 0 at e e
-ends-none t at e l z =
-    record {
-      long = l;
-      ends = λ p u. rw (z p u) (record { within = omega arith; leaves = λ h. absurd (omega arith); last = λ k h g. absurd (omega arith) });
-      below = λ j h. refl;
-      above = λ j h. refl;
-    }
-
--- row i is the last one of its place so far
-pub ends_more : (t : List ℕ) (i at : ℕ) (e₀ e : List ℕ) → Ends t i at e₀ e → from t i < 64 → at ≤ 65
-    → Ends t (i + 1) at e₀ (set e (at + from t i + 1) (i + 1))
-ends_more t i at e₀ e E f l =
-    record {
-      long = simp length-set E.long;
-      ends = λ p u. elim (ℕ_discrete (at + p) (at + from t i + 1)) [
-        | yes s ↦ rw (s, get_or-set_same e (at + from t i + 1) (i + 1) 0 (omega (arith, E.long))) (here p (omega arith))
-        | no n ↦ rw (get_or-set_other e (at + from t i + 1) (at + p) (i + 1) 0 n) (elsewhere p (λ s. n (omega arith)) (E.ends p u))
-      ];
-      below = λ j h. rw (get_or-set_other e (at + from t i + 1) j (i + 1) 0 (λ s. omega arith)) (E.below j h);
-      above = λ j h. rw (get_or-set_other e (at + from t i + 1) j (i + 1) 0 (λ s. omega arith)) (E.above j h);
-    }
-  where
-    here : (p : ℕ) → from t i + 1 ≡ p → End t (i + 1) p (i + 1)
-    here p s = let d : i + 1 - 1 ≡ i = omega arith in record { within = omega arith; leaves = λ h. rw d s; last = λ k h g. absurd (omega arith) }
-
-    elsewhere : (p : ℕ) {r : ℕ} → (from t i + 1 ≡ p → ⊥) → End t i p r → End t (i + 1) p r
-    elsewhere p n P =
-        record {
-          within = omega (arith, P.within);
-          leaves = P.leaves;
-          last = λ k h g s. elim (ℕ_discrete k i) [
-            | yes q ↦ n (rw q at s)
-            | no d ↦ P.last k h (let D : k ≡ i → ⊥ = d in omega arith) s
-          ];
-        }
 
 -- ---- a place without rows ends where the one before it ends
 pub carried_none : (at : ℕ) (e : List ℕ) → length e ≡ 130 → Carried e at 0 e
@@ -245,13 +207,6 @@ module _ (old new : List ℕ) where
     -- the entry after that of a place of the new chart
     after-new : Lower new (p + 1) (get_or index (65 + p + 1) 0)
     after-new = let e : 65 + (p + 1) ≡ 65 + p + 1 = omega arith in rw e at (I.news (p + 1) (omega arith))
-
-    pub at_old : (p < 129) × (get_or index p 0 ≤ get_or index (p + 1) 0) × (get_or index (p + 1) 0 ≤ size old)
-    at_old = (
-      omega arith,
-      ordered old p _ _ (I.olds p (omega arith)) (I.olds (p + 1) (omega arith)),
-      (I.olds (p + 1) (omega arith)).inside,
-    )
 
     pub at_new : (65 + p < 129) × (get_or index (65 + p) 0 ≤ get_or index (65 + p + 1) 0) × (get_or index (65 + p + 1) 0 ≤ size new)
     at_new = (omega arith, ordered new p _ _ (I.news p (omega arith)) after-new, after-new.inside)

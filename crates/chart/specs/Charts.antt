@@ -40,7 +40,12 @@ to t i = get_or t (i * 6 + 1) 0
 -- the last four: the "op, a, b, c" of "from, to, op, a, b, c"
 abbrev pub operation : List ℕ → ℕ → Operation
 operation t i =
-    record { code = get_or t (i * 6 + 2) 0; a = get_or t (i * 6 + 3) 0; b = get_or t (i * 6 + 4) 0; c = get_or t (i * 6 + 5) 0 }
+    record {
+      code = get_or t (i * 6 + 2) 0;
+      a = get_or t (i * 6 + 3) 0;
+      b = get_or t (i * 6 + 4) 0;
+      c = get_or t (i * 6 + 5) 0;
+    }
 
 -- all of row i: "from, to, op, a, b, c"
 abbrev pub row : List ℕ → ℕ → Row

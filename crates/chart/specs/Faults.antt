@@ -41,7 +41,8 @@ descends t i = ltb (from t i) (from_before t i)
 unfoldable pub clash : List ℕ → ℕ → ℕ → Bool
 clash t i j =
     eqb (from t j) (from t i)
-    && not (is_assumption (operation t j) && (is_assumption (operation t i) && exclusive (operation t j) (operation t i)))
+    && not (is_assumption (operation t j)
+    && (is_assumption (operation t i) && exclusive (operation t j) (operation t i)))
 
 -- "in conflict with an earlier one"
 abbrev pub conflicts : List ℕ → ℕ → Bool

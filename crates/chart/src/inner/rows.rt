@@ -138,7 +138,8 @@ fn past(rows: &[u32], place: u32, first: usize) -> usize
 fn part(rows: &[u32], first: usize, end: usize) -> &[u32]
     requires { (first ≤ end) × (end ≤ size rows.now) }
     ensures is { result.now ≡ take (end * 6 - first * 6) (drop (first * 6) rows.now) }
-    ensures stands { (result.ref_ptr.0 ≡ rows.entry.ref_ptr.0) × (result.ref_ptr.1 ≡ rows.entry.ref_ptr.1 + first * 6 * 4) }
+    ensures stands { (result.ref_ptr.0 ≡ rows.entry.ref_ptr.0)
+        × (result.ref_ptr.1 ≡ rows.entry.ref_ptr.1 + first * 6 * 4) }
 {
     let a = first * 6;
     let e = end * 6;

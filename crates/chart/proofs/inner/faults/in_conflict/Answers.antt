@@ -1,13 +1,10 @@
 -- `chart::inner::faults::in_conflict` meets its contract. The invariant: no row from `j` on is in conflict with row i. Assumes nothing.
 use Rattle.std.proofs.Common.{ap, not}
-use mathlib.Core.Path.{refl, sym, ◌∙◌}
+use mathlib.Core.Path.{sym, ◌∙◌}
 use Rattle.base.proofs.Tests.{none_here, some-here, none_left}
 use Rattle.chart.proofs.Faults.{none_before, one_place}
 use native.Mathlib.Omega.{arith}
 use Rattle.chart.proofs.inner.faults.in_conflict.Goals as goal
-
-pub loop-j-init : goal.loop-j-init
-loop-j-init c = record { within = omega arith; rest = refl }
 
 pub returns-then-from_at : goal.returns-then-from_at
 returns-then-from_at c = none_before _ c.requires.ascending _ _ c.requires.i_bound c.loop-j.invariant c.loop-j-test.true (λ e. c.if-from_at.true (c.from_at.ensures ∙ e ∙ sym c.from_at-in-loop-j.ensures))

@@ -1,5 +1,5 @@
 -- `chart::inner::rows::carry` meets its contract. The invariant: the entries of the places passed are there. Assumes nothing.
-use mathlib.Core.Path.{◌≡◌, refl}
+use mathlib.Core.Path.{refl}
 use Rattle.chart.specs.inner.Index.{last_of}
 use Rattle.chart.proofs.Rows.{carried_none, last_more, carried_more}
 use native.Mathlib.Omega.{arith}
@@ -14,6 +14,3 @@ loop-p-preserved c =
     let I = c.loop-p.invariant in
     let q = last_more _ _ _ _ I.0 I.1 c.later-last.ensures in
     (carried_more _ _ _ _ I.0 q (omega arith), q)
-
-pub returns : goal.returns
-returns c = let e : c.loop-p.p ≡ 65 = omega arith in rw e at c.loop-p.invariant.0

@@ -3,9 +3,6 @@ use mathlib.Core.Path.{sym, ◌∙◌}
 use Rattle.chart.proofs.Rows.{ordered, part, part_inside}
 use Rattle.chart.proofs.inner.rows.rows_in.Goals as goal
 
-pub part-requires : goal.part-requires
-part-requires c = (ordered _ _ _ _ c.lower-first.ensures c.past.ensures, c.past.ensures.inside)
-
 pub returns : goal.returns
 returns c = record {
   is = c.part.ensures.is ∙ sym (part _ _ _ _ c.lower-first.ensures c.past.ensures c.requires);

@@ -1,10 +1,7 @@
 -- `chart::inner::rows::rows_of` meets its contract, chart by chart: the rows between two entries are those that leave the place. Assumes nothing.
 use mathlib.Core.Path.{sym, ◌∙◌}
-use Rattle.chart.proofs.Rows.{at_old, at_new, part_old, part_new}
+use Rattle.chart.proofs.Rows.{at_new, part_old, part_new}
 use Rattle.chart.proofs.inner.rows.rows_of.Goals as goal
-
-pub rows_at-requires : goal.rows_at-requires
-rows_at-requires c = at_old _ _ c.requires.indexed (rw c.in-Old.is at c.requires.ascending.1)
 
 pub rows_at-requires-in-New : goal.rows_at-requires-in-New
 rows_at-requires-in-New c = at_new _ _ c.requires.indexed (rw c.in-New.is at c.requires.ascending.1)

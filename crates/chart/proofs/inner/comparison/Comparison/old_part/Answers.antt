@@ -2,11 +2,8 @@
 -- those that leave the place. Assumes nothing.
 use mathlib.Core.Path.{sym, ◌∙◌}
 use Rattle.chart.proofs.Faultless.{indexable}
-use Rattle.chart.proofs.Rows.{at_old, part_old}
+use Rattle.chart.proofs.Rows.{part_old}
 use Rattle.chart.proofs.inner.comparison.Comparison.old_part.Goals as goal
-
-pub rows_at-requires : goal.rows_at-requires
-rows_at-requires c = at_old _ _ c.args.self.now.prepared.indexed c.requires
 
 pub returns : goal.returns
 returns c =
