@@ -15,9 +15,9 @@ use Rattle.chart.specs.Faults.{fault, refusal}
 use Rattle.chart.specs.Faultless.{FaultlessChart}
 use Rattle.chart.proofs.Bounds.{fault-fits, refusal-fits}
 use Rattle.chart.proofs.Faultless.{faultless}
-use Rattle.text.specs.declared.causes.Cause.{Cause}
-use Rattle.text.specs.declared.causes.Cause.TheVariants.{NoBytes, BadByte, BadNumber, WrongEnd, ManyRows}
-use Rattle.text.specs.Causes.{cause_number}
+use Rattle.base.specs.declared.Reason.{Reason}
+use Rattle.base.specs.declared.Reason.TheVariants as because
+use Rattle.base.specs.Reasons.{reason_number}
 use Rattle.text.specs.Fields.{item_at}
 use Rattle.text.specs.Files.{U32s}
 use Rattle.text.specs.Spans.{fields_at}
@@ -30,13 +30,23 @@ use Rattle.text.proofs.Theorems.{read_exactly, text_positions}
 
 -- ---- the numbers of a text's refusals
 
--- the number of each cause is one
-cause_named : (c : Cause) → T (within 1 255 (cause_number c))
-cause_named NoBytes = tt
-cause_named BadByte = tt
-cause_named BadNumber = tt
-cause_named WrongEnd = tt
-cause_named ManyRows = tt
+-- the number of each reason is one
+reason_named : (r : Reason) → T (within 1 255 (reason_number r))
+reason_named because.Lacking = tt
+reason_named because.Exceeding = tt
+reason_named because.AlarmOutside = tt
+reason_named because.Straying = tt
+reason_named because.Descending = tt
+reason_named because.UnknownCode = tt
+reason_named because.WrongOperand = tt
+reason_named because.Conflicting = tt
+reason_named because.NoBytes = tt
+reason_named because.BadByte = tt
+reason_named because.BadNumber = tt
+reason_named because.WrongEnd = tt
+reason_named because.WrongCall = tt
+reason_named because.Misshapen = tt
+reason_named because.BrokenRule = tt
 
 -- a refusal has a number, of the sole chart
 abbrev Sole : {A : Type 0} → Answer A → Type 0
@@ -47,7 +57,7 @@ fields_sole : (n k : ℕ) (text : List ℕ) (at : ℕ) (before : List ℕ) → S
 unfolding fields_at
 fields_sole zero k text at before = tt
 fields_sole (suc n) k text at before =
-    by_field Sole (item_at k text at) _ (λ x p e. fields_sole n (suc k) text p (before ++ (x ∷ []))) (λ c p e. (cause_named c, refl))
+    by_field Sole (item_at k text at) _ (λ x p e. fields_sole n (suc k) text p (before ++ (x ∷ []))) (λ u e. (reason_named u.reason, refl))
 
 sole_then : {A B : Type 0} (a : Answer A) (f : A → Answer B) → Sole a → ((x : A) → Sole (f x)) → Sole (and_then a f)
 sole_then (Ok x) f h g = g x

@@ -2,10 +2,10 @@
 -- Assumes nothing.
 use Rattle.std.proofs.Common.{◌≡◌, ℕ, Bool, true, false, refl}
 use Rattle.base.specs.Answers.{Answer}
-use Rattle.text.specs.declared.causes.Cause.{Cause}
-use Rattle.text.specs.declared.fields.Field.{Field}
-use Rattle.text.specs.declared.fields.Field.TheVariants.{Number, Unfit}
-use Rattle.text.specs.Causes.{refused_for}
+use Rattle.text.specs.declared.causes.Unfit.{Unfit}
+use Rattle.std.specs.Prelude.{Ok, Err}
+use Rattle.text.specs.Causes.{refusal_of}
+use Rattle.text.specs.Fields.{Field, number}
 use Rattle.text.specs.Spans.{on_field}
 
 -- one of two fields, by a test
@@ -14,6 +14,6 @@ by_test P true h g = h refl
 by_test P false h g = g refl
 
 -- a number or a refusal
-pub by_field : {A : Type 0} (P : Answer A → Type 0) (f : Field) (then : ℕ → ℕ → Answer A) → ((x p : ℕ) → f ≡ Number x p → P (then x p)) → ((c : Cause) (p : ℕ) → f ≡ Unfit c p → P (refused_for c p)) → P (on_field f then)
-by_field P (Number x p) then h g = h x p refl
-by_field P (Unfit c p) then h g = g c p refl
+pub by_field : {A : Type 0} (P : Answer A → Type 0) (f : Field) (then : ℕ → ℕ → Answer A) → ((x p : ℕ) → f ≡ number x p → P (then x p)) → ((u : Unfit) → f ≡ Err u → P (Err (refusal_of u))) → P (on_field f then)
+by_field P (Ok n) then h g = h n.value n.next refl
+by_field P (Err u) then h g = g u refl

@@ -7,9 +7,8 @@ use borrow.Author.Tests.{lt-leb}
 use lib.Seq.{take-nil}
 use Rattle.base.specs.Answers.{Answer}
 use Rattle.text.specs.declared.fields.Kind.{Kind}
-use Rattle.text.specs.declared.fields.Field.{Field}
-use Rattle.text.specs.declared.fields.Field.TheVariants.{Number, Unfit}
-use Rattle.text.specs.Fields.{byte_at, digit_of, digits, kind, number_of, number_at, followed, field_at, line_end, closed, missing, item_at}
+use Rattle.std.specs.Prelude.{Ok, Err}
+use Rattle.text.specs.Fields.{Field, number, byte_at, digit_of, digits, kind, number_of, number_at, followed, field_at, line_end, closed, missing, item_at}
 use Rattle.text.specs.Spans.{on_field, fields_at}
 use Rattle.text.proofs.Numbers.{missing-inside}
 use Rattle.text.proofs.Positions.{end, number-long, number-ends, followed-ends, field_ends, reach, item_ends, reach_one}
@@ -52,8 +51,8 @@ module _ (text : List ℕ) (m : ℕ) (long : m ≤ length text) where
 
   cut_followed : (b : ℕ) (f : Field) → end f < m → followed b (take m text) f ≡ followed b text f
   unfolding followed
-  cut_followed b (Unfit c p) g = refl
-  cut_followed b (Number x p) g = rw (cut_byte p g, followed)
+  cut_followed b (Err u) g = refl
+  cut_followed b (Ok n) g = rw (cut_byte n.next g, followed)
 
   cut_field : (sort : Kind) (at : ℕ) → at + 13 ≤ m → field_at sort (take m text) at ≡ field_at sort text at
   unfolding field_at
@@ -65,10 +64,10 @@ module _ (text : List ℕ) (m : ℕ) (long : m ≤ length text) where
 
   cut_line : (f : Field) → end f + 1 < m → line_end (take m text) f ≡ line_end text f
   unfolding line_end
-  cut_line (Unfit c p) g = refl
-  cut_line (Number x p) g =
-      rw (cut_length, lt-leb m p (omega arith), lt-leb (length text) p (omega arith), line_end)
-      (ap (followed 10 (take m text)) (cut_followed 13 (Number x p) (omega arith)) ∙ cut_followed 10 (followed 13 text (Number x p)) (omega (arith, followed-ends 13 text (Number x p))))
+  cut_line (Err u) g = refl
+  cut_line (Ok n) g =
+      rw (cut_length, lt-leb m n.next (omega arith), lt-leb (length text) n.next (omega arith), line_end)
+      (ap (followed 10 (take m text)) (cut_followed 13 (Ok n) (omega arith)) ∙ cut_followed 10 (followed 13 text (Ok n)) (omega (arith, followed-ends 13 text (Ok n))))
 
   cut_closed : (k : ℕ) (f : Field) → end f + 1 < m → closed k (take m text) f ≡ closed k text f
   unfolding closed
@@ -81,9 +80,9 @@ module _ (text : List ℕ) (m : ℕ) (long : m ≤ length text) where
       let u : missing k text at ≡ false = sym (missing-inside k text at (omega arith)) in
       rw (t, u, item_at, cut_field (kind k) at (omega arith)) (cut_closed k (field_at (kind k) text at) (omega (arith, field_ends (kind k) text at)))
 
-  on_same : {A : Type 0} (f : Field) (g h : ℕ → ℕ → Answer A) → ((x p : ℕ) → f ≡ Number x p → g x p ≡ h x p) → on_field f g ≡ on_field f h
-  on_same (Number x p) g h e = e x p refl
-  on_same (Unfit c p) g h e = refl
+  on_same : {A : Type 0} (f : Field) (g h : ℕ → ℕ → Answer A) → ((x p : ℕ) → f ≡ number x p → g x p ≡ h x p) → on_field f g ≡ on_field f h
+  on_same (Ok n) g h e = e n.value n.next refl
+  on_same (Err u) g h e = refl
 
   pub cut_fields : (n k at : ℕ) (before : List ℕ) → at + reach k n < m → fields_at n k (take m text) at before ≡ fields_at n k text at before
   unfolding fields_at

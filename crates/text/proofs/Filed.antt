@@ -11,32 +11,25 @@ use Rattle.chart.specs.declared.charts.Head.{Head}
 use Rattle.chart.specs.Charts.{Chart, size, charted}
 use Rattle.chart.specs.Faults.{refusal}
 use Rattle.chart.proofs.Faultless.{faultless}
-use Rattle.text.specs.declared.answers.Read.{Read}
-use Rattle.text.specs.declared.answers.Read.TheVariants as read
-use Rattle.text.specs.declared.answers.Wrote.{Wrote}
-use Rattle.text.specs.Texts.{read_text, read_into, filled, heading, told_read}
-use Rattle.text.specs.Written.{numbers, written, writing, printed, told_wrote}
+use Rattle.text.specs.declared.answers.Heading.{Heading}
+use Rattle.text.specs.Texts.{read_text, read_into, filled, heading}
+use Rattle.text.specs.Written.{numbers, written, writing, printed}
 use Rattle.text.specs.Files.{U32s, FileOf, chart_read}
-use Rattle.text.proofs.Headings.{head_or, rows_told}
 use Rattle.text.proofs.Told.{ReadAs, read_sized, WroteAs}
 use Rattle.text.proofs.Theorems.{read_exactly, written-file}
 
 -- ---- the reader
 
 -- the chart D that is answered, with its rows at the front of the table
-chart-is : (r : Read) (after table : List ℕ) (D : Chart) → told_read r ≡ Ok (heading D) → after ≡ D.table ++ drop (length D.table) table → length D.table % 6 ≡ 0 → chart_read r after ≡ Some D
-unfolding told_read chart_read
-chart-is (read.Refused s) after table D t l w = absurd (different (sym t))
-chart-is (read.Chart h n) after table D t l w =
-    let p : h ≡ D.head = ap (head_or h) t in
-    let z : n ≡ size D.table = ap rows_told t in
-    let k : take (6 * n) after ≡ D.table = rw l (take_at D.table _ (6 * n) (omega (arith, z, w))) in
-    (λ i. Some (charted (p i) (k i)))
+chart-is : (r : Answer Heading) (after table : List ℕ) (D : Chart) → r ≡ Ok (heading D) → after ≡ D.table ++ drop (length D.table) table → length D.table % 6 ≡ 0 → chart_read r after ≡ Some D
+unfolding chart_read
+chart-is r after table D t l w =
+    let k : take (6 * size D.table) after ≡ D.table = rw l (take_at D.table _ (6 * size D.table) (omega arith)) in
+    ap (λ (a : Answer Heading). chart_read a after) t ∙ ap (λ (l : List ℕ). Some (charted D.head l)) k
 
-chart-none : (r : Read) (after : List ℕ) (s : Refusal) → told_read r ≡ Err s → chart_read r after ≡ None
-unfolding told_read chart_read
-chart-none (read.Refused s) after t e = refl
-chart-none (read.Chart h n) after t e = absurd (different e)
+chart-none : (r : Answer Heading) (after : List ℕ) (s : Refusal) → r ≡ Err s → chart_read r after ≡ None
+unfolding chart_read
+chart-none r after s t = rw t
 
 not_some : {A : Type 0} {x : A} → ◌≡◌ {A = Option A} None (Some x) → ⊥
 not_some e = let z : ◌≡◌ {A = ℕ} 0 1 = cc in omega arith
@@ -61,7 +54,7 @@ module _ (text table : List ℕ) where
   filed D e = (read_exactly D text).0 (sym (read_sized text table (sized D e)) ∙ e)
 
   -- what is answered of a text is a chart exactly where the text is its file
-  read_filed : (r : Read) (after : List ℕ) → ReadAs (read_into text table) r table after → (C : Chart) → (chart_read r after ≡ Some C) ↔ (FileOf C text × (length table ≡ 768))
+  read_filed : (r : Answer Heading) (after : List ℕ) → ReadAs (read_into text table) r table after → (C : Chart) → (chart_read r after ≡ Some C) ↔ (FileOf C text × (length table ≡ 768))
   unfolding filled
   read_filed r after a C = (to (read_into text table) refl a, from)
     where
@@ -79,7 +72,7 @@ module _ (text table : List ℕ) where
           chart-is r after table C b.0 b.1 (faultless C f.0.faultless).whole
 
   -- all that a call says
-  pub read_said : (r : Read) (after : List ℕ) → ReadAs (read_into text table) r table after
+  pub read_said : (r : Answer Heading) (after : List ℕ) → ReadAs (read_into text table) r table after
       → ReadAs (read_into text table) r table after × ((C : Chart) → (chart_read r after ≡ Some C) ↔ (FileOf C text × (length table ≡ 768)))
   read_said r after a = (a, read_filed r after a)
 
@@ -110,7 +103,7 @@ module _ (h : Head) (l bytes : List ℕ) (p : h.places ≤ 4294967295) (q : h.al
       go false o e = absurd (different (sym e))
 
   -- what stands at the front of the bytes is the chart's file
-  write_filed : (r : Wrote) (after : List ℕ) → WroteAs (writing (charted h l) (length bytes)) r bytes after → (n : ℕ) → told_wrote r ≡ Ok n → FileOf (charted h l) (take n after)
+  write_filed : (r : Answer ℕ) (after : List ℕ) → WroteAs (writing (charted h l) (length bytes)) r bytes after → (n : ℕ) → r ≡ Ok n → FileOf (charted h l) (take n after)
   unfolding printed
   write_filed r after a n e = go (writing (charted h l) (length bytes)) refl a
     where
@@ -122,6 +115,6 @@ module _ (h : Head) (l bytes : List ℕ) (p : h.places ≤ 4294967295) (q : h.al
           let k : take n after ≡ t = rw a.1 (take_at t _ n (sym z)) in
           rw (k, w.0) (written-file (charted h l) (u32s h l p q u w.1) w.1)
 
-  pub write_said : (r : Wrote) (after : List ℕ) → WroteAs (writing (charted h l) (length bytes)) r bytes after
-      → WroteAs (writing (charted h l) (length bytes)) r bytes after × ((n : ℕ) → told_wrote r ≡ Ok n → FileOf (charted h l) (take n after))
+  pub write_said : (r : Answer ℕ) (after : List ℕ) → WroteAs (writing (charted h l) (length bytes)) r bytes after
+      → WroteAs (writing (charted h l) (length bytes)) r bytes after × ((n : ℕ) → r ≡ Ok n → FileOf (charted h l) (take n after))
   write_said r after a = (a, write_filed r after a)

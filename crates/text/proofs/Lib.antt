@@ -17,4 +17,3 @@ pub mod Lengths
 pub mod Theorems
 pub mod Filed
 pub mod Bounds
-pub mod Headings

@@ -4,12 +4,12 @@ use Rattle.std.proofs.Common.{◌≡◌, ℕ, zero, suc, ◌+◌, ◌-◌, ◌*�
 use borrow.Author.Tests.{lt-leb, not-true, not-false}
 use lib.ListN.{get_or-eq_default}
 use Rattle.base.proofs.Tests.{and_false}
-use Rattle.text.specs.declared.causes.Cause.{Cause}
-use Rattle.text.specs.declared.causes.Cause.TheVariants as cause
+use Rattle.text.specs.declared.causes.Unfit.{Unfit}
+use Rattle.base.specs.declared.Reason.TheVariants as because
 use Rattle.text.specs.declared.fields.Kind.{Kind}
-use Rattle.text.specs.declared.fields.Field.{Field}
-use Rattle.text.specs.declared.fields.Field.TheVariants.{Number, Unfit}
-use Rattle.text.specs.Fields.{byte_at, digit_of, digits, value, kind, judged, bounded, ended, number_of, number_at, followed, field_at, line_end, closed, missing, item_at}
+use Rattle.text.specs.declared.fields.Number.{Number}
+use Rattle.std.specs.Prelude.{Ok, Err}
+use Rattle.text.specs.Fields.{Field, number, unfit, byte_at, digit_of, digits, value, kind, judged, bounded, ended, number_of, number_at, followed, field_at, line_end, closed, missing, item_at}
 use Rattle.text.specs.inner.Digits.{TellsDigit}
 use Rattle.text.specs.declared.fields.Kind.TheVariants.{Plain, Count, Spare}
 use native.Mathlib.Decide.{dec_lt}
@@ -95,11 +95,11 @@ unfolding value
 value-most x [] = omega arith
 value-most x (d ∷ ds) = omega (arith, value-most (x * 10 + d) ds)
 
-ended_zero : (sort : Kind) (first at d : ℕ) (ds : List ℕ) → Unfit cause.BadNumber first ≡ ended sort first at 0 (d ∷ ds)
+ended_zero : (sort : Kind) (first at d : ℕ) (ds : List ℕ) → unfit because.BadNumber first ≡ ended sort first at 0 (d ∷ ds)
 unfolding ended
 ended_zero sort first at d ds = refl
 
-ended-above : (sort : Kind) (first at x d : ℕ) (ds : List ℕ) → (x ≡ 0 → ⊥) → 4294967295 < x * 10 + d → Unfit cause.BadNumber first ≡ ended sort first at x (d ∷ ds)
+ended-above : (sort : Kind) (first at x d : ℕ) (ds : List ℕ) → (x ≡ 0 → ⊥) → 4294967295 < x * 10 + d → unfit because.BadNumber first ≡ ended sort first at x (d ∷ ds)
 unfolding ended bounded value
 ended-above sort first at x d ds n h =
     rw (ne_eqb x 0 n, ended, lt-leb (value (x * 10 + d) ds) 4294967295 (omega (arith, value-most (x * 10 + d) ds)), bounded)
@@ -140,7 +140,7 @@ pub record Counting (sort : Kind) (text : List ℕ) (first x at : ℕ) : Type 0 
   pub inside : at ≤ length text
 
 module _ (sort : Kind) (text : List ℕ) (first x : ℕ) where
-  pub number-none : TellsDigit x (byte_at text first) → 9 < x → Unfit cause.BadByte first ≡ number_at sort text first
+  pub number-none : TellsDigit x (byte_at text first) → 9 < x → unfit because.BadByte first ≡ number_at sort text first
   unfolding number_at number_of
   number-none t h = rw (digits-none text first (t.none h))
 
@@ -155,19 +155,16 @@ module _ (sort : Kind) (text : List ℕ) (first x : ℕ) where
     pub number_stop : (r : Field) → 9 < d → r ≡ judged sort first at x → r ≡ number_at sort text first
     number_stop r h j = j ∙ ended-none sort first at x c.small ∙ sym (rw (digits-none text at (t.none h)) at c.is)
 
-    pub number_nought : (r : Field) → 9 < d → x ≡ 0 → r ≡ judged sort first at 0 → r ≡ number_at sort text first
-    number_nought r h z j = number_stop r h (j ∙ ap (judged sort first at) (sym z))
-
     module _ (h : d ≤ 9) where
       here : digit_of (byte_at text at) ≤ 9
       here = let e = t.is h in omega arith
 
-      pub number_zero : x ≡ 0 → Unfit cause.BadNumber first ≡ number_at sort text first
+      pub number_zero : x ≡ 0 → unfit because.BadNumber first ≡ number_at sort text first
       number_zero z =
           rw (c.is, digits_more text at here, z) (ended_zero sort first at (digit_of (byte_at text at)) (digits (drop (at + 1) text)))
 
       module _ (n : x ≡ 0 → ⊥) (r : Bool) (e : r ≡ leb (x * 10 + d) 4294967295) where
-        pub number-above : not r ≡ true → Unfit cause.BadNumber first ≡ number_at sort text first
+        pub number-above : not r ≡ true → unfit because.BadNumber first ≡ number_at sort text first
         number-above f =
             let i = t.is h in
             let g = leb-false (x * 10 + d) 4294967295 (sym e ∙ not-true r f) in
@@ -184,62 +181,68 @@ module _ (sort : Kind) (text : List ℕ) (first x : ℕ) where
 
 -- ---- what a field may hold
 
-module _ (sort s : Kind) (first next x : ℕ) (i : s ≡ sort) where
-  pub judge_plain : s ≡ Plain → Number x next ≡ judged sort first next x
+module _ (sort s : Kind) (first : ℕ) (n : Number) (i : s ≡ sort) where
+  pub judge_plain : s ≡ Plain → Ok n ≡ judged sort first n.next n.value
   unfolding judged
   judge_plain e = rw (← i, e)
 
-  pub judge_count : s ≡ Count → x ≤ 128 → Number x next ≡ judged sort first next x
+  pub judge_count : s ≡ Count → n.value ≤ 128 → Ok n ≡ judged sort first n.next n.value
   unfolding judged
-  judge_count e h = rw (← i, e, le-leb x 128 h, judged)
+  judge_count e h = rw (← i, e, le-leb n.value 128 h, judged)
 
-  pub judge_many : s ≡ Count → 128 < x → Unfit cause.ManyRows first ≡ judged sort first next x
+  pub judge_many : s ≡ Count → 128 < n.value → unfit because.Exceeding first ≡ judged sort first n.next n.value
   unfolding judged
-  judge_many e h = rw (← i, e, lt-leb x 128 h, judged)
+  judge_many e h = rw (← i, e, lt-leb n.value 128 h, judged)
 
-  pub judge_spare : s ≡ Spare → x ≡ 0 → Number x next ≡ judged sort first next x
+  pub judge_spare : s ≡ Spare → n.value ≡ 0 → Ok n ≡ judged sort first n.next n.value
   unfolding judged
-  judge_spare e h = rw (← i, e, eq-eqb x 0 h, judged)
+  judge_spare e h = rw (← i, e, eq-eqb n.value 0 h, judged)
 
-  pub judge_used : s ≡ Spare → (x ≡ 0 → ⊥) → Unfit cause.BadNumber first ≡ judged sort first next x
+  pub judge_used : s ≡ Spare → (n.value ≡ 0 → ⊥) → unfit because.BadNumber first ≡ judged sort first n.next n.value
   unfolding judged
-  judge_used e h = rw (← i, e, ne_eqb x 0 h, judged)
+  judge_used e h = rw (← i, e, ne_eqb n.value 0 h, judged)
 
 -- ---- what follows a number
 
-module _ (b : ℕ) (text : List ℕ) (f : Field) where
-  pub follow_unfit : (c : Cause) (p : ℕ) → f ≡ Unfit c p → Unfit c p ≡ followed b text f
+module _ (b : ℕ) (text : List ℕ) (n : Number) where
+  pub follow_past : b < 256 → length text ≤ n.next → unfit because.BadByte n.next ≡ followed b text (Ok n)
   unfolding followed
-  follow_unfit c p e = rw e
+  follow_past s h = rw (byte_past text n.next h, ne_eqb 256 b (omega arith), followed)
 
-  pub follow_past : (x p : ℕ) → b < 256 → f ≡ Number x p → length text ≤ p → Unfit cause.BadByte p ≡ followed b text f
+  pub follow-is : n.next < length text → get_or text n.next 0 ≡ b → number n.value (n.next + 1) ≡ followed b text (Ok n)
   unfolding followed
-  follow_past x p s e h = rw (e, byte_past text p h, ne_eqb 256 b (omega arith), followed)
+  follow-is l h = rw (byte_here text n.next l, eq-eqb _ _ h, followed)
 
-  pub follow-is : (x p : ℕ) → f ≡ Number x p → p < length text → get_or text p 0 ≡ b → Number x (p + 1) ≡ followed b text f
+  pub follow_not : n.next < length text → (get_or text n.next 0 ≡ b → ⊥) → unfit because.BadByte n.next ≡ followed b text (Ok n)
   unfolding followed
-  follow-is x p e l h = rw (e, byte_here text p l, eq-eqb _ _ h, followed)
+  follow_not l h = rw (byte_here text n.next l, ne_eqb _ _ h, followed)
 
-  pub follow_not : (x p : ℕ) → f ≡ Number x p → p < length text → (get_or text p 0 ≡ b → ⊥) → Unfit cause.BadByte p ≡ followed b text f
+-- what follows a refusal is it
+module _ (text : List ℕ) (u : Unfit) where
+  pub followed_unfit : (b : ℕ) → Err u ≡ followed b text (Err u)
   unfolding followed
-  follow_not x p e l h = rw (e, byte_here text p l, ne_eqb _ _ h, followed)
+  followed_unfit b = refl
 
-module _ (text : List ℕ) (f : Field) where
-  pub end_unfit : (c : Cause) (p : ℕ) → f ≡ Unfit c p → Unfit c p ≡ line_end text f
+  pub closed_unfit : (k : ℕ) → Err u ≡ closed k text (Err u)
+  unfolding closed followed line_end
+  closed_unfit k = go (eqb (k % 6) 5)
+    where
+      go : (b : Bool) → Err u ≡ elim b as (λ _. Field) [ true ↦ line_end text (Err u) | false ↦ followed 44 text (Err u) ]
+      go true = refl
+      go false = refl
+
+module _ (text : List ℕ) (n : Number) where
+  pub end_text : length text ≤ n.next → Ok n ≡ line_end text (Ok n)
   unfolding line_end
-  end_unfit c p e = rw e
+  end_text h = rw (le-leb _ _ h, line_end)
 
-  pub end_text : (x p : ℕ) → f ≡ Number x p → length text ≤ p → Number x p ≡ line_end text f
+  pub end_line : (f r : Field) → n.next < length text → f ≡ followed 13 text (Ok n) → r ≡ followed 10 text f → r ≡ line_end text (Ok n)
   unfolding line_end
-  end_text x p e h = rw (e, le-leb _ _ h, line_end)
-
-  pub end_line : (x p : ℕ) (g r : Field) → f ≡ Number x p → p < length text → g ≡ followed 13 text (Number x p) → r ≡ followed 10 text g → r ≡ line_end text f
-  unfolding line_end
-  end_line x p g r e h i j = rw (e, lt-leb _ _ h, line_end) (j ∙ ap (followed 10 text) i)
+  end_line f r h i j = rw (lt-leb _ _ h, line_end) (j ∙ ap (followed 10 text) i)
 
 -- ---- a field
 
-pub field_past : (sort : Kind) (text : List ℕ) (at : ℕ) → length text ≤ at → Unfit cause.BadByte at ≡ field_at sort text at
+pub field_past : (sort : Kind) (text : List ℕ) (at : ℕ) → length text ≤ at → unfit because.BadByte at ≡ field_at sort text at
 unfolding field_at
 field_past sort text at h = rw (byte_past text at h, field_at) (number-none sort text at 10 (digit_past text at h) (omega arith))
 
@@ -284,23 +287,14 @@ kind-high (suc (suc (suc (suc zero)))) h = absurd (omega arith)
 kind-high (suc (suc (suc (suc (suc zero))))) h = absurd (omega arith)
 kind-high (suc (suc (suc (suc (suc (suc k)))))) h = refl
 
-module _ (k : ℕ) (text : List ℕ) (f : Field) where
-  pub close_unfit : (c : Cause) (p : ℕ) → f ≡ Unfit c p → Unfit c p ≡ closed k text f
-  unfolding closed followed line_end
-  close_unfit c p e = rw e (go (eqb (k % 6) 5))
-    where
-      go : (b : Bool) → Unfit c p ≡ elim b [ true ↦ line_end text (Unfit c p) | false ↦ followed 44 text (Unfit c p) ]
-      go true = refl
-      go false = refl
+module _ (k : ℕ) (text : List ℕ) (n : Number) (r : Field) where
+  pub close_line : k % 6 ≡ 5 → r ≡ line_end text (Ok n) → r ≡ closed k text (Ok n)
+  unfolding closed
+  close_line h i = rw (eq-eqb _ _ h, closed) i
 
-  module _ (x p : ℕ) (r : Field) (e : f ≡ Number x p) where
-    pub close_line : k % 6 ≡ 5 → r ≡ line_end text (Number x p) → r ≡ closed k text f
-    unfolding closed
-    close_line h i = rw (eq-eqb _ _ h, closed) (i ∙ ap (line_end text) (sym e))
-
-    pub close_comma : (k % 6 ≡ 5 → ⊥) → r ≡ followed 44 text (Number x p) → r ≡ closed k text f
-    unfolding closed
-    close_comma h i = rw (ne_eqb _ _ h, closed) (i ∙ ap (followed 44 text) (sym e))
+  pub close_comma : (k % 6 ≡ 5 → ⊥) → r ≡ followed 44 text (Ok n) → r ≡ closed k text (Ok n)
+  unfolding closed
+  close_comma h i = rw (ne_eqb _ _ h, closed) i
 
 module _ (k : ℕ) (text : List ℕ) (at : ℕ) where
   pub missing_past : length text ≤ at → eqb (k % 6) 0 ≡ missing k text at
@@ -311,7 +305,7 @@ module _ (k : ℕ) (text : List ℕ) (at : ℕ) where
   unfolding missing
   missing-inside h = rw (lt-leb _ _ h, missing, and_false (eqb (k % 6) 0))
 
-  pub item_missing : (m : Bool) → m ≡ missing k text at → m ≡ true → Unfit cause.WrongEnd (length text) ≡ item_at k text at
+  pub item_missing : (m : Bool) → m ≡ missing k text at → m ≡ true → unfit because.WrongEnd (length text) ≡ item_at k text at
   unfolding item_at
   item_missing m e h = rw (sym e ∙ h, item_at)
 

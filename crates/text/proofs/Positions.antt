@@ -6,12 +6,10 @@ use native.Mathlib.Decide.{dec_lt}
 use borrow.Author.Tests.{lt-leb}
 use Rattle.base.specs.Answers.{Answer}
 use Rattle.std.specs.Prelude.{Ok, Err}
-use Rattle.text.specs.declared.causes.Cause.TheVariants as cause
+use Rattle.base.specs.declared.Reason.TheVariants as because
 use Rattle.text.specs.declared.fields.Kind.{Kind}
 use Rattle.text.specs.declared.fields.Kind.TheVariants.{Plain, Count, Spare}
-use Rattle.text.specs.declared.fields.Field.{Field}
-use Rattle.text.specs.declared.fields.Field.TheVariants.{Number, Unfit}
-use Rattle.text.specs.Fields.{byte_at, digits, value, more, kind, judged, bounded, ended, number_of, number_at, followed, field_at, line_end, closed, missing, item_at}
+use Rattle.text.specs.Fields.{Field, number, unfit, byte_at, digits, value, more, kind, judged, bounded, ended, number_of, number_at, followed, field_at, line_end, closed, missing, item_at}
 use Rattle.text.specs.Spans.{Span, fields_at}
 use Rattle.text.proofs.Cases.{by_test, by_field}
 use Rattle.text.proofs.Numbers.{missing-inside}
@@ -20,8 +18,8 @@ use Rattle.text.proofs.Numbers.{missing-inside}
 
 -- the offset that a field or its refusal names
 abbrev pub end : Field → ℕ
-end (Number x p) = p
-end (Unfit c p) = p
+end (Ok n) = n.next
+end (Err u) = u.offset
 
 unfoldable ten : ℕ → ℕ
 ten zero = 1
@@ -40,7 +38,7 @@ value-least j x (d ∷ ds) h =
     rw z (value-least (suc j) (x * 10 + d) ds (omega arith))
 
 -- eleven digits or more are too many
-pub number-long : (sort : Kind) (first : ℕ) (ds : List ℕ) → 11 ≤ length ds → number_of sort first ds ≡ Unfit cause.BadNumber first
+pub number-long : (sort : Kind) (first : ℕ) (ds : List ℕ) → 11 ≤ length ds → number_of sort first ds ≡ unfit because.BadNumber first
 unfolding number_of ended bounded ten
 number-long sort first [] h = absurd (omega arith)
 number-long sort first (d ∷ []) h = absurd (omega arith)
@@ -85,8 +83,8 @@ number-ends sort text first =
 
 pub followed-ends : (b : ℕ) (text : List ℕ) (f : Field) → end (followed b text f) ≤ end f + 1
 unfolding followed
-followed-ends b text (Unfit c p) = omega arith
-followed-ends b text (Number x p) = by_test (Ends (p + 1)) (eqb (byte_at text p) b) (λ _. omega arith) (λ _. omega arith)
+followed-ends b text (Err u) = omega arith
+followed-ends b text (Ok n) = by_test (Ends (n.next + 1)) (eqb (byte_at text n.next) b) (λ _. omega arith) (λ _. omega arith)
 
 pub field_ends : (sort : Kind) (text : List ℕ) (at : ℕ) → end (field_at sort text at) ≤ at + 12
 unfolding field_at
@@ -97,10 +95,10 @@ field_ends sort text at =
 
 pub line-ends : (text : List ℕ) (f : Field) → end (line_end text f) ≤ end f + 2
 unfolding line_end
-line-ends text (Unfit c p) = omega arith
-line-ends text (Number x p) =
-    by_test (Ends (p + 2)) (leb (length text) p) (λ _. omega arith)
-    (λ _. omega (arith, followed-ends 10 text (followed 13 text (Number x p)), followed-ends 13 text (Number x p)))
+line-ends text (Err u) = omega arith
+line-ends text (Ok n) =
+    by_test (Ends (n.next + 2)) (leb (length text) n.next) (λ _. omega arith)
+    (λ _. omega (arith, followed-ends 10 text (followed 13 text (Ok n)), followed-ends 13 text (Ok n)))
 
 -- the bytes that so many fields from field k on take at most: ten digits, two quotes and a comma each, and one more for each record that ends
 abbrev pub reach : ℕ → ℕ → ℕ
@@ -141,4 +139,4 @@ fields_stop zero k text at before = omega arith
 fields_stop (suc n) k text at before =
     by_field (λ (r : Answer Span). stops r ≤ at + reach k (suc n)) (item_at k text at) _
     (λ x p e. omega (arith, fields_stop n (suc k) text p (before ++ (x ∷ [])), reach_one k n, item_ends k text at, ap end e))
-    (λ c p e. omega (arith, reach_one k n, item_ends k text at, ap end e))
+    (λ u e. omega (arith, reach_one k n, item_ends k text at, ap end e))

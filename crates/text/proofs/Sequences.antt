@@ -50,7 +50,7 @@ fields_show (suc n) k text at before =
       items = record { middle = drop p text; item = subst (OnNumber (λ x p. Item k (drop at text) x (drop p text))) e (item_shows text k at); rest = h.items };
     })
     (fields_show n (suc k) text p (before ++ (x ∷ []))))
-    (λ c p e. tt)
+    (λ u e. tt)
 
 -- ---- from the bytes to the reading
 

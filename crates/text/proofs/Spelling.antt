@@ -2,7 +2,7 @@
 -- Assumes nothing.
 use Rattle.std.proofs.Common.{◌≡◌, ℕ, suc, ◌+◌, ◌-◌, ◌*◌, ◌%◌, ◌<◌, ◌≤◌, Bool, true, false, ◌&&◌, eqb, leb, List, [], ◌∷◌, ◌++◌, map, length, get_or, drop, sym, refl, ap, ◌∙◌, subst, append_assoc, add-one, arith, length-append, length-drop, drop_of_length-le, get_or-drop, drop-cons, drop-drop, eq-eqb, ne_eqb, eqb-true, le-leb, leb-true}
 use mathlib.Core.Logic.{dite}
-use Rattle.std.specs.Prelude.{Option, None, Some}
+use Rattle.std.specs.Prelude.{Option, None, Some, Ok, Err}
 use native.Mathlib.Decide.{dec_lt}
 use borrow.Author.Tests.{lt-leb, eqb-false}
 use lib.ListN.{length-map}
@@ -10,9 +10,7 @@ use lib.Seq.{drop-append_seam}
 use Rattle.base.proofs.OnSome.{OnSome, on_map}
 use Rattle.text.specs.declared.fields.Kind.{Kind}
 use Rattle.text.specs.declared.fields.Kind.TheVariants.{Plain, Count, Spare}
-use Rattle.text.specs.declared.fields.Field.{Field}
-use Rattle.text.specs.declared.fields.Field.TheVariants.{Number, Unfit}
-use Rattle.text.specs.Fields.{byte_at, digit_of, digits, value, more, kind, judged, bounded, ended, number_of, number_at, followed, field_at, line_end, closed, missing, item_at}
+use Rattle.text.specs.Fields.{Field, number, byte_at, digit_of, digits, value, more, kind, judged, bounded, ended, number_of, number_at, followed, field_at, line_end, closed, missing, item_at}
 use Rattle.text.specs.Written.{digits_of, decimal}
 use Rattle.text.proofs.Cases.{by_test}
 use Rattle.text.proofs.Numbers.{byte_past, digit_is, digit_low, digit_high, digits-none, missing-inside}
@@ -22,8 +20,8 @@ use Rattle.text.proofs.Decimals.{Nines, Leads, Spells, spells, decimal-one, deci
 
 -- the number and the offset after it, if there is one
 abbrev pub shown : Field → Option (ℕ × ℕ)
-shown (Number x p) = Some (x, p)
-shown (Unfit c p) = None
+shown (Ok n) = Some (n.value, n.next)
+shown (Err u) = None
 
 -- P of these
 abbrev pub OnNumber : (ℕ → ℕ → Type 0) → Field → Type 0
@@ -142,9 +140,9 @@ module _ (text : List ℕ) where
 
   followed_shows : (P Q : ℕ → ℕ → Type 0) (b : ℕ) (f : Field) → b < 256 → ((x p : ℕ) → P x p → drop p text ≡ b ∷ drop (p + 1) text → Q x (p + 1)) → OnNumber P f → OnNumber Q (followed b text f)
   unfolding followed
-  followed_shows P Q b (Unfit c p) h g w = tt
-  followed_shows P Q b (Number x p) h g w =
-      by_test (OnNumber Q) (eqb (byte_at text p) b) (λ e. g x p w (byte_front p b h (eqb-true (byte_at text p) b e))) (λ _. tt)
+  followed_shows P Q b (Err u) h g w = tt
+  followed_shows P Q b (Ok n) h g w =
+      by_test (OnNumber Q) (eqb (byte_at text n.next) b) (λ e. g n.value n.next w (byte_front n.next b h (eqb-true (byte_at text n.next) b e))) (λ _. tt)
 
   field_shows : (sort : Kind) (at : ℕ) → OnNumber (λ x p. Fielded sort (drop at text) x (drop p text)) (field_at sort text at)
   unfolding field_at
@@ -166,12 +164,12 @@ module _ (text : List ℕ) where
   line_shows : (P Q : ℕ → ℕ → Type 0) (f : Field) → ((x p : ℕ) → P x p → drop p text ≡ [] → Q x p) → ((x p : ℕ) → P x p → drop p text ≡ 13 ∷ 10 ∷ drop (p + 1 + 1) text → Q x (p + 1 + 1))
       → OnNumber P f → OnNumber Q (line_end text f)
   unfolding line_end
-  line_shows P Q (Unfit c p) g h w = tt
-  line_shows P Q (Number x p) g h w =
-      by_test (OnNumber Q) (leb (length text) p) (λ e. g x p w (drop_of_length-le text {i = p} (leb-true _ _ e)))
-      (λ _. followed_shows (λ y q. (y ≡ x) × ((q ≡ p + 1) × (drop p text ≡ 13 ∷ drop (p + 1) text))) Q 10 (followed 13 text (Number x p)) (omega arith)
-      (λ y q i j. subst (λ (z : ℕ). Q z (q + 1)) (sym i.0) (subst (λ (z : ℕ). Q x (z + 1)) (sym i.1.0) (h x p w (i.1.1 ∙ ap (λ (l : List ℕ). 13 ∷ l) (subst (λ (z : ℕ). drop z text ≡ 10 ∷ drop (z + 1) text) i.1.0 j)))))
-      (followed_shows (λ y q. (y ≡ x) × (q ≡ p)) (λ y q. (y ≡ x) × ((q ≡ p + 1) × (drop p text ≡ 13 ∷ drop (p + 1) text))) 13 (Number x p) (omega arith)
+  line_shows P Q (Err u) g h w = tt
+  line_shows P Q (Ok n) g h w =
+      by_test (OnNumber Q) (leb (length text) n.next) (λ e. g n.value n.next w (drop_of_length-le text {i = n.next} (leb-true _ _ e)))
+      (λ _. followed_shows (λ y q. (y ≡ n.value) × ((q ≡ n.next + 1) × (drop n.next text ≡ 13 ∷ drop (n.next + 1) text))) Q 10 (followed 13 text (Ok n)) (omega arith)
+      (λ y q i j. subst (λ (z : ℕ). Q z (q + 1)) (sym i.0) (subst (λ (z : ℕ). Q n.value (z + 1)) (sym i.1.0) (h n.value n.next w (i.1.1 ∙ ap (λ (l : List ℕ). 13 ∷ l) (subst (λ (z : ℕ). drop z text ≡ 10 ∷ drop (z + 1) text) i.1.0 j)))))
+      (followed_shows (λ y q. (y ≡ n.value) × (q ≡ n.next)) (λ y q. (y ≡ n.value) × ((q ≡ n.next + 1) × (drop n.next text ≡ 13 ∷ drop (n.next + 1) text))) 13 (Ok n) (omega arith)
       (λ y q i j. (i.0, (ap (λ (z : ℕ). z + 1) i.1, subst (λ (z : ℕ). drop z text ≡ 13 ∷ drop (z + 1) text) i.1 j)))
       (refl, refl)))
 
@@ -193,7 +191,7 @@ module _ (text : List ℕ) where
 -- a number x is read, and s is left
 pub record Reads (text : List ℕ) (f : Field) (x : ℕ) (s : List ℕ) : Type 0 where
   pub next : ℕ
-  pub is : f ≡ Number x next
+  pub is : f ≡ number x next
   pub left : drop next text ≡ s
 
 digits_spelt : (ds u : List ℕ) → Nines ds → digits u ≡ [] → digits (map (λ (d : ℕ). 48 + d) ds ++ u) ≡ ds
@@ -220,7 +218,7 @@ number_spelt sort first x ds s =
     dite (dec_lt 0 x) (λ h. rw (number-leads sort first ds (s.leads h), s.says))
     (λ n. let z : x ≡ 0 = omega arith in let l : first + 1 + 0 ≡ first + 1 = omega arith in rw (s.one z, z, l))
 
-judged-kept : (sort : Kind) (first next x : ℕ) → Fits sort x → judged sort first next x ≡ Number x next
+judged-kept : (sort : Kind) (first next x : ℕ) → Fits sort x → judged sort first next x ≡ number x next
 unfolding judged
 judged-kept Plain first next x h = refl
 judged-kept Count first next x h = rw (le-leb x 128 h, judged)
@@ -271,9 +269,9 @@ module _ (text : List ℕ) (x : ℕ) where
   reads-line : (f : Field) (s : List ℕ) → Reads text f x (13 ∷ 10 ∷ s) → Reads text (line_end text f) x s
   unfolding line_end
   reads-line f s r =
-      let g : Reads text (Number x r.next) x (13 ∷ 10 ∷ s) = record { next = r.next; is = refl; left = r.left } in
+      let g : Reads text (number x r.next) x (13 ∷ 10 ∷ s) = record { next = r.next; is = refl; left = r.left } in
       rw (r.is, lt-leb _ _ (in_text text r.next 13 (10 ∷ s) r.left), line_end)
-      (reads_followed (followed 13 text (Number x r.next)) 10 s (reads_followed (Number x r.next) 13 (10 ∷ s) g))
+      (reads_followed (followed 13 text (number x r.next)) 10 s (reads_followed (number x r.next) 13 (10 ∷ s) g))
 
   reads_over : (f : Field) → Reads text f x [] → Reads text (line_end text f) x []
   unfolding line_end

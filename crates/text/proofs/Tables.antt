@@ -1,12 +1,10 @@
 -- Laws of tables: fields that are read into one. Assumes nothing.
 use Rattle.std.proofs.Common.{◌≡◌, ℕ, suc, ◌+◌, ◌-◌, ◌<◌, ◌≤◌, List, [], ◌∷◌, ◌++◌, length, take, drop, set, sym, refl, ap, ◌∙◌, append_assoc, append-nil, add-one, arith, length-set, take-append-drop, length-take-le, drop-drop, take-suc-set, drop-set-lt}
-use Rattle.text.specs.declared.causes.Cause.{Cause}
-use Rattle.text.specs.declared.fields.Field.{Field}
-use Rattle.text.specs.declared.fields.Field.TheVariants.{Number, Unfit}
-use Rattle.text.specs.declared.inner.table.Reach.{Reach}
-use Rattle.text.specs.declared.inner.table.Reach.TheVariants as reach
-use Rattle.text.specs.Fields.{item_at}
-use Rattle.text.specs.inner.Walk.{numbers_at, laid, reach_at, reached}
+use Rattle.text.specs.declared.causes.Unfit.{Unfit}
+use Rattle.text.specs.declared.fields.Number.{Number}
+use Rattle.std.specs.Prelude.{Ok, Err}
+use Rattle.text.specs.Fields.{Field, item_at}
+use Rattle.text.specs.inner.Walk.{numbers_at, laid, Reach, reach_at}
 
 -- ---- fields are read into a table
 
@@ -44,35 +42,26 @@ module _ (n k : ℕ) (text : List ℕ) (at : ℕ) (table₀ table : List ℕ) (p
       laid-front table₀ table (numbers_at n k text at) i (omega (arith, c.most, c.long))
       (c.numbers ∙ rw e (append-nil (take i table))) c.rest
 
-  pub reading_stop : (f : Field) (m : Cause) (q : ℕ) → n ≤ length table₀ → i < n → f ≡ item_at (k + i) text p → f ≡ Unfit m q → Into (reach.Unfit m q) table
+  pub reading_stop : (f : Field) (u : Unfit) → n ≤ length table₀ → i < n → f ≡ item_at (k + i) text p → f ≡ Err u → Into (Err u) table
   unfolding reach_at numbers_at
-  reading_stop f m q w h e g = (rw (c.is, left h, reach_at, sym e ∙ g), ends w (rw (left h, numbers_at, sym e ∙ g)))
+  reading_stop f u w h e g = (rw (c.is, left h, reach_at, sym e ∙ g), ends w (rw (left h, numbers_at, sym e ∙ g)))
 
-  pub reading_more : (f : Field) (x q : ℕ) (after : List ℕ) → n ≤ length table₀ → i < n → f ≡ item_at (k + i) text p → f ≡ Number x q → after ≡ set table i x → Reading n k text at table₀ after q (i + 1)
+  pub reading_more : (f : Field) (m : Number) (after : List ℕ) → n ≤ length table₀ → i < n → f ≡ item_at (k + i) text p → f ≡ Ok m → after ≡ set table i m.value → Reading n k text at table₀ after m.next (i + 1)
   unfolding reach_at numbers_at
-  reading_more f x q after w h e g s =
+  reading_more f m after w h e g s =
       let z : k + (i + 1) ≡ suc (k + i) = omega arith in
-      let t : take (i + 1) after ≡ take i table ++ (x ∷ []) = rw (s, add-one i) (take-suc-set table i x (omega (arith, c.long))) in
+      let t : take (i + 1) after ≡ take i table ++ (m.value ∷ []) = rw (s, add-one i) (take-suc-set table i m.value (omega (arith, c.long))) in
       let d : drop (i + 1) table ≡ drop (i + 1) table₀ = sym (drop-drop 1 i table) ∙ rw c.rest (drop-drop 1 i table₀) in
       record {
         is = rw (c.is, left h, reach_at, sym e ∙ g, z);
-        numbers = c.numbers ∙ rw (left h, numbers_at, sym e ∙ g, z, t) (sym (append_assoc (take i table) (x ∷ []) (numbers_at (n - (i + 1)) (suc (k + i)) text q)));
-        rest = rw s (drop-set-lt (i + 1) table i x (omega arith) ∙ d);
+        numbers = c.numbers ∙ rw (left h, numbers_at, sym e ∙ g, z, t) (sym (append_assoc (take i table) (m.value ∷ []) (numbers_at (n - (i + 1)) (suc (k + i)) text m.next)));
+        rest = rw s (drop-set-lt (i + 1) table i m.value (omega arith) ∙ d);
         most = omega arith;
-        long = ap length s ∙ length-set table i x ∙ c.long;
+        long = ap length s ∙ length-set table i m.value ∙ c.long;
       }
 
-  pub reading_done : n ≤ length table₀ → n ≤ i → Into (reach.Past p) table
+  pub reading_done : n ≤ length table₀ → n ≤ i → Into (Ok p) table
   unfolding reach_at numbers_at
   reading_done w h =
       let z : n - i ≡ 0 = omega arith in
       (rw (c.is, z, reach_at), ends w (rw (z, numbers_at)))
-
--- the offset reached
-pub reached_past : (f : Reach) (p at : ℕ) → f ≡ reach.Past p → p ≡ reached f at
-unfolding reached
-reached_past f p at e = rw e
-
-pub reached_unfit : (f : Reach) (c : Cause) (p at : ℕ) → f ≡ reach.Unfit c p → at ≡ reached f at
-unfolding reached
-reached_unfit f c p at e = rw e

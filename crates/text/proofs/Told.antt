@@ -5,26 +5,19 @@ use borrow.Author.Tests.{lt-leb}
 use lib.Seq.{sets-eq}
 use Rattle.base.specs.declared.Refusal.{Refusal}
 use Rattle.base.specs.Answers.{Answer}
-use Rattle.std.specs.Prelude.{Ok, Err}
+use Rattle.std.specs.Prelude.{None, Some, Ok, Err}
+use Rattle.text.specs.declared.answers.Heading.{Heading}
 use Rattle.base.specs.Chains.{and_then, mapped}
 use Rattle.base.specs.Refusals.{sole, unless}
 use Rattle.base.proofs.OnSome.{OnGiven}
-use Rattle.base.proofs.Answers.{different}
-use Rattle.chart.specs.declared.charts.Judged.{Judged}
-use Rattle.chart.specs.declared.charts.Judged.TheVariants.{Faultless, Refused}
 use Rattle.chart.specs.Charts.{Chart}
-use Rattle.chart.specs.Faults.{told, fault, refusal}
+use Rattle.chart.specs.Faults.{fault, refusal}
 use Rattle.chart.proofs.Faultless.{faultless as sound}
-use Rattle.text.specs.declared.answers.Read.{Read}
-use Rattle.text.specs.declared.answers.Read.TheVariants as read
-use Rattle.text.specs.declared.answers.Wrote.{Wrote}
-use Rattle.text.specs.declared.answers.Wrote.TheVariants as wrote
 use Rattle.text.specs.Fields.{kind}
 use Rattle.text.specs.Spans.{Span, fields_at}
-use Rattle.text.specs.Texts.{whole, rows_at, parsed, read_text, read_into, filled, Heading, heading, told_read, head_in, count_in}
-use Rattle.text.specs.Written.{written, writing, printed, told_wrote}
+use Rattle.text.specs.Texts.{whole, rows_at, parsed, read_text, read_into, filled, heading, head_in, count_in}
+use Rattle.text.specs.Written.{written, writing, printed}
 use Rattle.text.specs.inner.Puts.{Put}
-use Rattle.text.proofs.Headings.{head_or, rows_told}
 use Rattle.text.proofs.Sequences.{FitAll, Shown, fields_show, items_fit}
 
 -- ---- faults
@@ -35,19 +28,19 @@ unfolding refusal
 whole-rows C h = rw (eq-eqb _ _ h, refusal)
 
 -- a faultless chart's rows fill at most 768 entries
-pub short_table : (C : Chart) (j : Judged) → told j ≡ refusal C → j ≡ Faultless → length C.table ≤ 768
-short_table C j h e =
-    let f = sound C (sym h ∙ ap told e) in
+pub short_table : (C : Chart) → refusal C ≡ None → length C.table ≤ 768
+short_table C e =
+    let f = sound C e in
     omega (arith, f.whole, f.few_rows)
 
 -- ---- the reader
 
 -- what is said of an answer, and of the table after it
-abbrev pub ReadAs : Answer Chart → Read → List ℕ → List ℕ → Type 0
-ReadAs a r table after = (told_read r ≡ mapped heading a) × (after ≡ filled a table)
+abbrev pub ReadAs : Answer Chart → Answer Heading → List ℕ → List ℕ → Type 0
+ReadAs a r table after = (r ≡ mapped heading a) × (after ≡ filled a table)
 
-pub read_refused : (a : Answer Chart) (table : List ℕ) (r : Refusal) → a ≡ Err r → ReadAs a (read.Refused r) table table
-unfolding filled told_read
+pub read_refused : (a : Answer Chart) (table : List ℕ) (r : Refusal) → a ≡ Err r → ReadAs a (Err r) table table
+unfolding filled
 read_refused a table r e = (rw e, rw e)
 
 pub whole-after : (text : List ℕ) (at : ℕ) (C : Chart) → at < length text → whole text at C ≡ Err (sole 14 at)
@@ -78,7 +71,7 @@ parsed-some [] h = absurd (h refl)
 parsed-some (b ∷ s) h = refl
 
 module _ (text table : List ℕ) where
-  pub read_unsized : (s : Refusal) → s ≡ sole 21 0 → (length table ≡ 768 → ⊥) → ReadAs (read_into text table) (read.Refused s) table table
+  pub read_unsized : (s : Refusal) → s ≡ sole 21 0 → (length table ≡ 768 → ⊥) → ReadAs (read_into text table) (Err s) table table
   unfolding read_into
   read_unsized s g h = read_refused _ table s (rw (ne_eqb _ _ h, read_into, g))
 
@@ -89,46 +82,30 @@ module _ (text table : List ℕ) where
 
 -- ---- the writer
 
-abbrev pub WroteAs : Answer (List ℕ) → Wrote → List ℕ → List ℕ → Type 0
-WroteAs a r bytes after = (told_wrote r ≡ mapped length a) × (after ≡ printed a bytes)
+abbrev pub WroteAs : Answer (List ℕ) → Answer ℕ → List ℕ → List ℕ → Type 0
+WroteAs a r bytes after = (r ≡ mapped length a) × (after ≡ printed a bytes)
 
-write_refused : (a : Answer (List ℕ)) (bytes : List ℕ) (r : Refusal) → a ≡ Err r → WroteAs a (wrote.Refused r) bytes bytes
-unfolding printed told_wrote
+write_refused : (a : Answer (List ℕ)) (bytes : List ℕ) (r : Refusal) → a ≡ Err r → WroteAs a (Err r) bytes bytes
+unfolding printed
 write_refused a bytes r e = (rw e, rw e)
 
 module _ (C : Chart) (bytes : List ℕ) where
-  pub write_short : (s : Refusal) → s ≡ sole 21 0 → length bytes < 8643 → WroteAs (writing C (length bytes)) (wrote.Refused s) bytes bytes
+  pub write_short : (s : Refusal) → s ≡ sole 21 0 → length bytes < 8643 → WroteAs (writing C (length bytes)) (Err s) bytes bytes
   unfolding writing
   write_short s g h = write_refused _ bytes s (rw (lt-leb _ _ h, writing, g))
 
-  module _ (long : 8643 ≤ length bytes) (j : Judged) (is : told j ≡ refusal C) where
-    write_long : writing C (length bytes) ≡ unless (told j) (written C)
+  module _ (long : 8643 ≤ length bytes) where
+    write_long : writing C (length bytes) ≡ unless (refusal C) (written C)
     unfolding writing
-    write_long = rw (le-leb _ _ long, writing, is)
+    write_long = rw (le-leb _ _ long, writing)
 
-    pub write_faulty : (r : Refusal) → j ≡ Refused r → WroteAs (writing C (length bytes)) (wrote.Refused r) bytes bytes
+    pub write_faulty : (r : Refusal) → refusal C ≡ Some r → WroteAs (writing C (length bytes)) (Err r) bytes bytes
     write_faulty r e = write_refused _ bytes r (write_long ∙ rw e)
 
-    pub write_chart : (r : ℕ) (after : List ℕ) → j ≡ Faultless → (Put bytes 0 (written C) after r) × (r ≤ 8643) → WroteAs (writing C (length bytes)) (wrote.Bytes r) bytes after
-    unfolding printed told_wrote
+    pub write_chart : (r : ℕ) (after : List ℕ) → refusal C ≡ None → (Put bytes 0 (written C) after r) × (r ≤ 8643) → WroteAs (writing C (length bytes)) (Ok r) bytes after
+    unfolding printed
     write_chart r after e g =
         let i : writing C (length bytes) ≡ Ok (written C) = write_long ∙ rw e in
         let n : r ≡ length (written C) = omega (arith, g.0.next) in
         let z : 0 + length (written C) ≡ length (written C) = omega arith in
         (rw (i, n), rw i (g.0.is ∙ sets-eq (written C) bytes 0 (omega (arith, g.1)) ∙ rw z))
-
--- ---- each answer is told by numbers of its own
-
-pub told_read_one : (x y : Read) → told_read x ≡ told_read y → x ≡ y
-unfolding told_read
-told_read_one (read.Chart h n) (read.Chart g m) e = ap (λ (a : Answer Heading). read.Chart (head_or h a) (rows_told a)) e
-told_read_one (read.Chart h n) (read.Refused r) e = absurd (different e)
-told_read_one (read.Refused r) (read.Chart h n) e = absurd (different (sym e))
-told_read_one (read.Refused r) (read.Refused s) e = cc
-
-pub told_wrote_one : (x y : Wrote) → told_wrote x ≡ told_wrote y → x ≡ y
-unfolding told_wrote
-told_wrote_one (wrote.Bytes n) (wrote.Bytes m) e = cc
-told_wrote_one (wrote.Bytes n) (wrote.Refused r) e = absurd (different e)
-told_wrote_one (wrote.Refused r) (wrote.Bytes n) e = absurd (different (sym e))
-told_wrote_one (wrote.Refused r) (wrote.Refused s) e = cc

@@ -1,47 +1,37 @@
--- Laws of the walk over a text: its two answers together are what the text spells, and what it leaves in its table are
--- the rows.
+-- Laws of the walk over a text: its answers together are what the text spells, and what it leaves in its table are the
+-- rows.
 -- Assumes nothing.
 use Rattle.std.proofs.Common.{◌≡◌, ℕ, zero, suc, ◌*◌, ◌/◌, ◌%◌, ◌<◌, ◌≤◌, List, [], ◌∷◌, ◌++◌, length, take, sym, refl, ap, ◌∙◌, subst, append_assoc, append-nil, arith, drop_of_length-le, take_at, le-ltb, lt-ltb}
 use mathlib.Core.Logic.{dite}
 use native.Mathlib.Decide.{dec_lt}
+use Rattle.base.specs.declared.Reason.TheVariants.{NoBytes, WrongEnd}
 use Rattle.base.specs.declared.Refusal.{Refusal}
 use Rattle.base.specs.Answers.{Answer}
-use Rattle.std.specs.Prelude.{Ok, Err}
+use Rattle.std.specs.Prelude.{Result, None, Some, Ok, Err}
+use Rattle.std.specs.Result.{result_err}
 use Rattle.base.specs.Chains.{and_then, mapped}
-use Rattle.base.specs.Refusals.{sole, unless}
+use Rattle.base.specs.Refusals.{unless}
 use Rattle.base.proofs.Answers.{different}
 use Rattle.base.proofs.OnSome.{OnGiven}
 use Rattle.chart.specs.declared.charts.Head.{Head}
-use Rattle.chart.specs.declared.charts.Judged.{Judged}
-use Rattle.chart.specs.declared.charts.Judged.TheVariants as judged
 use Rattle.chart.specs.Charts.{Chart, size, charted}
-use Rattle.chart.specs.Faults.{told, refusal}
-use Rattle.text.specs.declared.answers.Read.TheVariants as read
-use Rattle.text.specs.declared.causes.Cause.{Cause}
-use Rattle.text.specs.declared.causes.Cause.TheVariants.{NoBytes, WrongEnd}
-use Rattle.text.specs.declared.fields.Field.{Field}
-use Rattle.text.specs.declared.fields.Field.TheVariants.{Number, Unfit}
-use Rattle.text.specs.declared.inner.first.First.{First}
-use Rattle.text.specs.declared.inner.first.First.TheVariants as first
-use Rattle.text.specs.declared.inner.reader.Parsed.{Parsed}
-use Rattle.text.specs.declared.inner.reader.Parsed.TheVariants as parse
-use Rattle.text.specs.declared.inner.table.Reach.{Reach}
-use Rattle.text.specs.declared.inner.table.Reach.TheVariants as reach
-use Rattle.text.specs.Causes.{cause_number, refused_for}
-use Rattle.text.specs.Fields.{item_at}
+use Rattle.chart.specs.Faults.{refusal}
+use Rattle.text.specs.declared.answers.Heading.{Heading}
+use Rattle.text.specs.declared.causes.Unfit.{Unfit}
+use Rattle.text.specs.Causes.{refusal_of, refused_for}
+use Rattle.text.specs.Fields.{Field, missing, item_at}
 use Rattle.text.specs.Spans.{Span, on_field, fields_at}
-use Rattle.text.specs.Texts.{whole, rows_at, parsed, read_text, read_into, filled, heading, told_read, head_in, count_in}
-use Rattle.text.specs.inner.Walk.{on_number, numbers_at, laid, on_fit, reach_at, reached, record_of, first_at, past_first, entries_of, row_numbers, answered, told_parsed}
-use Rattle.text.proofs.Headings.{head_or, rows_told}
-use Rattle.text.proofs.Told.{ReadAs, read_refused, read_sized, whole-rows, whole-after, whole_end, few_counted}
+use Rattle.text.specs.Texts.{whole, rows_at, parsed, read_text, read_into, filled, heading, head_in, count_in}
+use Rattle.text.specs.inner.Walk.{on_number, numbers_at, laid, Reach, on_fit, reach_at, reached, record_of, first_at, past_first, entries_of, row_numbers, refusing}
+use Rattle.text.proofs.Told.{ReadAs, read_refused, read_sized, whole-rows, whole-after, whole_end, few_counted, parsed-some}
 use Rattle.text.proofs.Charts.{Spells, parsed_shows}
 
 -- ---- fields that follow one another
 
 -- what fields give by what is reached, with these numbers
 abbrev span_of : Reach → List ℕ → Answer Span
-span_of (reach.Past p) l = Ok (record { numbers = l; next = p })
-span_of (reach.Unfit c p) l = refused_for c p
+span_of (Ok p) l = Ok (record { numbers = l; next = p })
+span_of (Err u) l = Err (refusal_of u)
 
 -- fields give what the walk reaches and the numbers up to there
 fields_are : (n k : ℕ) (text : List ℕ) (at : ℕ) (before : List ℕ) → fields_at n k text at before ≡ span_of (reach_at n k text at) (before ++ numbers_at n k text at)
@@ -51,17 +41,17 @@ fields_are (suc n) k text at before = go (λ x p. fields_are n (suc k) text p (b
   where
     go : ((x p : ℕ) → fields_at n (suc k) text p (before ++ (x ∷ [])) ≡ span_of (reach_at n (suc k) text p) ((before ++ (x ∷ [])) ++ numbers_at n (suc k) text p))
         → (f : Field) → on_field f (λ x p. fields_at n (suc k) text p (before ++ (x ∷ []))) ≡ span_of (on_fit f (λ p. reach_at n (suc k) text p)) (before ++ on_number f (λ x p. x ∷ numbers_at n (suc k) text p))
-    go h (Number x p) = h x p ∙ ap (span_of (reach_at n (suc k) text p)) (append_assoc before (x ∷ []) (numbers_at n (suc k) text p))
-    go h (Unfit c p) = refl
+    go h (Ok m) = h m.value m.next ∙ ap (span_of (reach_at n (suc k) text m.next)) (append_assoc before (m.value ∷ []) (numbers_at n (suc k) text m.next))
+    go h (Err u) = refl
 
 -- where all fit, there are as many numbers
 abbrev OnPast : Type 0 → Reach → Type 0
-OnPast P (reach.Past p) = P
-OnPast P (reach.Unfit c p) = Unit
+OnPast P (Ok p) = P
+OnPast P (Err u) = Unit
 
 on_past : {P Q : Type 0} (r : Reach) → (P → Q) → OnPast P r → OnPast Q r
-on_past (reach.Past p) f h = f h
-on_past (reach.Unfit c p) f h = tt
+on_past (Ok p) f h = f h
+on_past (Err u) f h = tt
 
 are_many : (n k : ℕ) (text : List ℕ) (at : ℕ) → OnPast (length (numbers_at n k text at) ≡ n) (reach_at n k text at)
 unfolding reach_at numbers_at
@@ -69,8 +59,38 @@ are_many zero k text at = refl
 are_many (suc n) k text at = go (are_many n (suc k) text) (item_at k text at)
   where
     go : ((p : ℕ) → OnPast (length (numbers_at n (suc k) text p) ≡ n) (reach_at n (suc k) text p)) → (f : Field) → OnPast (length (on_number f (λ x p. x ∷ numbers_at n (suc k) text p)) ≡ suc n) (on_fit f (λ p. reach_at n (suc k) text p))
-    go h (Number x p) = on_past (reach_at n (suc k) text p) (ap suc) (h p)
-    go h (Unfit c p) = tt
+    go h (Ok m) = on_past (reach_at n (suc k) text m.next) (ap suc) (h m.next)
+    go h (Err u) = tt
+
+-- ---- what a step of the walk reaches
+
+module _ (n k : ℕ) (text : List ℕ) (at : ℕ) where
+  many : (p : ℕ) → reach_at n k text at ≡ Ok p → length (numbers_at n k text at) ≡ n
+  many p e = subst (OnPast (length (numbers_at n k text at) ≡ n)) e (are_many n k text at)
+
+  pub reached_unfit : (u : Unfit) → reach_at n k text at ≡ Err u → at ≡ reached (reach_at n k text at) at
+  unfolding reached
+  reached_unfit u e = rw e
+
+  pub reached_past : (p : ℕ) → reach_at n k text at ≡ Ok p → p ≡ reached (reach_at n k text at) at
+  unfolding reached
+  reached_past p e = rw e
+
+module _ {A : Type 0} (a : Result A Unfit) (r : Reach) (e : result_err a ≡ result_err r) where
+  pub step_unfit : (u : Unfit) → a ≡ Err u → r ≡ Err u
+  step_unfit u h = go r (sym e ∙ ap result_err h)
+    where
+      go : (r : Reach) → result_err r ≡ Some u → r ≡ Err u
+      go (Ok p) i = let z : ◌≡◌ {A = ℕ} 0 1 = cc in absurd (omega arith)
+      go (Err v) i = cc
+
+  pub step_past : (x : A) (at q : ℕ) → q ≡ reached r at → a ≡ Ok x → r ≡ Ok q
+  unfolding reached
+  step_past x at q j h = go r (sym e ∙ ap result_err h) j
+    where
+      go : (r : Reach) → result_err r ≡ None → q ≡ reached r at → r ≡ Ok q
+      go (Ok p) i j = rw j
+      go (Err v) i j = let z : ◌≡◌ {A = ℕ} 0 1 = cc in absurd (omega arith)
 
 -- ---- the first record
 
@@ -78,236 +98,198 @@ are_many (suc n) k text at = go (are_many n (suc k) text) (item_at k text at)
 laid-whole : (l table : List ℕ) → length l ≡ length table → laid l table ≡ l
 laid-whole l table e = rw (drop_of_length-le table {i = length l} (omega arith)) (append-nil l)
 
-module _ (text : List ℕ) (at : ℕ) (r : Reach) (is : r ≡ reach_at 6 0 text at) where
-  pub first_unfit : (c : Cause) (p : ℕ) → r ≡ reach.Unfit c p → first.Unfit c p ≡ first_at text at
+module _ (text : List ℕ) (at : ℕ) where
+  pub first_unfit : (u : Unfit) → reach_at 6 0 text at ≡ Err u → Err u ≡ first_at text at
   unfolding first_at record_of
-  first_unfit c p e = rw (← is, e)
+  first_unfit u e = rw e
 
-  pub first_record : (p : ℕ) (numbers table : List ℕ) → r ≡ reach.Past p → length table ≡ 6 → numbers ≡ laid (numbers_at 6 0 text at) table
-      → first.Record (head_in numbers) (count_in numbers) p ≡ first_at text at
+  pub first_record : (p : ℕ) (numbers table : List ℕ) → reach_at 6 0 text at ≡ Ok p → length table ≡ 6 → numbers ≡ laid (numbers_at 6 0 text at) table
+      → Ok (record { head = head_in numbers; rows = count_in numbers }) ≡ first_at text at
   unfolding first_at record_of
   first_record p numbers table e w g =
-      let n : length (numbers_at 6 0 text at) ≡ 6 = subst (OnPast (length (numbers_at 6 0 text at) ≡ 6)) (sym is ∙ e) (are_many 6 0 text at) in
+      let n : length (numbers_at 6 0 text at) ≡ 6 = many 6 0 text at p e in
       let z : numbers ≡ numbers_at 6 0 text at = g ∙ laid-whole _ table (n ∙ sym w) in
-      rw (z, ← is, e)
-
-module _ (f : First) (at : ℕ) where
-  pub past_record : (h : Head) (count p : ℕ) → f ≡ first.Record h count p → p ≡ past_first f at
-  unfolding past_first
-  past_record h count p e = rw e
-
-  pub past_unfit : (c : Cause) (p : ℕ) → f ≡ first.Unfit c p → at ≡ past_first f at
-  unfolding past_first
-  past_unfit c p e = rw e
-
-pub entries_record : (f : First) (h : Head) (count p : ℕ) → f ≡ first.Record h count p → 6 * count ≡ entries_of f
-unfolding entries_of
-entries_record f h count p e = rw e
-
-pub entries_unfit : (f : First) (c : Cause) (p : ℕ) → f ≡ first.Unfit c p → 0 ≡ entries_of f
-unfolding entries_of
-entries_unfit f c p e = rw e
+      rw (z, e)
 
 -- its rows fill at most 768 entries
-pub few_entries : (text : List ℕ) → entries_of (first_at text 0) ≤ 768
+few_entries : (text : List ℕ) → entries_of (first_at text 0) ≤ 768
 unfolding first_at record_of entries_of
 few_entries text = go (reach_at 6 0 text 0) (fields_are 6 0 text 0 [])
   where
     go : (r : Reach) → fields_at 6 0 text 0 [] ≡ span_of r (numbers_at 6 0 text 0) → entries_of (record_of r (numbers_at 6 0 text 0)) ≤ 768
-    go (reach.Past p) e = omega (arith, few_counted text _ e)
-    go (reach.Unfit c p) e = omega arith
+    go (Ok p) e = omega (arith, few_counted text _ e)
+    go (Err u) e = omega arith
 
--- ---- both answers of a walk are what the text spells
+module _ (text : List ℕ) (h : Heading) (e : first_at text 0 ≡ Ok h) where
+  pub few_rows : 6 * h.rows ≤ 768
+  unfolding entries_of
+  few_rows = omega (arith, few_entries text, ap entries_of e)
 
--- what is answered after a first record, by the rows
-module _ (b : ℕ) (t : List ℕ) (h : Head) (count p end : ℕ) where
-  answered_unfit : (m : Cause) (o : ℕ) → answered (b ∷ t) (first.Record h count p) (reach.Unfit m o) end ≡ parse.Unfit m o
-  unfolding answered
-  answered_unfit m o = refl
+  row_numbers-is : row_numbers text ≡ numbers_at (6 * h.rows) 6 text (past_first text)
+  unfolding row_numbers entries_of
+  row_numbers-is = rw e
 
-  answered-after : (o : ℕ) → end < length (b ∷ t) → answered (b ∷ t) (first.Record h count p) (reach.Past o) end ≡ parse.Unfit WrongEnd end
-  unfolding answered
-  answered-after o w = rw (lt-ltb end (length (b ∷ t)) w, answered)
+-- ---- what the steps of a walk say together is what the text spells
 
-  answered-whole : (o : ℕ) → length (b ∷ t) ≤ end → answered (b ∷ t) (first.Record h count p) (reach.Past o) end ≡ parse.Chart h count
-  unfolding answered
-  answered-whole o w = rw (le-ltb end (length (b ∷ t)) w, answered)
-
-module _ (b : ℕ) (t : List ℕ) where
-  rows_told_lem : (h : Head) (count p : ℕ) (r : Reach) (l : List ℕ) → OnPast (length l ≡ 6 * count) r
-      → told_parsed (answered (b ∷ t) (first.Record h count p) r (reached r p))
-      ≡ mapped heading (and_then (span_of r l) (λ (rows : Span). whole (b ∷ t) rows.next (charted h rows.numbers)))
-  unfolding reached told_parsed
-  rows_told_lem h count p (reach.Unfit c o) l g = rw (answered_unfit b t h count p p c o)
-  rows_told_lem h count p (reach.Past o) l g =
-      let n : length l / 6 ≡ count = omega arith in
-      dite (dec_lt o (length (b ∷ t))) (λ w. rw (answered-after b t h count p o o w, whole-after (b ∷ t) o _ w))
-      (λ w. rw (answered-whole b t h count p o o (omega arith), whole_end (b ∷ t) o _ (omega arith), n))
-
-  -- the rows that follow a first record with these numbers
-  abbrev Rest : First → Reach
-  Rest f = reach_at (entries_of f) 6 (b ∷ t) (past_first f 0)
-
-  abbrev after : Span → Answer Chart
-  after s = rows_at (b ∷ t) s.next (head_in s.numbers) (count_in s.numbers)
-
-  first-told : (r : Reach) (l : List ℕ)
-      → told_parsed (answered (b ∷ t) (record_of r l) (Rest (record_of r l)) (reached (Rest (record_of r l)) (past_first (record_of r l) 0)))
-      ≡ mapped heading (and_then (span_of r l) after)
-  unfolding record_of entries_of past_first answered told_parsed rows_at
-  first-told (reach.Unfit c p) l = refl
-  first-told (reach.Past p) l =
-      let n = 6 * count_in l in
-      rw (fields_are n 6 (b ∷ t) p [])
-      (rows_told_lem (head_in l) (count_in l) p (reach_at n 6 (b ∷ t) p) (numbers_at n 6 (b ∷ t) p) (are_many n 6 (b ∷ t) p))
-
-  -- what stands in the chart's table, and how much
-  abbrev Laid : First → Chart → Type 0
-  Laid f C = (C.table ≡ numbers_at (entries_of f) 6 (b ∷ t) (past_first f 0)) × (length C.table ≡ entries_of f)
-
-  whole-keeps : (P : Chart → Type 0) (at : ℕ) (C : Chart) → P C → OnGiven P (whole (b ∷ t) at C)
-  whole-keeps P at C h =
-      dite (dec_lt at (length (b ∷ t))) (λ w. rw (whole-after (b ∷ t) at C w) tt) (λ w. rw (whole_end (b ∷ t) at C (omega arith)) h)
-
-  first-laid : (r : Reach) (l : List ℕ) → OnGiven (Laid (record_of r l)) (and_then (span_of r l) after)
-  unfolding record_of entries_of past_first rows_at
-  first-laid (reach.Unfit c p) l = tt
-  first-laid (reach.Past p) l =
-      let n = 6 * count_in l in
-      rw (fields_are n 6 (b ∷ t) p []) (go (reach_at n 6 (b ∷ t) p) (are_many n 6 (b ∷ t) p))
+-- what is parsed, by the first record and by the rows
+module _ (text : List ℕ) (some_byte : length text ≡ 0 → ⊥) where
+  walk_by : parsed text ≡ and_then (refusing (first_at text 0)) (λ (h : Heading). rows_at text (past_first text) h.head h.rows)
+  unfolding first_at record_of reached
+  walk_by = parsed-some text some_byte ∙ rw (fields_are 6 0 text 0 []) (go (reach_at 6 0 text 0))
     where
-      go : (r : Reach) → OnPast (length (numbers_at (6 * count_in l) 6 (b ∷ t) p) ≡ 6 * count_in l) r
-          → OnGiven (Laid (first.Record (head_in l) (count_in l) p))
-          (and_then (span_of r (numbers_at (6 * count_in l) 6 (b ∷ t) p)) (λ (rows : Span). whole (b ∷ t) rows.next (charted (head_in l) rows.numbers)))
-      go (reach.Unfit c o) h = tt
-      go (reach.Past o) h = whole-keeps _ o _ (refl, h)
+      go : (r : Reach) → and_then (span_of r (numbers_at 6 0 text 0)) (λ (f : Span). rows_at text f.next (head_in f.numbers) (count_in f.numbers))
+          ≡ and_then (refusing (record_of r (numbers_at 6 0 text 0))) (λ (h : Heading). rows_at text (reached r 0) h.head h.rows)
+      go (Ok p) = refl
+      go (Err u) = refl
 
-pub walk_told : (text : List ℕ)
-    → told_parsed (answered text (first_at text 0) (reach_at (entries_of (first_at text 0)) 6 text (past_first (first_at text 0) 0)) (reached (reach_at (entries_of (first_at text 0)) 6 text (past_first (first_at text 0) 0)) (past_first (first_at text 0) 0)))
-    ≡ mapped heading (parsed text)
-unfolding first_at parsed answered told_parsed
-walk_told [] = refl
-walk_told (b ∷ t) = rw (fields_are 6 0 (b ∷ t) 0 []) (first-told b t (reach_at 6 0 (b ∷ t) 0) (numbers_at 6 0 (b ∷ t) 0))
+  rows_by : (at : ℕ) (h : Head) (n : ℕ) → rows_at text at h n ≡ and_then (refusing (reach_at (6 * n) 6 text at)) (λ (p : ℕ). whole text p (charted h (numbers_at (6 * n) 6 text at)))
+  unfolding rows_at
+  rows_by at h n = rw (fields_are (6 * n) 6 text at []) (go (reach_at (6 * n) 6 text at))
+    where
+      go : (r : Reach) → and_then (span_of r (numbers_at (6 * n) 6 text at)) (λ (rows : Span). whole text rows.next (charted h rows.numbers))
+          ≡ and_then (refusing r) (λ (p : ℕ). whole text p (charted h (numbers_at (6 * n) 6 text at)))
+      go (Ok p) = refl
+      go (Err u) = refl
 
-walk_laid : (text : List ℕ) → OnGiven (λ (C : Chart). (C.table ≡ row_numbers text) × (length C.table ≡ entries_of (first_at text 0))) (parsed text)
-unfolding first_at parsed row_numbers
+  walk_first : (u : Unfit) → first_at text 0 ≡ Err u → parsed text ≡ Err (refusal_of u)
+  walk_first u e = walk_by ∙ rw e
+
+  module _ (h : Heading) (e : first_at text 0 ≡ Ok h) where
+    walk_rows : parsed text
+        ≡ and_then (refusing (reach_at (6 * h.rows) 6 text (past_first text))) (λ (p : ℕ). whole text p (charted h.head (row_numbers text)))
+    walk_rows = walk_by ∙ rw (e, row_numbers-is text h e) (rows_by (past_first text) h.head h.rows)
+
+    walk_unfit : (u : Unfit) → reach_at (6 * h.rows) 6 text (past_first text) ≡ Err u → parsed text ≡ Err (refusal_of u)
+    walk_unfit u d = walk_rows ∙ rw d
+
+    walk_past : (p : ℕ) → reach_at (6 * h.rows) 6 text (past_first text) ≡ Ok p → parsed text ≡ whole text p (charted h.head (row_numbers text))
+    walk_past p d = walk_rows ∙ rw d
+
+    rows-many : (p : ℕ) → reach_at (6 * h.rows) 6 text (past_first text) ≡ Ok p → length (row_numbers text) ≡ 6 * h.rows
+    rows-many p d = rw (row_numbers-is text h e) (many (6 * h.rows) 6 text (past_first text) p d)
+
+-- ---- the answers of `parse`
+
+-- what is said of an answer, and of the table after it
+abbrev pub ParsedAs : List ℕ → Result Heading Unfit → List ℕ → List ℕ → Type 0
+ParsedAs text a table after = (refusing a ≡ mapped heading (parsed text)) × (after ≡ laid (row_numbers text) table)
+
+pub parse_none : (text table : List ℕ) → length text ≡ 0 → ParsedAs text (Err (record { reason = NoBytes; offset = 0 })) table table
+unfolding parsed row_numbers first_at record_of reach_at entries_of numbers_at item_at missing
+parse_none [] table h = (refl, refl)
+parse_none (b ∷ s) table h = absurd (omega arith)
+
+module _ (text table : List ℕ) (some_byte : length text ≡ 0 → ⊥) where
+  pub parse_first : (u : Unfit) → first_at text 0 ≡ Err u → ParsedAs text (Err u) table table
+  unfolding row_numbers entries_of numbers_at
+  parse_first u e = (rw (walk_first text some_byte u e), rw e)
+
+  module _ (h : Heading) (e : first_at text 0 ≡ Ok h) (after : List ℕ) (l : after ≡ laid (numbers_at (6 * h.rows) 6 text (past_first text)) table) where
+    rows-laid : after ≡ laid (row_numbers text) table
+    rows-laid = l ∙ rw (row_numbers-is text h e)
+
+    pub parse_rows : (u : Unfit) → reach_at (6 * h.rows) 6 text (past_first text) ≡ Err u → ParsedAs text (Err u) table after
+    parse_rows u d = (rw (walk_unfit text some_byte h e u d), rows-laid)
+
+    pub parse_after : (p : ℕ) → reach_at (6 * h.rows) 6 text (past_first text) ≡ Ok p → p < length text → ParsedAs text (Err (record { reason = WrongEnd; offset = p })) table after
+    parse_after p d w = (rw (walk_past text some_byte h e p d, whole-after text p (charted h.head (row_numbers text)) w), rows-laid)
+
+    pub parse_chart : (p : ℕ) → reach_at (6 * h.rows) 6 text (past_first text) ≡ Ok p → length text ≤ p → ParsedAs text (Ok h) table after
+    parse_chart p d w =
+        let z : length (row_numbers text) / 6 ≡ h.rows = omega (arith, rows-many text some_byte h e p d) in
+        (rw (walk_past text some_byte h e p d, whole_end text p (charted h.head (row_numbers text)) w, z), rows-laid)
+
+-- what stands in the chart's table, and how much
+walk_laid : (text : List ℕ) → OnGiven (λ (C : Chart). (C.table ≡ row_numbers text) × (length C.table ≤ 768)) (parsed text)
+unfolding parsed
 walk_laid [] = tt
-walk_laid (b ∷ t) = rw (fields_are 6 0 (b ∷ t) 0 []) (first-laid b t (reach_at 6 0 (b ∷ t) 0) (numbers_at 6 0 (b ∷ t) 0))
+walk_laid (b ∷ t) = go (first_at text 0) refl
+  where
+    text : List ℕ
+    text = b ∷ t
 
--- the same of answers that are known by equations
-pub walk_is : (text : List ℕ) (f : First) (n at : ℕ) (g : Reach) (end : ℕ) (a : Parsed) (after table : List ℕ)
-    → f ≡ first_at text 0 → n ≡ entries_of f → at ≡ past_first f 0 → g ≡ reach_at n 6 text at → end ≡ reached g at → a ≡ answered text f g end → after ≡ laid (numbers_at n 6 text at) table
-    → (told_parsed a ≡ mapped heading (parsed text)) × (after ≡ laid (row_numbers text) table)
-unfolding row_numbers
-walk_is text f n at g end a after table e₁ e₂ e₃ e₄ e₅ e₆ e₇ = (rw (e₆, e₅, e₄, e₃, e₂, e₁) (walk_told text), rw (e₇, e₃, e₂, e₁))
+    some_byte : length text ≡ 0 → ⊥
+    some_byte e = omega arith
 
--- ---- the judge of both answers
+    Laid : Chart → Type 0
+    Laid C = (C.table ≡ row_numbers text) × (length C.table ≤ 768)
 
-module _ (text : List ℕ) (f : First) (g : Reach) (end : ℕ) where
-  pub judge_none : length text ≡ 0 → parse.Unfit NoBytes 0 ≡ answered text f g end
-  unfolding answered
-  judge_none h = go text h
-    where
-      go : (l : List ℕ) → length l ≡ 0 → parse.Unfit NoBytes 0 ≡ answered l f g end
-      go [] h = refl
-      go (b ∷ s) h = absurd (omega arith)
+    on_whole : (p : ℕ) (C : Chart) → Laid C → OnGiven Laid (whole text p C)
+    on_whole p C h =
+        dite (dec_lt p (length text)) (λ w. rw (whole-after text p C w) tt) (λ w. rw (whole_end text p C (omega arith)) h)
 
-  module _ (some_byte : length text ≡ 0 → ⊥) where
-    pub judge_first : (c : Cause) (p : ℕ) → f ≡ first.Unfit c p → parse.Unfit c p ≡ answered text f g end
-    unfolding answered
-    judge_first c p e = go text some_byte
+    go : (f : Result Heading Unfit) → first_at text 0 ≡ f → OnGiven Laid (parsed text)
+    go (Err u) e = rw (walk_first text some_byte u e) tt
+    go (Ok h) e = rows (reach_at (6 * h.rows) 6 text (past_first text)) refl
       where
-        go : (l : List ℕ) → (length l ≡ 0 → ⊥) → parse.Unfit c p ≡ answered l f g end
-        go [] h = absurd (h refl)
-        go (b ∷ s) h = rw e
-
-    module _ (h : Head) (count p : ℕ) (e : f ≡ first.Record h count p) where
-      pub judge_rows : (m : Cause) (o : ℕ) → g ≡ reach.Unfit m o → parse.Unfit m o ≡ answered text f g end
-      unfolding answered
-      judge_rows m o d = go text some_byte
-        where
-          go : (l : List ℕ) → (length l ≡ 0 → ⊥) → parse.Unfit m o ≡ answered l f g end
-          go [] h = absurd (h refl)
-          go (b ∷ s) h = rw (e, d)
-
-      pub judge_after : (o : ℕ) → g ≡ reach.Past o → end < length text → parse.Unfit WrongEnd end ≡ answered text f g end
-      judge_after o d w = go text some_byte w
-        where
-          go : (l : List ℕ) → (length l ≡ 0 → ⊥) → end < length l → parse.Unfit WrongEnd end ≡ answered l f g end
-          go [] k w = absurd (k refl)
-          go (b ∷ s) k w = rw (e, d, answered-after b s h count p end o w)
-
-      pub judge_chart : (o : ℕ) → g ≡ reach.Past o → length text ≤ end → parse.Chart h count ≡ answered text f g end
-      judge_chart o d w = go text some_byte w
-        where
-          go : (l : List ℕ) → (length l ≡ 0 → ⊥) → length l ≤ end → parse.Chart h count ≡ answered l f g end
-          go [] k w = absurd (k refl)
-          go (b ∷ s) k w = rw (e, d, answered-whole b s h count p end o w)
+        rows : (r : Reach) → reach_at (6 * h.rows) 6 text (past_first text) ≡ r → OnGiven Laid (parsed text)
+        rows (Err u) d = rw (walk_unfit text some_byte h e u d) tt
+        rows (Ok p) d = rw (walk_past text some_byte h e p d) (on_whole p _ (refl, omega (arith, few_rows text h e, rows-many text some_byte h e p d)))
 
 -- ---- the whole reader
 
 -- a text that spells a chart, before its faults are judged
-pub record Spelt (text : List ℕ) (h : Head) (n : ℕ) : Type 0 where
-  pub is : parsed text ≡ Ok (charted h (row_numbers text))
-  pub rows : length (row_numbers text) ≡ 6 * n
+pub record Spelt (text : List ℕ) (h : Heading) : Type 0 where
+  pub is : parsed text ≡ Ok (charted h.head (row_numbers text))
+  pub rows : length (row_numbers text) ≡ 6 * h.rows
   pub few : length (row_numbers text) ≤ 768
 
-module _ (text : List ℕ) (a : Parsed) (is : told_parsed a ≡ mapped heading (parsed text)) where
-  spelt_not : (c : Cause) (o : ℕ) → a ≡ parse.Unfit c o → parsed text ≡ refused_for c o
-  unfolding told_parsed
-  spelt_not c o e = go (parsed text) (sym is ∙ rw e)
+module _ (text : List ℕ) (a : Result Heading Unfit) (is : refusing a ≡ mapped heading (parsed text)) where
+  spelt_not : (u : Unfit) → a ≡ Err u → parsed text ≡ Err (refusal_of u)
+  spelt_not u e = go (parsed text) (sym is ∙ ap refusing e)
     where
-      go : (x : Answer Chart) → mapped heading x ≡ refused_for c o → x ≡ refused_for c o
+      go : (x : Answer Chart) → mapped heading x ≡ Err (refusal_of u) → x ≡ Err (refusal_of u)
       go (Ok C) e = absurd (different e)
       go (Err s) e = cc
 
-  pub spelt : (h : Head) (n : ℕ) → a ≡ parse.Chart h n → Spelt text h n
-  unfolding told_parsed
-  spelt h n e = go (parsed text) refl (walk_laid text) (parsed_shows text) (sym is ∙ rw e)
+  pub spelt : (h : Heading) → a ≡ Ok h → Spelt text h
+  spelt h e = go (parsed text) refl (walk_laid text) (parsed_shows text) (sym is ∙ ap refusing e)
     where
-      go : (x : Answer Chart) → parsed text ≡ x → OnGiven (λ (C : Chart). (C.table ≡ row_numbers text) × (length C.table ≡ entries_of (first_at text 0))) x → OnGiven (Spells text) x
-          → mapped heading x ≡ Ok (record { head = h; rows = n }) → Spelt text h n
+      go : (x : Answer Chart) → parsed text ≡ x → OnGiven (λ (C : Chart). (C.table ≡ row_numbers text) × (length C.table ≤ 768)) x → OnGiven (Spells text) x
+          → mapped heading x ≡ Ok h → Spelt text h
       go (Err r) i l w g = absurd (different (sym g))
       go (Ok C) i l w g =
-          let p : C.head ≡ h = ap (head_or h) g in
-          let z : size C.table ≡ n = ap rows_told g in
+          let p : heading C ≡ h = cc in
           let m : length (row_numbers text) ≡ length C.table = ap length (sym l.0) in
           record {
-            is = i ∙ (λ i. Ok (charted (p i) (l.0 i)));
-            rows = m ∙ (w.rows ∙ ap (λ (k : ℕ). 6 * k) z);
-            few = omega (arith, m, l.1, few_entries text);
+            is = i ∙ (λ i. Ok (charted (p i).head (l.0 i)));
+            rows = m ∙ (w.rows ∙ ap (λ (h : Heading). 6 * h.rows) p);
+            few = omega (arith, m, l.1);
           }
 
 -- what the walk leaves at the front of its table are the rows, as many as the chart has
-module _ (text rows spare : List ℕ) (h : Head) (n : ℕ) (s : Spelt text h n) (l : rows ≡ laid (row_numbers text) spare) where
-  front : take (6 * n) rows ≡ row_numbers text
-  front = rw l (take_at (row_numbers text) _ (6 * n) s.rows)
+module _ (text rows spare : List ℕ) (h : Heading) (s : Spelt text h) (l : rows ≡ laid (row_numbers text) spare) where
+  front : take (6 * h.rows) rows ≡ row_numbers text
+  front = rw l (take_at (row_numbers text) _ (6 * h.rows) s.rows)
 
-  front_long : length (take (6 * n) rows) ≡ 6 * n
+  front_long : length (take (6 * h.rows) rows) ≡ 6 * h.rows
   front_long = rw front s.rows
 
-  pub front_fits : (table : List ℕ) → length table ≡ 768 → length (take (6 * n) rows) ≤ length table
+  pub front_fits : (table : List ℕ) → length table ≡ 768 → length (take (6 * h.rows) rows) ≤ length table
   front_fits table sized = rw front (omega (arith, s.few))
 
-module _ (text table : List ℕ) (sized : length table ≡ 768) (a : Parsed) (is : told_parsed a ≡ mapped heading (parsed text)) where
-  pub read_unfit : (c : Cause) (n o : ℕ) (s : Refusal) → a ≡ parse.Unfit c o → n ≡ cause_number c → s ≡ sole n o → ReadAs (read_into text table) (read.Refused s) table table
+module _ (text table : List ℕ) (sized : length table ≡ 768) (a : Result Heading Unfit) (is : refusing a ≡ mapped heading (parsed text)) where
+  pub read_unfit : (u : Unfit) → a ≡ Err u → ReadAs (read_into text table) (Err (refusal_of u)) table table
   unfolding read_text
-  read_unfit c n o s e m i = read_refused _ table s (read_sized text table sized ∙ rw (spelt_not text a is c o e, i, m))
+  read_unfit u e = read_refused _ table (refusal_of u) (read_sized text table sized ∙ rw (spelt_not text a is u e))
 
-  module _ (h : Head) (n : ℕ) (spare rows : List ℕ) (e : a ≡ parse.Chart h n) (l : rows ≡ laid (row_numbers text) spare) (j : Judged) (k : told j ≡ refusal (charted h (take (6 * n) rows))) where
-    read_judged : read_into text table ≡ unless (told j) (charted h (take (6 * n) rows))
+  module _ (h : Heading) (spare rows : List ℕ) (e : a ≡ Ok h) (l : rows ≡ laid (row_numbers text) spare) where
+    abbrev front_chart : Chart
+    front_chart = charted h.head (take (6 * h.rows) rows)
+
+    read_judged : read_into text table ≡ unless (refusal front_chart) front_chart
     unfolding read_text
     read_judged =
-        let s = spelt text a is h n e in
+        let s = spelt text a is h e in
         let w : length (row_numbers text) % 6 ≡ 0 = omega (arith, s.rows) in
-        read_sized text table sized ∙ rw (s.is, k, front text rows spare h n s l, whole-rows (charted h (row_numbers text)) w)
+        read_sized text table sized ∙ rw (s.is, front text rows spare h s l, whole-rows (charted h.head (row_numbers text)) w)
 
-    pub read_faulty : (r : Refusal) → j ≡ judged.Refused r → ReadAs (read_into text table) (read.Refused r) table table
+    pub read_faulty : (r : Refusal) → refusal front_chart ≡ Some r → ReadAs (read_into text table) (Err r) table table
     read_faulty r d = read_refused _ table r (read_judged ∙ rw d)
 
-    pub read_chart : (after : List ℕ) → j ≡ judged.Faultless → after ≡ laid (take (6 * n) rows) table → ReadAs (read_into text table) (read.Chart h n) table after
-    unfolding filled told_read
+    pub read_chart : (after : List ℕ) → refusal front_chart ≡ None → after ≡ laid (take (6 * h.rows) rows) table → ReadAs (read_into text table) (Ok h) table after
+    unfolding filled
     read_chart after d g =
-        let z : length (take (6 * n) rows) / 6 ≡ n = omega (arith, front_long text rows spare h n (spelt text a is h n e) l) in
-        let i : read_into text table ≡ Ok (charted h (take (6 * n) rows)) = read_judged ∙ rw d in
+        let z : length (take (6 * h.rows) rows) / 6 ≡ h.rows = omega (arith, front_long text rows spare h (spelt text a is h e) l) in
+        let i : read_into text table ≡ Ok front_chart = read_judged ∙ rw d in
         (rw (i, z), rw i g)

@@ -1,9 +1,9 @@
 -- The file of a chart, in RFC 4180's terms.
-use Rattle.std.specs.Prelude.{◌≡◌, ℕ, zero, suc, ◌*◌, ◌≤◌, List, [], ◌∷◌, map, take, drop, slice_index, Option, None, Some}
+use Rattle.std.specs.Prelude.{◌≡◌, ℕ, zero, suc, ◌*◌, ◌≤◌, List, [], ◌∷◌, map, take, drop, slice_index, Option, None, Some, Ok, Err}
+use Rattle.base.specs.Answers.{Answer}
 use Rattle.chart.specs.Charts.{Chart, size, charted}
 use Rattle.chart.specs.Faults.{refusal}
-use Rattle.text.specs.declared.answers.Read.{Read}
-use Rattle.text.specs.declared.answers.Read.TheVariants as answer
+use Rattle.text.specs.declared.answers.Heading.{Heading}
 use Rattle.text.specs.Written.{decimal, numbers}
 use Rattle.text.specs.Rfc4180.{File}
 
@@ -29,6 +29,6 @@ pub record FileOf (C : Chart) (text : List ℕ) : Type 0 where
 
 -- "n, alarm, row count [..]; then the rows": the chart that the reader answers, its rows at the front of the table;
 -- none where it refuses
-unfoldable pub chart_read : Read → List ℕ → Option Chart
-chart_read (answer.Chart head rows) table = Some (charted head (take (6 * rows) table))
-chart_read (answer.Refused r) table = None
+unfoldable pub chart_read : Answer Heading → List ℕ → Option Chart
+chart_read (Ok h) table = Some (charted h.head (take (6 * h.rows) table))
+chart_read (Err r) table = None

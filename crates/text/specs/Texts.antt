@@ -1,14 +1,13 @@
 -- Whole texts: what the reader answers ("Chart text", "Who can cause a refusal").
 use Rattle.std.specs.Prelude.{ℕ, ◌*◌, true, false, List, [], ◌∷◌, ◌++◌, length, drop, ◌==◌, nat_lt, slice_index, Ok, Err}
+use Rattle.base.specs.declared.Reason.TheVariants.{NoBytes, WrongEnd}
 use Rattle.base.specs.Answers.{Answer}
 use Rattle.base.specs.Chains.{and_then}
 use Rattle.base.specs.Refusals.{sole, unless}
 use Rattle.chart.specs.declared.charts.Head.{Head}
 use Rattle.chart.specs.Charts.{Chart, charted, size}
 use Rattle.chart.specs.Faults.{fault}
-use Rattle.text.specs.declared.answers.Read.{Read}
-use Rattle.text.specs.declared.answers.Read.TheVariants as answer
-use Rattle.text.specs.declared.causes.Cause.TheVariants.{NoBytes, WrongEnd}
+use Rattle.text.specs.declared.answers.Heading.{Heading}
 use Rattle.text.specs.Causes.{refused_for}
 use Rattle.text.specs.Spans.{Span, fields_at}
 
@@ -56,16 +55,6 @@ unfoldable pub filled : Answer Chart → List ℕ → List ℕ
 filled (Ok C) table = C.table ++ drop (length C.table) table
 filled (Err r) table = table
 
--- "n, alarm, row count": what is answered of a chart that is read
-pub record Heading : Type 0 where
-  pub head : Head
-  pub rows : ℕ
-
--- the same of a chart, whose table has "rows of six u32 fields"
+-- "n, alarm, row count": what is answered of a chart that is read, whose table has "rows of six u32 fields"
 abbrev pub heading : Chart → Heading
 heading C = record { head = C.head; rows = size C.table }
-
--- what the code's answer says: "a definition gives this paper's number and values for each of the enum's cases"
-unfoldable pub told_read : Read → Answer Heading
-told_read (answer.Chart head rows) = Ok (record { head = head; rows = rows })
-told_read (answer.Refused r) = Err r

@@ -4,8 +4,6 @@ use Rattle.base.specs.Answers.{Answer}
 use Rattle.base.specs.Refusals.{sole, unless}
 use Rattle.chart.specs.Charts.{Chart, size}
 use Rattle.chart.specs.Faults.{refusal}
-use Rattle.text.specs.declared.answers.Wrote.{Wrote}
-use Rattle.text.specs.declared.answers.Wrote.TheVariants as answer
 
 -- ---- numbers: "decimal throughout", without "leading zero"
 -- "1 or more digits": those of x, of which there are at most k + 1
@@ -53,8 +51,3 @@ writing C lent = elim (nat_le 8643 lent) [ true ↦ unless (refusal C) (written 
 unfoldable pub printed : Answer (List ℕ) → List ℕ → List ℕ
 printed (Ok t) bytes = t ++ drop (length t) bytes
 printed (Err r) bytes = bytes
-
--- what the code's answer says, "for each of the enum's cases": the count of bytes, or a refusal
-unfoldable pub told_wrote : Wrote → Answer ℕ
-told_wrote (answer.Bytes n) = Ok n
-told_wrote (answer.Refused r) = Err r

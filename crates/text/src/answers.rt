@@ -1,17 +1,9 @@
-// What reading and writing a chart text answer.
-use base::Refusal;
+// What reading a chart text answers: one struct for code and definitions.
 use chart::charts::Head;
 
+// "n, alarm, row count": what is told of a chart that is read. Its rows stand at the front of the table.
 #[derive(Clone, Copy)]
-pub enum Read {
-    // The chart's head and row count; the rows stand at the front of the table.
-    Chart(Head, usize),
-    Refused(Refusal),
-}
-
-#[derive(Clone, Copy)]
-pub enum Wrote {
-    // The count of bytes.
-    Bytes(usize),
-    Refused(Refusal),
+pub struct Heading {
+    pub head: Head,
+    pub rows: usize,
 }

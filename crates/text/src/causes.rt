@@ -1,13 +1,29 @@
-// Why a text does not fit: the causes of a refusal, by name. Their numbers are the entry point's to tell.
-#[derive(Clone, Copy)]
-pub enum Cause {
-    NoBytes,
-    // A byte that does not fit, or an end within a record.
-    BadByte,
-    // A leading zero, a number above 4294967295, or a non-zero spare in the first record.
-    BadNumber,
-    // Records missing, or a byte after the last counted one.
-    WrongEnd,
-    // A row count above 128.
-    ManyRows,
+// Why a text does not fit.
+ghost use Rattle.std.specs.Prelude.{◌≡◌};
+ghost use Rattle.text.specs.Causes.{refusal_of};
+
+use base::{Reason, Refusal, sole};
+
+// The reason, and the offset at which the text does not fit: one struct for code and definitions. Each answer below the
+// entry points is a success or this.
+#[derive(Clone, Copy, Debug, PartialEq, Eq)]
+pub struct Unfit {
+    pub reason: Reason,
+    pub offset: usize,
+}
+
+impl Unfit {
+    pub fn new(reason: Reason, offset: usize) -> Unfit
+        ensures { result ≡ record { reason = reason; offset = offset } }
+    {
+        Unfit { reason, offset }
+    }
+}
+
+impl From<Unfit> for Refusal {
+    ghost from_gives = { λ unfit refusal. refusal ≡ refusal_of unfit };
+
+    fn from(unfit: Unfit) -> Refusal {
+        sole(unfit.reason, unfit.offset)
+    }
 }

@@ -1,24 +1,24 @@
 // The fields of a text: a number, perhaps within double quotes, and the comma or the end of the record after it.
-ghost use Rattle.std.specs.Prelude.{◌≡◌, ◌+◌, ◌*◌, ◌≤◌, nat_le};
+ghost use Rattle.std.specs.Prelude.{◌≡◌, ◌+◌, ◌*◌, ◌≤◌, nat_le, Ok};
 ghost use Rattle.text.specs.Fields.{byte_at, kind, judged, number_at, followed, field_at, line_end, closed, missing, item_at};
 ghost use Rattle.text.specs.inner.Digits.{TellsDigit};
 
-use crate::causes::Cause;
+use crate::causes::Unfit;
+use base::Reason;
 
 // What a field may hold: any number, the row count, or a spare of the first record.
-#[derive(Clone, Copy)]
+#[derive(Clone, Copy, Debug, PartialEq, Eq)]
 pub enum Kind {
     Plain,
     Count,
     Spare,
 }
 
-// Each answer below the entry points is a success or `Unfit`, where the text does not fit: the cause, and the offset.
-#[derive(Clone, Copy)]
-pub enum Field {
-    // A number and the offset after it.
-    Number(u32, usize),
-    Unfit(Cause, usize),
+// A number and the offset after it: one struct for code and definitions.
+#[derive(Clone, Copy, Debug, PartialEq, Eq)]
+pub struct Number {
+    pub value: u32,
+    pub next: usize,
 }
 
 // What a field may hold, by its number in the text: first those of the rows, which are nearly all.
@@ -61,116 +61,105 @@ fn has_room(value: u32, d: u32) -> bool
 }
 
 // A number whose digits have ended, judged by what its field may hold.
-fn judge(field: usize, first: usize, next: usize, x: u32) -> Field
-    ensures { result ≡ judged (kind field) first next x }
+fn judge(field: usize, first: usize, number: Number) -> Result<Number, Unfit>
+    ensures { result ≡ judged (kind field) first number.next number.value }
 {
     match kind_of(field) {
-        Kind::Plain => Field::Number(x, next),
+        Kind::Plain => Ok(number),
         Kind::Count => {
-            if x <= 128 {
-                return Field::Number(x, next);
+            if number.value <= 128 {
+                return Ok(number);
             }
-            Field::Unfit(Cause::ManyRows, first)
+            Err(Unfit::new(Reason::Exceeding, first))
         }
         Kind::Spare => {
-            if x == 0 {
-                return Field::Number(x, next);
+            if number.value == 0 {
+                return Ok(number);
             }
-            Field::Unfit(Cause::BadNumber, first)
+            Err(Unfit::new(Reason::BadNumber, first))
         }
     }
 }
 
 // The number whose first digit stands at an offset. A leading zero is told before the loop, so that each further digit
 // costs less.
-fn number_at(text: &[u8], first: usize, field: usize) -> Field
+fn number_at(text: &[u8], first: usize, field: usize) -> Result<Number, Unfit>
     ensures { result ≡ number_at (kind field) text.now first }
 {
     let mut value = digit(text, first);
     if 9 < value {
-        return Field::Unfit(Cause::BadByte, first);
+        return Err(Unfit::new(Reason::BadByte, first));
     }
-    let mut at = first + 1;
+    let mut next = first + 1;
     if value == 0 {
-        if digit(text, at) <= 9 {
-            return Field::Unfit(Cause::BadNumber, first);
+        if digit(text, next) <= 9 {
+            return Err(Unfit::new(Reason::BadNumber, first));
         }
-        return judge(field, first, at, 0);
+        return judge(field, first, Number { value, next });
     }
     loop {
-        let d = digit(text, at);
+        let d = digit(text, next);
         if 9 < d {
-            return judge(field, first, at, value);
+            return judge(field, first, Number { value, next });
         }
         if !has_room(value, d) {
-            return Field::Unfit(Cause::BadNumber, first);
+            return Err(Unfit::new(Reason::BadNumber, first));
         }
         value = value * 10 + d;
-        at += 1;
+        next += 1;
     }
 }
 
 // The number, if the byte follows it.
-fn follow(text: &[u8], f: Field, b: u8) -> Field
-    ensures { result ≡ followed b text.now f }
+fn follow(text: &[u8], number: Number, b: u8) -> Result<Number, Unfit>
+    ensures { result ≡ followed b text.now (Ok number) }
 {
-    match f {
-        Field::Unfit(cause, p) => Field::Unfit(cause, p),
-        Field::Number(x, p) => {
-            if text.len() <= p {
-                return Field::Unfit(Cause::BadByte, p);
-            }
-            if text[p] == b {
-                return Field::Number(x, p + 1);
-            }
-            Field::Unfit(Cause::BadByte, p)
-        }
+    let at = number.next;
+    if text.len() <= at {
+        return Err(Unfit::new(Reason::BadByte, at));
     }
+    if text[at] == b {
+        return Ok(Number {
+            value: number.value,
+            next: at + 1,
+        });
+    }
+    Err(Unfit::new(Reason::BadByte, at))
 }
 
 // A number, perhaps within double quotes.
-fn field_at(text: &[u8], at: usize, field: usize) -> Field
+fn field_at(text: &[u8], at: usize, field: usize) -> Result<Number, Unfit>
     ensures { result ≡ field_at (kind field) text.now at }
 {
     if text.len() <= at {
-        return Field::Unfit(Cause::BadByte, at);
+        return Err(Unfit::new(Reason::BadByte, at));
     }
     if text[at] == 34 {
-        let f = number_at(text, at + 1, field);
-        return follow(text, f, 34);
+        let number = number_at(text, at + 1, field)?;
+        return follow(text, number, 34);
     }
     number_at(text, at, field)
 }
 
 // The number, if the record ends after it: with the text, or by CRLF.
-fn line_end(text: &[u8], f: Field) -> Field
-    ensures { result ≡ line_end text.now f }
+fn line_end(text: &[u8], number: Number) -> Result<Number, Unfit>
+    ensures { result ≡ line_end text.now (Ok number) }
 {
-    match f {
-        Field::Unfit(cause, p) => Field::Unfit(cause, p),
-        Field::Number(x, p) => {
-            if text.len() <= p {
-                return Field::Number(x, p);
-            }
-            let g = follow(text, Field::Number(x, p), 13);
-            follow(text, g, 10)
-        }
+    if text.len() <= number.next {
+        return Ok(number);
     }
+    let returned = follow(text, number, 13)?;
+    follow(text, returned, 10)
 }
 
 // The number, if what closes this field follows it.
-fn close(text: &[u8], f: Field, field: usize) -> Field
-    ensures { result ≡ closed field text.now f }
+fn close(text: &[u8], number: Number, field: usize) -> Result<Number, Unfit>
+    ensures { result ≡ closed field text.now (Ok number) }
 {
-    match f {
-        Field::Unfit(cause, p) => Field::Unfit(cause, p),
-        Field::Number(x, p) => {
-            if field % 6 == 5 {
-                return line_end(text, Field::Number(x, p));
-            }
-            follow(text, Field::Number(x, p), 44)
-        }
+    if field % 6 == 5 {
+        return line_end(text, number);
     }
+    follow(text, number, 44)
 }
 
 // Whether a record should begin at an offset where the text has ended.
@@ -184,12 +173,12 @@ fn is_missing(text: &[u8], at: usize, field: usize) -> bool
 }
 
 // A field of the text, by its number, at an offset.
-pub fn item_at(text: &[u8], at: usize, field: usize) -> Field
+pub fn item_at(text: &[u8], at: usize, field: usize) -> Result<Number, Unfit>
     ensures { result ≡ item_at field text.now at }
 {
     if is_missing(text, at, field) {
-        return Field::Unfit(Cause::WrongEnd, text.len());
+        return Err(Unfit::new(Reason::WrongEnd, text.len()));
     }
-    let f = field_at(text, at, field);
-    close(text, f, field)
+    let number = field_at(text, at, field)?;
+    close(text, number, field)
 }

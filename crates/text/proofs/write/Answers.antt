@@ -1,23 +1,26 @@
 -- `text::write` meets its contract: a law for each way through it. Assumes nothing.
 use Rattle.std.proofs.Common.{arith}
+use Rattle.std.proofs.lemmas.Result.{err_from_is_err_and}
+use Rattle.base.proofs.Answers.{none-due, some-due}
 use Rattle.text.proofs.Filed.{write_said}
 use Rattle.text.proofs.Told.{short_table, write_short, write_faulty, write_chart}
 use Rattle.text.proofs.write.Goals as goal
 
 pub returns-then-bytes-lt8643 : goal.returns-then-bytes-lt8643
 returns-then-bytes-lt8643 c =
-    let p = write_said c.args.head c.args.rows.now c.args.bytes.now (omega arith) (omega arith) (λ i. omega (arith, c.type_inv.rows i)) _ _ (write_short _ _ _ c.sole.ensures c.if-bytes-lt8643.true) in
-    record { is = p.0; file = p.1 }
+    let q = write_said c.args.head c.args.rows.now c.args.bytes.now (omega arith) (omega arith) (λ i. omega (arith, c.type_inv.rows i)) _ _ (write_short _ _ _ c.sole.ensures c.if-bytes-lt8643.true) in
+    record { is = q.0; file = q.1 }
+
+pub returns-in_err-judge : goal.returns-in_err-judge
+returns-in_err-judge c =
+    let p = err_from_is_err_and c.from_residual.result c.from_residual.ensures.1 in
+    let q = write_said c.args.head c.args.rows.now c.args.bytes.now (omega arith) (omega arith) (λ i. omega (arith, c.type_inv.rows i)) _ _ (write_faulty _ _ c.if-bytes-lt8643.false _ (some-due c.judge.ensures c.in_err-judge.was)) in
+    rw (p.1, p.2) (record { is = q.0; file = q.1 })
 
 pub put_chart-requires : goal.put_chart-requires
-put_chart-requires c = (omega arith, short_table _ _ c.judge.ensures c.in-Faultless.is)
+put_chart-requires c = (omega arith, short_table _ (none-due c.judge.ensures c.in_ok-judge.was))
 
-pub returns-in-Refused : goal.returns-in-Refused
-returns-in-Refused c =
-    let p = write_said c.args.head c.args.rows.now c.args.bytes.now (omega arith) (omega arith) (λ i. omega (arith, c.type_inv.rows i)) _ _ (write_faulty _ _ c.if-bytes-lt8643.false _ c.judge.ensures _ c.in-Refused.is) in
-    record { is = p.0; file = p.1 }
-
-pub returns-in-Faultless : goal.returns-in-Faultless
-returns-in-Faultless c =
-    let p = write_said c.args.head c.args.rows.now c.args.bytes.now (omega arith) (omega arith) (λ i. omega (arith, c.type_inv.rows i)) _ _ (write_chart _ _ c.if-bytes-lt8643.false _ c.judge.ensures _ _ c.in-Faultless.is c.put_chart.ensures) in
-    record { is = p.0; file = p.1 }
+pub returns : goal.returns
+returns c =
+    let q = write_said c.args.head c.args.rows.now c.args.bytes.now (omega arith) (omega arith) (λ i. omega (arith, c.type_inv.rows i)) _ _ (write_chart _ _ c.if-bytes-lt8643.false _ _ (none-due c.judge.ensures c.in_ok-judge.was) c.put_chart.ensures) in
+    record { is = q.0; file = q.1 }

@@ -1,12 +1,16 @@
--- `text::fields::line_end` meets its contract: answer by answer. Assumes nothing.
-use Rattle.text.proofs.Numbers.{end_unfit, end_text, end_line}
+-- `text::fields::line_end` meets its contract: with the text, and by CRLF. Assumes nothing.
+use Rattle.std.proofs.Common.{sym, ◌∙◌, arith}
+use Rattle.std.proofs.lemmas.Result.{err_from_is_err_and}
+use Rattle.text.proofs.Numbers.{end_text, end_line, followed_unfit}
 use Rattle.text.proofs.fields.line_end.Goals as goal
 
-pub returns-then-text-p : goal.returns-then-text-p
-returns-then-text-p c = search end_text
+pub returns-then-text-number : goal.returns-then-text-number
+returns-then-text-number c = search end_text
 
-pub returns-in-Unfit : goal.returns-in-Unfit
-returns-in-Unfit c = search end_unfit
+pub returns-in_err-returned : goal.returns-in_err-returned
+returns-in_err-returned c =
+    let p = err_from_is_err_and c.from_residual.result c.from_residual.ensures.1 in
+    rw (p.1, p.2) (end_line _ _ _ _ (omega arith) (sym c.in_err-returned.was ∙ c.follow.ensures) (followed_unfit _ _ 10))
 
-pub returns-else-text-p : goal.returns-else-text-p
-returns-else-text-p c = search end_line
+pub returns : goal.returns
+returns c = end_line _ _ _ _ (omega arith) (sym c.in_ok-returned.was ∙ c.follow.ensures) c.follow-2.ensures

@@ -6,7 +6,7 @@ use Rattle.text.proofs.Numbers.{Counting}
 use Rattle.text.proofs.fields.number_at.Given as goal
 
 abbrev pub invariant-loop-first : goal.invariant-loop-first
-invariant-loop-first l = Counting (kind l.field) l.text l.first l.value l.at × (l.value ≡ 0 → ⊥)
+invariant-loop-first l = Counting (kind l.field) l.text l.first l.value l.next × (l.value ≡ 0 → ⊥)
 
 abbrev pub decreases-loop-first : goal.decreases-loop-first
-decreases-loop-first l = length l.text - l.at
+decreases-loop-first l = length l.text - l.next
