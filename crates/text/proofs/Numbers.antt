@@ -5,6 +5,7 @@ use borrow.Author.Tests.{lt-leb, not-true, not-false}
 use lib.ListN.{get_or-eq_default}
 use Rattle.base.proofs.Tests.{and_false}
 use Rattle.text.specs.declared.causes.Unfit.{Unfit}
+use Rattle.base.specs.declared.Reason.{Reason}
 use Rattle.base.specs.declared.Reason.TheVariants as because
 use Rattle.text.specs.declared.fields.Kind.{Kind}
 use Rattle.text.specs.declared.fields.Number.{Number}
@@ -14,6 +15,10 @@ use Rattle.text.specs.inner.Digits.{TellsDigit}
 use Rattle.text.specs.declared.fields.Kind.TheVariants.{Plain, Count, Spare}
 use native.Mathlib.Decide.{dec_lt}
 use mathlib.Core.Logic.{dite}
+
+-- u refuses for this reason at this offset
+abbrev pub Refuses : Unfit → Reason → ℕ → Type 0
+Refuses u reason p = u ≡ record { reason = reason; offset = p }
 
 -- what stands past the end counts only there
 pub get_d_here : (l : List ℕ) (i d e : ℕ) → i < length l → get_or l i d ≡ get_or l i e
@@ -140,9 +145,9 @@ pub record Counting (sort : Kind) (text : List ℕ) (first x at : ℕ) : Type 0 
   pub inside : at ≤ length text
 
 module _ (sort : Kind) (text : List ℕ) (first x : ℕ) where
-  pub number-none : TellsDigit x (byte_at text first) → 9 < x → unfit because.BadByte first ≡ number_at sort text first
+  pub number-none : (u : Unfit) → Refuses u because.BadByte first → TellsDigit x (byte_at text first) → 9 < x → Err u ≡ number_at sort text first
   unfolding number_at number_of
-  number-none t h = rw (digits-none text first (t.none h))
+  number-none u e t h = rw (e, digits-none text first (t.none h))
 
   pub number-start : TellsDigit x (byte_at text first) → x ≤ 9 → Counting sort text first x (first + 1)
   unfolding number_at number_of
@@ -159,16 +164,16 @@ module _ (sort : Kind) (text : List ℕ) (first x : ℕ) where
       here : digit_of (byte_at text at) ≤ 9
       here = let e = t.is h in omega arith
 
-      pub number_zero : x ≡ 0 → unfit because.BadNumber first ≡ number_at sort text first
-      number_zero z =
-          rw (c.is, digits_more text at here, z) (ended_zero sort first at (digit_of (byte_at text at)) (digits (drop (at + 1) text)))
+      pub number_zero : (u : Unfit) → Refuses u because.BadNumber first → x ≡ 0 → Err u ≡ number_at sort text first
+      number_zero u e z =
+          rw (e, c.is, digits_more text at here, z) (ended_zero sort first at (digit_of (byte_at text at)) (digits (drop (at + 1) text)))
 
       module _ (n : x ≡ 0 → ⊥) (r : Bool) (e : r ≡ leb (x * 10 + d) 4294967295) where
-        pub number-above : not r ≡ true → unfit because.BadNumber first ≡ number_at sort text first
-        number-above f =
+        pub number-above : (u : Unfit) → Refuses u because.BadNumber first → not r ≡ true → Err u ≡ number_at sort text first
+        number-above u w f =
             let i = t.is h in
             let g = leb-false (x * 10 + d) 4294967295 (sym e ∙ not-true r f) in
-            rw (c.is, digits_more text at here) (ended-above sort first at x (digit_of (byte_at text at)) (digits (drop (at + 1) text)) n (omega arith))
+            rw (w, c.is, digits_more text at here) (ended-above sort first at x (digit_of (byte_at text at)) (digits (drop (at + 1) text)) n (omega arith))
 
         pub number_more : not r ≡ false → Counting sort text first (x * 10 + d) (at + 1)
         number_more f =
@@ -190,32 +195,32 @@ module _ (sort s : Kind) (first : ℕ) (n : Number) (i : s ≡ sort) where
   unfolding judged
   judge_count e h = rw (← i, e, le-leb n.value 128 h, judged)
 
-  pub judge_many : s ≡ Count → 128 < n.value → unfit because.Exceeding first ≡ judged sort first n.next n.value
+  pub judge_many : (u : Unfit) → Refuses u because.Exceeding first → s ≡ Count → 128 < n.value → Err u ≡ judged sort first n.next n.value
   unfolding judged
-  judge_many e h = rw (← i, e, lt-leb n.value 128 h, judged)
+  judge_many u w e h = rw (w, ← i, e, lt-leb n.value 128 h, judged)
 
   pub judge_spare : s ≡ Spare → n.value ≡ 0 → Ok n ≡ judged sort first n.next n.value
   unfolding judged
   judge_spare e h = rw (← i, e, eq-eqb n.value 0 h, judged)
 
-  pub judge_used : s ≡ Spare → (n.value ≡ 0 → ⊥) → unfit because.BadNumber first ≡ judged sort first n.next n.value
+  pub judge_used : (u : Unfit) → Refuses u because.BadNumber first → s ≡ Spare → (n.value ≡ 0 → ⊥) → Err u ≡ judged sort first n.next n.value
   unfolding judged
-  judge_used e h = rw (← i, e, ne_eqb n.value 0 h, judged)
+  judge_used u w e h = rw (w, ← i, e, ne_eqb n.value 0 h, judged)
 
 -- ---- what follows a number
 
 module _ (b : ℕ) (text : List ℕ) (n : Number) where
-  pub follow_past : b < 256 → length text ≤ n.next → unfit because.BadByte n.next ≡ followed b text (Ok n)
+  pub follow_past : (u : Unfit) → Refuses u because.BadByte n.next → b < 256 → length text ≤ n.next → Err u ≡ followed b text (Ok n)
   unfolding followed
-  follow_past s h = rw (byte_past text n.next h, ne_eqb 256 b (omega arith), followed)
+  follow_past u e s h = rw (e, byte_past text n.next h, ne_eqb 256 b (omega arith), followed)
 
   pub follow-is : n.next < length text → get_or text n.next 0 ≡ b → number n.value (n.next + 1) ≡ followed b text (Ok n)
   unfolding followed
   follow-is l h = rw (byte_here text n.next l, eq-eqb _ _ h, followed)
 
-  pub follow_not : n.next < length text → (get_or text n.next 0 ≡ b → ⊥) → unfit because.BadByte n.next ≡ followed b text (Ok n)
+  pub follow_not : (u : Unfit) → Refuses u because.BadByte n.next → n.next < length text → (get_or text n.next 0 ≡ b → ⊥) → Err u ≡ followed b text (Ok n)
   unfolding followed
-  follow_not l h = rw (byte_here text n.next l, ne_eqb _ _ h, followed)
+  follow_not u e l h = rw (e, byte_here text n.next l, ne_eqb _ _ h, followed)
 
 -- what follows a refusal is it
 module _ (text : List ℕ) (u : Unfit) where
@@ -242,9 +247,9 @@ module _ (text : List ℕ) (n : Number) where
 
 -- ---- a field
 
-pub field_past : (sort : Kind) (text : List ℕ) (at : ℕ) → length text ≤ at → unfit because.BadByte at ≡ field_at sort text at
+pub field_past : (sort : Kind) (text : List ℕ) (at : ℕ) (u : Unfit) → Refuses u because.BadByte at → length text ≤ at → Err u ≡ field_at sort text at
 unfolding field_at
-field_past sort text at h = rw (byte_past text at h, field_at) (number-none sort text at 10 (digit_past text at h) (omega arith))
+field_past sort text at u e h = rw (byte_past text at h, field_at) (number-none sort text at 10 u e (digit_past text at h) (omega arith))
 
 module _ (sort : Kind) (text : List ℕ) (at : ℕ) (r : Field) where
   pub field_bare : at < length text → (get_or text at 0 ≡ 34 → ⊥) → r ≡ number_at sort text at → r ≡ field_at sort text at
@@ -305,9 +310,9 @@ module _ (k : ℕ) (text : List ℕ) (at : ℕ) where
   unfolding missing
   missing-inside h = rw (lt-leb _ _ h, missing, and_false (eqb (k % 6) 0))
 
-  pub item_missing : (m : Bool) → m ≡ missing k text at → m ≡ true → unfit because.WrongEnd (length text) ≡ item_at k text at
+  pub item_missing : (m : Bool) (u : Unfit) → Refuses u because.WrongEnd (length text) → m ≡ missing k text at → m ≡ true → Err u ≡ item_at k text at
   unfolding item_at
-  item_missing m e h = rw (sym e ∙ h, item_at)
+  item_missing m u w e h = rw (w, sym e ∙ h, item_at)
 
   pub item_there : (m : Bool) (f r : Field) → m ≡ missing k text at → m ≡ false → f ≡ field_at (kind k) text at → r ≡ closed k text f → r ≡ item_at k text at
   unfolding item_at

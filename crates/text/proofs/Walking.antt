@@ -23,6 +23,7 @@ use Rattle.text.specs.Fields.{Field, missing, item_at}
 use Rattle.text.specs.Spans.{Span, on_field, fields_at}
 use Rattle.text.specs.Texts.{whole, rows_at, parsed, read_text, read_into, filled, heading, head_in, count_in}
 use Rattle.text.specs.inner.Walk.{on_number, numbers_at, laid, Reach, on_fit, reach_at, reached, record_of, first_at, past_first, entries_of, row_numbers, refusing}
+use Rattle.text.proofs.Numbers.{Refuses}
 use Rattle.text.proofs.Told.{ReadAs, read_refused, read_sized, whole-rows, whole-after, whole_end, few_counted, parsed-some}
 use Rattle.text.proofs.Charts.{Spells, parsed_shows}
 
@@ -174,10 +175,10 @@ module _ (text : List ℕ) (some_byte : length text ≡ 0 → ⊥) where
 abbrev pub ParsedAs : List ℕ → Result Heading Unfit → List ℕ → List ℕ → Type 0
 ParsedAs text a table after = (refusing a ≡ mapped heading (parsed text)) × (after ≡ laid (row_numbers text) table)
 
-pub parse_none : (text table : List ℕ) → length text ≡ 0 → ParsedAs text (Err (record { reason = NoBytes; offset = 0 })) table table
+pub parse_none : (text table : List ℕ) (u : Unfit) → Refuses u NoBytes 0 → length text ≡ 0 → ParsedAs text (Err u) table table
 unfolding parsed row_numbers first_at record_of reach_at entries_of numbers_at item_at missing
-parse_none [] table h = (refl, refl)
-parse_none (b ∷ s) table h = absurd (omega arith)
+parse_none [] table u e h = (rw e, refl)
+parse_none (b ∷ s) table u e h = absurd (omega arith)
 
 module _ (text table : List ℕ) (some_byte : length text ≡ 0 → ⊥) where
   pub parse_first : (u : Unfit) → first_at text 0 ≡ Err u → ParsedAs text (Err u) table table
@@ -191,8 +192,8 @@ module _ (text table : List ℕ) (some_byte : length text ≡ 0 → ⊥) where
     pub parse_rows : (u : Unfit) → reach_at (6 * h.rows) 6 text (past_first text) ≡ Err u → ParsedAs text (Err u) table after
     parse_rows u d = (rw (walk_unfit text some_byte h e u d), rows-laid)
 
-    pub parse_after : (p : ℕ) → reach_at (6 * h.rows) 6 text (past_first text) ≡ Ok p → p < length text → ParsedAs text (Err (record { reason = WrongEnd; offset = p })) table after
-    parse_after p d w = (rw (walk_past text some_byte h e p d, whole-after text p (charted h.head (row_numbers text)) w), rows-laid)
+    pub parse_after : (p : ℕ) (u : Unfit) → Refuses u WrongEnd p → reach_at (6 * h.rows) 6 text (past_first text) ≡ Ok p → p < length text → ParsedAs text (Err u) table after
+    parse_after p u i d w = (rw (i, walk_past text some_byte h e p d, whole-after text p (charted h.head (row_numbers text)) w), rows-laid)
 
     pub parse_chart : (p : ℕ) → reach_at (6 * h.rows) 6 text (past_first text) ≡ Ok p → length text ≤ p → ParsedAs text (Ok h) table after
     parse_chart p d w =

@@ -74,10 +74,8 @@ pub fn put_fields(bytes: &mut [u8], at: usize, field: usize, numbers: &[u32]) ->
         × (result ≤ at + room field (length numbers.now)) }
 {
     let mut p = at;
-    let mut i = 0;
-    while i < numbers.len() {
-        p = put_field(bytes, p, field + i, numbers[i]);
-        i += 1;
+    for (i, &x) in numbers.iter().enumerate() {
+        p = put_field(bytes, p, field + i, x);
     }
     p
 }

@@ -5,7 +5,7 @@ use Rattle.text.proofs.Numbers.{field_past, field_quoted, field_bare, followed_u
 use Rattle.text.proofs.fields.field_at.Goals as goal
 
 pub returns-then-text-at : goal.returns-then-text-at
-returns-then-text-at c = rw c.new.ensures (search field_past)
+returns-then-text-at c = search field_past
 
 pub returns-in_err-number : goal.returns-in_err-number
 returns-in_err-number c =

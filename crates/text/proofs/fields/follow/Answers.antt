@@ -10,4 +10,4 @@ pub returns-then-text-at-2 : goal.returns-then-text-at-2
 returns-then-text-at-2 c = search follow-is
 
 pub returns : goal.returns
-returns c = rw c.new-2.ensures (search follow_not)
+returns c = search follow_not

@@ -5,7 +5,7 @@ use Rattle.text.proofs.Numbers.{item_missing, item_there, closed_unfit}
 use Rattle.text.proofs.fields.item_at.Goals as goal
 
 pub returns-then-is_missing : goal.returns-then-is_missing
-returns-then-is_missing c = rw c.new.ensures (search item_missing)
+returns-then-is_missing c = search item_missing
 
 pub returns-in_err-number : goal.returns-in_err-number
 returns-in_err-number c =

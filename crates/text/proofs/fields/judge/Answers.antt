@@ -12,7 +12,7 @@ pub returns-in-Plain : goal.returns-in-Plain
 returns-in-Plain c = search judge_plain
 
 pub returns-else-number-le128 : goal.returns-else-number-le128
-returns-else-number-le128 c = rw c.new.ensures (search judge_many)
+returns-else-number-le128 c = search judge_many
 
 pub returns-else-number-eq0 : goal.returns-else-number-eq0
-returns-else-number-eq0 c = rw c.new-in-Spare.ensures (search judge_used)
+returns-else-number-eq0 c = search judge_used

@@ -5,13 +5,13 @@ use Rattle.text.proofs.Numbers.{number-none, number-start, number_stop, number_z
 use Rattle.text.proofs.fields.number_at.Goals as goal
 
 pub returns-then-value-gt9 : goal.returns-then-value-gt9
-returns-then-value-gt9 c = rw c.new.ensures (search number-none)
+returns-then-value-gt9 c = search number-none
 
 pub overflow_add-next : goal.overflow_add-next
 overflow_add-next c = let h : c.args.first < length c.args.text.now = search inside_by in omega arith
 
 pub returns-then-digit-le9 : goal.returns-then-digit-le9
-returns-then-digit-le9 c = rw c.new-then-digit-le9.ensures (search (number_zero, number-start))
+returns-then-digit-le9 c = search (number_zero, number-start)
 
 pub returns-then-value-eq0 : goal.returns-then-value-eq0
 returns-then-value-eq0 c = search (number_stop, number-start)
@@ -23,7 +23,7 @@ pub returns-then-d-gt9 : goal.returns-then-d-gt9
 returns-then-d-gt9 c = search (number_stop, c.loop-first.invariant.0)
 
 pub returns-then-not-has_room : goal.returns-then-not-has_room
-returns-then-not-has_room c = rw c.new-then-not-has_room.ensures (search (number-above, c.loop-first.invariant.0, c.loop-first.invariant.1))
+returns-then-not-has_room c = search (number-above, c.loop-first.invariant.0, c.loop-first.invariant.1)
 
 pub overflow_mul-value : goal.overflow_mul-value
 overflow_mul-value c = let h : c.loop-first.value * 10 + c.digit-d.result ≤ 4294967295 = search room_by in omega arith

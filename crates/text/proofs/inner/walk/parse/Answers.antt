@@ -1,5 +1,5 @@
 -- `text::inner::walk::parse` meets its contract: a law for each way through it. Assumes nothing.
-use Rattle.std.proofs.Common.{◌≡◌, ◌*◌, sym, ◌∙◌, arith}
+use Rattle.std.proofs.Common.{rules, ◌≡◌, ◌*◌, sym, ◌∙◌, arith}
 use Rattle.std.specs.Result.{result_err}
 use Rattle.std.proofs.lemmas.Result.{err_from_is_err_and}
 use Rattle.text.specs.inner.Walk.{numbers_at, laid, reach_at, reached, first_at, past_first}
@@ -7,7 +7,7 @@ use Rattle.text.proofs.Walking.{few_rows, step_unfit, step_past, parse_none, par
 use Rattle.text.proofs.inner.walk.parse.Goals as goal
 
 pub returns-then-text-eq0 : goal.returns-then-text-eq0
-returns-then-text-eq0 c = rw c.new.ensures (parse_none _ _ c.if-text-eq0.true)
+returns-then-text-eq0 c = parse_none _ _ _ (search rules) c.if-text-eq0.true
 
 pub returns-in_err-heading : goal.returns-in_err-heading
 returns-in_err-heading c =
@@ -44,7 +44,7 @@ returns-then-reader-text c =
     let d : result_err c.rows.result ≡ result_err (reach_at n 6 c.args.text.now (past_first c.args.text.now)) = cc in
     let l : c.rows.new.table ≡ laid (numbers_at n 6 c.args.text.now (past_first c.args.text.now)) c.args.table.now = cc in
     let a : c.rows.new.self.at ≡ reached (reach_at n 6 c.args.text.now (past_first c.args.text.now)) (past_first c.args.text.now) = cc in
-    rw c.new-then-reader-text.ensures (parse_after _ _ c.if-text-eq0.false _ e _ l _ (step_past _ _ d _ _ _ a c.in_ok-rows.was) c.if-reader-text.true)
+    parse_after _ _ c.if-text-eq0.false _ e _ l _ _ (search rules) (step_past _ _ d _ _ _ a c.in_ok-rows.was) c.if-reader-text.true
 
 pub returns : goal.returns
 returns c =
