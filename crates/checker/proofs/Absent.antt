@@ -1,5 +1,6 @@
 -- Eight marks as one number: its low zeros are absent pairs. Assumes nothing.
 use Rattle.std.proofs.Common.{◌≡◌, ℕ, zero, suc, ◌+◌, ◌*◌, ◌/◌, ◌%◌, ◌^◌, ◌<◌, ◌≤◌, List, get_or, sym, refl, ap, ◌∙◌, mod-eq_of_lt, arith, pow_pos}
+use Rattle.std.specs.Int.{w64, from_le_bytes}
 use mathlib.Core.Logic.{dite}
 use native.Mathlib.Decide.{ℕ_discrete}
 use lib.Count.{count_trailing_zeros, under, trailing_le}
@@ -47,26 +48,19 @@ module _ (m : List ℕ) (byte : (i : ℕ) → get_or m i 0 < 256) where
   first_of_eight n {w} e i a b =
       low-bytes (count_trailing_zeros 64 w / 8) 8 n (omega (arith, trailing_le 64 w)) (rw (sym e) (trailing_bytes w)) i a b
 
--- four bytes, and twice four
-module _ (m : List ℕ) (n : ℕ) where
-  pub four_is : {a b c d x y : ℕ} → a ≡ get_or m n 0 → b ≡ get_or m (n + 1) 0 → c ≡ get_or m (n + 2) 0 → d ≡ get_or m (n + 3) 0
-      → x ≡ a + 256 * b → y ≡ 65536 * c + 16777216 * d → x + y ≡ packed m n 4
-  unfolding packed
-  four_is ea eb ec ed ex ey =
-      let w : packed m n 4 ≡ get_or m n 0 + 256 * (get_or m (n + 1) 0 + 256 * (get_or m (n + 1 + 1) 0 + 256 * (get_or m (n + 1 + 1 + 1) 0 + 256 * 0))) = refl in
-      let p : get_or m (n + 1 + 1) 0 ≡ get_or m (n + 2) 0 = ap (λ (k : ℕ). get_or m k 0) (omega arith) in
-      let q : get_or m (n + 1 + 1 + 1) 0 ≡ get_or m (n + 3) 0 = ap (λ (k : ℕ). get_or m k 0) (omega arith) in
-      omega (arith, w, p, q, ea, eb, ec, ed, ex, ey)
-
-  pub eight_is : {x y : ℕ} → x ≡ packed m n 4 → y ≡ packed m (n + 4) 4 → x + 4294967296 * y ≡ packed m n 8
-  unfolding packed
-  eight_is ex ey =
-      let u : packed m n 4 ≡ get_or m n 0 + 256 * (get_or m (n + 1) 0 + 256 * (get_or m (n + 1 + 1) 0 + 256 * (get_or m (n + 1 + 1 + 1) 0 + 256 * 0))) = refl in
-      let v : packed m (n + 4) 4 ≡ get_or m (n + 4) 0 + 256 * (get_or m (n + 4 + 1) 0 + 256 * (get_or m (n + 4 + 1 + 1) 0 + 256 * (get_or m (n + 4 + 1 + 1 + 1) 0 + 256 * 0))) = refl in
-      let w : packed m n 8 ≡ get_or m n 0 + 256 * (get_or m (n + 1) 0 + 256 * (get_or m (n + 1 + 1) 0 + 256 * (get_or m (n + 1 + 1 + 1) 0 + 256 * (get_or m (n + 1 + 1 + 1 + 1) 0 + 256 * (get_or m (n + 1 + 1 + 1 + 1 + 1) 0 + 256 * (get_or m (n + 1 + 1 + 1 + 1 + 1 + 1) 0 + 256 * (get_or m (n + 1 + 1 + 1 + 1 + 1 + 1 + 1) 0 + 256 * 0))))))) = refl in
-      let same : (i j : ℕ) → i ≡ j → get_or m i 0 ≡ get_or m j 0 = λ i j. ap (λ (k : ℕ). get_or m k 0) in
-      let a = same (n + 1 + 1 + 1 + 1) (n + 4) (omega arith) in
-      let b = same (n + 1 + 1 + 1 + 1 + 1) (n + 4 + 1) (omega arith) in
-      let c = same (n + 1 + 1 + 1 + 1 + 1 + 1) (n + 4 + 1 + 1) (omega arith) in
-      let d = same (n + 1 + 1 + 1 + 1 + 1 + 1 + 1) (n + 4 + 1 + 1 + 1) (omega arith) in
-      omega (arith, u, v, w, a, b, c, d, ex, ey)
+-- eight bytes that stand from n on, as the library joins them
+pub eight_is : (m bytes : List ℕ) (n : ℕ) → ((i : ℕ) → i < 8 → get_or bytes i 0 ≡ get_or m (n + i) 0) → from_le_bytes w64 bytes ≡ packed m n 8
+unfolding packed
+eight_is m bytes n h =
+    let v : packed m n 8 ≡ get_or m n 0 + 256 * (get_or m (n + 1) 0 + 256 * (get_or m (n + 1 + 1) 0 + 256 * (get_or m (n + 1 + 1 + 1) 0 + 256 * (get_or m (n + 1 + 1 + 1 + 1) 0 + 256 * (get_or m (n + 1 + 1 + 1 + 1 + 1) 0 + 256 * (get_or m (n + 1 + 1 + 1 + 1 + 1 + 1) 0 + 256 * (get_or m (n + 1 + 1 + 1 + 1 + 1 + 1 + 1) 0 + 256 * 0))))))) = refl in
+    let w : from_le_bytes w64 bytes ≡ get_or bytes 0 0 + get_or bytes 1 0 * 256 + get_or bytes 2 0 * 65536 + get_or bytes 3 0 * 16777216 + get_or bytes 4 0 * 4294967296 + get_or bytes 5 0 * 1099511627776 + get_or bytes 6 0 * 281474976710656 + get_or bytes 7 0 * 72057594037927936 = refl in
+    let same : (i j : ℕ) → i < 8 → j ≡ n + i → get_or m j 0 ≡ get_or bytes i 0 = λ i j l e. ap (λ (k : ℕ). get_or m k 0) e ∙ sym (h i l) in
+    let a = same 0 n (omega arith) (omega arith) in
+    let b = same 1 (n + 1) (omega arith) (omega arith) in
+    let c = same 2 (n + 1 + 1) (omega arith) (omega arith) in
+    let d = same 3 (n + 1 + 1 + 1) (omega arith) (omega arith) in
+    let e = same 4 (n + 1 + 1 + 1 + 1) (omega arith) (omega arith) in
+    let f = same 5 (n + 1 + 1 + 1 + 1 + 1) (omega arith) (omega arith) in
+    let g = same 6 (n + 1 + 1 + 1 + 1 + 1 + 1) (omega arith) (omega arith) in
+    let z = same 7 (n + 1 + 1 + 1 + 1 + 1 + 1 + 1) (omega arith) (omega arith) in
+    omega (arith, v, w, a, b, c, d, e, f, g, z)

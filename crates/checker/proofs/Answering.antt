@@ -1,34 +1,24 @@
 -- The refusal that is due, step by step, as the code comes upon it. Assumes nothing.
-use Rattle.std.proofs.Common.{◌≡◌, ℕ, Bool, true, false, List, sym, refl, ap, ◌∙◌}
-use Rattle.std.specs.Prelude.{Option, None, Some}
-use Rattle.std.proofs.lemmas.Option.{none-some, same_Some}
+use Rattle.std.proofs.Common.{◌≡◌, ℕ, Bool, true, false, sym, refl, ap, ◌∙◌}
+use Rattle.std.specs.Prelude.{Option, None, Some, Ok, Err, IsOk}
+use Rattle.std.specs.Result.{result_err}
+use Rattle.base.specs.Answers.{Answer}
 use Rattle.base.specs.Options.{first_of}
 use Rattle.base.specs.declared.Refusal.{Refusal}
 use Rattle.base.specs.Refusals.{sole}
 use Rattle.base.specs.Says.{bool, Says}
 use Rattle.base.proofs.Says.{says}
-use Rattle.base.proofs.Tests.{T_true}
+use Rattle.base.proofs.Tests.{T_true, and_true}
 use Rattle.chart.proofs.Words.{Words}
 use Rattle.chart.specs.Faultless.{FaultlessChart}
 use Rattle.chart.specs.Faults.{judged}
 use Rattle.chart.proofs.Faultless.{both-faultless}
-use Rattle.checker.specs.declared.answers.Checked.{Checked}
-use Rattle.checker.specs.declared.answers.Checked.TheVariants.{Passed, Refused}
 use Rattle.records.specs.Records.{Record}
-use Rattle.checker.specs.Rules.{shaped, start_fits}
-use Rattle.checker.specs.inner.Admitted.{Admitted}
-use Rattle.checker.specs.Checks.{told, sized, rule_at, pair_fault, broken, rule_fault, record_fault, refusal}
+use Rattle.checker.specs.Rules.{start_named, marks_fit, targets_fit, shaped, start_fits}
+use Rattle.checker.specs.Checks.{sized, rule_at, pair_fault, broken, rule_fault, record_fault, refusal}
 use Rattle.checker.specs.Promise.{Promise}
 use Rattle.checker.proofs.Demand3.{demand_3_first}
-use Rattle.chart.specs.inner.Prepared.{Prepared}
 use Rattle.chart.specs.Compared.{Compared, heads_of}
-
--- answers that say the same are the same
-pub told-one : (x y : Checked) → told x ≡ told y → x ≡ y
-told-one Passed Passed e = refl
-told-one Passed (Refused s) e = absurd (none-some s e)
-told-one (Refused r) Passed e = absurd (none-some r (sym e))
-told-one (Refused r) (Refused s) e = ap Refused (same_Some r s e)
 
 module _ (X : Compared) (R : Record) where
   -- ---- refusal 32
@@ -52,16 +42,11 @@ module _ (X : Compared) (R : Record) where
     rules_judged u h = rw (sym e ∙ u) (ap rule_at h)
 
     -- what the rules are judged upon
-    pub admitted : {index : List ℕ} → b ≡ true → Prepared X index → Says (sized R.graph) → Admitted X index R.graph
+    pub fitting : b ≡ true → bool (targets_fit R.graph.targets) ≡ true
     unfolding shaped
-    admitted u P z =
-        record {
-          prepared = P;
-          marks-length = z.0;
-          targets-length = z.1.0;
-          sets-length = z.1.1;
-          targets-fit = (says (shaped (heads_of X) R.start R.graph.marks R.graph.targets) (T_true (sym e ∙ u))).1.1;
-        }
+    fitting u =
+        (and_true (bool (marks_fit (heads_of X) R.graph.marks)) _
+        (and_true (bool (start_named (heads_of X) R.start)) _ (sym e ∙ u)).1).1
 
   -- ---- 21, and the charts
   module _ {b : Bool} (l : b ≡ bool (sized R.graph)) {o : Option Refusal} (e : o ≡ judged b X) where
@@ -86,5 +71,6 @@ module _ (X : Compared) (R : Record) where
       record_judged h = rw none-due h
 
   -- ---- the answer with its promise
-  pub promised : {r : Option Refusal} → Words X.old.table → Words X.new.table → r ≡ refusal X R → (r ≡ refusal X R) × (r ≡ None → Promise X R)
-  promised ow nw e = (e, λ z. demand_3_first X ow nw R (sym e ∙ z))
+  pub promised : {A : Type 0} (a : Answer A) → Words X.old.table → Words X.new.table → result_err a ≡ refusal X R → IsOk a → Promise X R
+  promised (Ok x) ow nw e t = demand_3_first X ow nw R (sym e)
+  promised (Err r) ow nw e t = absurd (T_true t)

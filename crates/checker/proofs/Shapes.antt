@@ -1,12 +1,12 @@
 -- The shape of a record, test by test, as the code comes upon it. Assumes nothing.
-use Rattle.std.proofs.Common.{◌≡◌, ℕ, zero, suc, ◌+◌, ◌-◌, ◌*◌, ◌/◌, ◌%◌, ◌<◌, ◌≤◌, Bool, true, false, not, ◌&&◌, ◌||◌, eqb, ltb, leb, List, get_or, sym, refl, ap, ◌∙◌, add-zero, add_assoc, add-suc, arith, eqb→eq, le-ltb, lt-ltb, eq-eqb, ne_eqb, le-leb}
+use Rattle.std.proofs.Common.{◌≡◌, ℕ, zero, suc, ◌+◌, ◌-◌, ◌*◌, ◌/◌, ◌%◌, ◌<◌, ◌≤◌, min, max, Bool, true, false, not, ◌&&◌, ◌||◌, eqb, ltb, leb, List, get_or, sym, refl, ap, ◌∙◌, add-zero, add_assoc, add-suc, arith, eqb→eq, le-ltb, lt-ltb, eq-eqb, ne_eqb, le-leb}
 use mathlib.Core.Bool.{and-true, and_assoc}
 use mathlib.Core.Logic.{dite}
 use native.Mathlib.Decide.{ℕ_discrete, dec_le, dec_lt}
 use borrow.Author.Tests.{lt-leb}
 use lib.Dec.{leb-zero}
 use Rattle.base.specs.Says.{every, bool, Says}
-use Rattle.base.proofs.Says.{every_at}
+use Rattle.base.proofs.Says.{says, every_at}
 use Rattle.base.proofs.Tests.{and_false, or_none, T_true}
 use Rattle.chart.specs.declared.charts.Heads.{Heads}
 use Rattle.chart.specs.declared.places.OldPlace.{OldPlace}
@@ -17,19 +17,21 @@ use Rattle.checker.specs.Rules.{mark_fits, target_fits, targets_fit, start_fits}
 
 -- ---- the largest of several numbers
 -- the larger of two is at most k exactly where both are
-pub second_larger : (a b : ℕ) → a < b → (k : ℕ) → leb b k ≡ leb a k && leb b k
-second_larger a b l k = go (dec_le b k)
+pub larger : (a b k : ℕ) → leb (max a b) k ≡ leb a k && leb b k
+larger a b k = go (dec_le a k) (dec_le b k)
   where
-    go : Dec (b ≤ k) → leb b k ≡ leb a k && leb b k
-    go (yes u) = rw (le-leb b k u, le-leb a k (omega arith))
-    go (no n) = rw (lt-leb b k (omega arith)) (sym (and_false (leb a k)))
+    go : Dec (a ≤ k) → Dec (b ≤ k) → leb (max a b) k ≡ leb a k && leb b k
+    go (yes u) (yes v) = rw (le-leb a k u, le-leb b k v, le-leb (max a b) k (omega arith))
+    go (yes u) (no n) = rw (le-leb a k u, lt-leb b k (omega arith), lt-leb (max a b) k (omega arith))
+    go (no n) d = rw (lt-leb a k (omega arith), lt-leb (max a b) k (omega arith))
 
-pub first_larger : (a b : ℕ) → b ≤ a → (k : ℕ) → leb a k ≡ leb a k && leb b k
-first_larger a b l k = go (dec_le a k)
+-- of the numbers below k, those below the smaller of n and k are those below n
+pub smaller : (n k j : ℕ) → j < k → ltb j (min n k) ≡ ltb j n
+smaller n k j l = go (dec_lt j n)
   where
-    go : Dec (a ≤ k) → leb a k ≡ leb a k && leb b k
-    go (yes u) = rw (le-leb a k u, le-leb b k (omega arith))
-    go (no n) = rw (lt-leb a k (omega arith))
+    go : Dec (j < n) → ltb j (min n k) ≡ ltb j n
+    go (yes u) = rw (lt-ltb j n u, lt-ltb j (min n k) (omega arith))
+    go (no m) = rw (le-ltb j n (omega arith), le-ltb j (min n k) (omega arith))
 
 -- ---- a test of each number, part by part
 module _ (f : ℕ → Bool) where
@@ -181,17 +183,17 @@ module _ (heads : Heads) (marks : List ℕ) (p n : ℕ) (there : (j : ℕ) → j
     place_none u h = h ∙ all_same (λ j. eqb (x j) 0) fits 64 (λ j l. none-fits heads p j (x j) l pair (sym (there-old p pair) ∙ le-ltb p k u))
 
 -- ---- targets
-pub wrapped_fits : (t r : ℕ) → t < 65536 → r ≡ (t + 1) % 65536 → leb r 4160 ≡ bool (target_fits t)
-wrapped_fits t r l e = go (dec_lt t 4160) (ℕ_discrete t 65535)
+pub wrapped_fits : (t : ℕ) → t < 65536 → leb ((t + 1) % 65536) 4160 ≡ bool (target_fits t)
+wrapped_fits t l = go (dec_lt t 4160) (ℕ_discrete t 65535)
   where
-    go : Dec (t < 4160) → Dec (t ≡ 65535) → leb r 4160 ≡ bool (target_fits t)
-    go (yes u) d = rw (le-leb r 4160 (omega arith), lt-ltb t 4160 u)
-    go (no n) (yes z) = rw (le-leb r 4160 (omega arith), le-ltb t 4160 (omega arith), eq-eqb t 65535 z)
-    go (no n) (no z) = rw (lt-leb r 4160 (omega arith), le-ltb t 4160 (omega arith), ne_eqb t 65535 z)
+    go : Dec (t < 4160) → Dec (t ≡ 65535) → leb ((t + 1) % 65536) 4160 ≡ bool (target_fits t)
+    go (yes u) d = rw (le-leb ((t + 1) % 65536) 4160 (omega arith), lt-ltb t 4160 u)
+    go (no n) (yes z) = rw (le-leb ((t + 1) % 65536) 4160 (omega arith), le-ltb t 4160 (omega arith), eq-eqb t 65535 z)
+    go (no n) (no z) = rw (lt-leb ((t + 1) % 65536) 4160 (omega arith), le-ltb t 4160 (omega arith), ne_eqb t 65535 z)
 
-pub fits_at : (targets : List ℕ) (i : ℕ) → Says (targets_fit targets) → i < 8192 → Says (target_fits (get_or targets i 0))
+pub fits_at : (targets : List ℕ) (i : ℕ) → bool (targets_fit targets) ≡ true → i < 8192 → Says (target_fits (get_or targets i 0))
 unfolding targets_fit
-fits_at targets i h l = h i l
+fits_at targets i h l = says (targets_fit targets) (T_true h) i l
 
 -- ---- the start: n is the pair of both starts, k the kept new start
 module _ (heads : Heads) (marks : List ℕ) where

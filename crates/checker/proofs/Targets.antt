@@ -1,12 +1,12 @@
 -- The rules for a target, test by test, as the code comes upon them. Assumes nothing.
-use Rattle.std.proofs.Common.{◌≡◌, ℕ, ◌/◌, ◌%◌, ◌<◌, ◌≤◌, Bool, true, false, not, eqb, List, get_or, sym, refl, ap, ◌∙◌, subst, inl, inr, arith, le-ltb, lt-ltb, eq-eqb, ne_eqb}
+use Rattle.std.proofs.Common.{◌≡◌, ℕ, ◌/◌, ◌%◌, ◌<◌, ◌≤◌, Bool, true, false, not, ◌&&◌, eqb, List, get_or, sym, refl, ap, ◌∙◌, subst, inl, inr, arith, le-ltb, lt-ltb, eq-eqb, ne_eqb}
 use Rattle.std.specs.Prelude.{Option, None, Some}
 use native.Mathlib.Decide.{ℕ_discrete, dec_lt}
 use Rattle.base.specs.Options.{missing, first_of}
 use Rattle.base.specs.Says.{bool, Says}
 use Rattle.base.specs.Tests.{within}
 use Rattle.base.proofs.OnSome.{on_at}
-use Rattle.base.proofs.Options.{missing-none, none_of, none_everywhere}
+use Rattle.base.proofs.Options.{first_at_lem, none_of, none_everywhere}
 use Rattle.base.proofs.Picks.{pick_true, pick_false}
 use Rattle.base.proofs.Tests.{or_none, and_false}
 use Rattle.operations.specs.declared.Operation.{Operation}
@@ -73,13 +73,9 @@ module _ (marks : List ℕ) (q : NewPlace) (t : ℕ) {k : Bool} (Some : t ≡ 65
     of_q : eqb (t % 64) q.0 ≡ a
     of_q = sym (g ∙ ap (λ (p : NewPlace). eqb p.0 q.0) f)
 
-    pub rests_elsewhere : a ≡ false → false ≡ bool (rests_at marks q t)
+    pub rests_present : a && not (eqb (get_or marks t 0) 0) ≡ bool (rests_at marks q t)
     unfolding rests_at
-    rests_elsewhere v = rw (ne_eqb t 65535 Some, sym e ∙ u, lt-ltb t 4096 l, of_q ∙ v)
-
-    pub rests_present : {r : Bool} → a ≡ true → r ≡ not (eqb (get_or marks t 0) 0) → r ≡ bool (rests_at marks q t)
-    unfolding rests_at
-    rests_present v h = rw (ne_eqb t 65535 Some, sym e ∙ u, lt-ltb t 4096 l, of_q ∙ v) h
+    rests_present = rw (ne_eqb t 65535 Some, sym e ∙ u, lt-ltb t 4096 l, of_q)
 
 -- ---- marks in order
 pub ranked-none : (marks : List ℕ) (m t : ℕ) → t ≡ 65535 → true ≡ bool (ranked marks m t)
@@ -192,17 +188,21 @@ pub node-below : (t : ℕ) → Says (target_fits t) → (t ≡ 65535 → ⊥) �
 node-below t (inl l) n = l
 node-below t (inr e) n = absurd (n e)
 
+-- what the walk over rows or pairs comes upon is the first
+pub found_at : {A : Type 0} (f : ℕ → Option A) (n i : ℕ) {x : A} → i < n → first_of i f ≡ None → f i ≡ Some x → Some x ≡ first_of n f
+found_at f n i {x} l e h = sym (first_at_lem f n i l e (ap missing h) ∙ h)
+
 -- a pair's two rows, one after the other
 pub both-rows : (X : Compared) (G : Graph) (m : ℕ) (rows : List ℕ) → first_of 2 (target_fault X G m rows) ≡ rows_fault X G m rows
 unfolding first_of rows_fault
 both-rows X G m rows = refl
 
 -- the walk over the pairs: one that has no fault, and absent ones after it
-pub passed_over : (X : Compared) (G : Graph) (m r : ℕ) {o : Option ℕ} → first_of m (pair_fault X G) ≡ None → o ≡ pair_fault X G m
-    → missing o ≡ true → ((i : ℕ) → m < i → i < r → mark G i ≡ 0) → first_of r (pair_fault X G) ≡ None
-passed_over X G m r {o} e h t a = none_everywhere (pair_fault X G) r (λ i l. go i l (dec_lt i m) (ℕ_discrete i m))
+pub passed_over : (X : Compared) (G : Graph) (m r : ℕ) → first_of m (pair_fault X G) ≡ None → pair_fault X G m ≡ None
+    → ((i : ℕ) → m < i → i < r → mark G i ≡ 0) → first_of r (pair_fault X G) ≡ None
+passed_over X G m r e h a = none_everywhere (pair_fault X G) r (λ i l. go i l (dec_lt i m) (ℕ_discrete i m))
   where
     go : (i : ℕ) → i < r → Dec (i < m) → Dec (i ≡ m) → pair_fault X G i ≡ None
     go i l (yes u) d = none_of (pair_fault X G) m i e u
-    go i l (no n) (yes q) = rw q (sym h ∙ missing-none o t)
+    go i l (no n) (yes q) = rw q h
     go i l (no n) (no d) = sym (absent X G i (a i (omega arith) l))

@@ -8,15 +8,8 @@ use Rattle.chart.specs.Compared.{Compared, heads_of}
 use Rattle.chart.specs.Charts.{can_be_taken, leaving}
 use Rattle.chart.specs.Faults.{judged}
 use Rattle.chart.specs.Places.{new_of}
-use Rattle.checker.specs.declared.answers.Checked.{Checked}
-use Rattle.checker.specs.declared.answers.Checked.TheVariants.{Passed, Refused}
 use Rattle.records.specs.Records.{Graph, Record, mark, index}
 use Rattle.checker.specs.Rules.{shaped, start_fits, row_fits}
-
--- what the code's answer says, "for each of the enum's cases"
-abbrev pub told : Checked → Option Refusal
-told Passed = None
-told (Refused r) = Some r
 
 -- "marks (4,160 bytes), targets (8,192 u16, [..]), sets (4,096 u64, [..])": the stated lengths of a record
 abbrev pub sized : Graph → Test

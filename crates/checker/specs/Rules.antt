@@ -72,7 +72,8 @@ joins_step marks sets q t (Some h) = bool (joins marks sets q t h)
 -- "For each present pair at the old alarm, and each of its rows q→q2, the target is 65535, or kept q2, marked 2, or a
 -- present pair with new place q2."
 unfoldable pub rests_at : List ℕ → NewPlace → ℕ → Test
-rests_at marks q t = eq t 65535 or keeps marks q t or below t 4096 and eq (new_of t).0 q.0 and ne (slice_index marks t) 0
+rests_at marks q t =
+    eq t 65535 or keeps marks q t or below t 4096 and eq (new_of t).0 q.0 and ne (slice_index marks t) 0
 
 -- "Of these targets, 65535 excepted, those from mark 1 have mark 1, 2 or 3; those from 3 or 4 have 3 or 4."
 unfoldable pub ranked : List ℕ → ℕ → ℕ → Test

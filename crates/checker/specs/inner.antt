@@ -1,3 +1,3 @@
 -- What contracts of inner functions cite.
-pub mod Admitted
+pub mod Examinations
 pub mod Packed

@@ -2,5 +2,6 @@
 // entry point stands here.
 pub mod lengths; // lengths.rt: the lengths of a record
 pub mod shape; // shape.rt: what every record of two charts is like
+pub mod examined; // examined.rt: what the rules are judged upon
 pub mod targets; // targets.rt: the rules for one target
 pub mod rules; // rules.rt: all rules, in order

@@ -3,32 +3,23 @@
 // right.
 #![tactic(auto)]
 
-ghost use Rattle.std.specs.Prelude.{◌≡◌, None, Some};
-ghost use Rattle.base.specs.Refusals.{sole};
-ghost use Rattle.base.specs.Says.{Says};
+ghost use Rattle.std.specs.Prelude.{◌≡◌, IsOk};
+ghost use Rattle.std.specs.Result.{result_err};
 ghost use Rattle.chart.specs.Compared.{compared};
 ghost use Rattle.chart.specs.Faultless.{FaultlessChart};
-ghost use Rattle.records.specs.Records.{graph_of, record_of};
-ghost use Rattle.checker.specs.Checks.{told, sized, record_fault, refusal};
+ghost use Rattle.records.specs.Records.{record_of};
+ghost use Rattle.checker.specs.Checks.{record_fault, refusal};
 ghost use Rattle.checker.specs.Promise.{Promise};
 
-use answers::Checked;
-use base::{Found, sole};
-use chart::charts::{Heads, Judged};
-use chart::inner::rows;
+use base::{Reason, Refusal, sole};
+use chart::charts::Heads;
+use chart::inner::comparison::Comparison;
+use inner::examined::Examined;
 use inner::lengths::sized;
-use inner::rules::broken;
 use inner::shape::shaped;
+use records::{Marks, Sets, Targets};
 
-pub mod answers; // answers.rt: what the check answers
 pub mod inner; // inner.rt: for the crates above
-
-// The refusal with this number and position, of no chart that could be named.
-fn refused(number: u32, position: usize) -> Checked
-    ensures { told result ≡ Some (sole number position) }
-{
-    Checked::Refused(sole(number, position))
-}
 
 // The record's shape before its rules.
 fn record_fault<'a>(
@@ -36,26 +27,29 @@ fn record_fault<'a>(
     old_rows: &'a [u32],
     new_rows: &'a [u32],
     start: u32,
-    marks: &[u8],
-    targets: &[u16],
-    sets: &[u64],
-) -> Checked
-    requires faultless_chart { FaultlessChart (compared heads old_rows.now new_rows.now).old }
-    requires faultless_chart_2 { FaultlessChart (compared heads old_rows.now new_rows.now).new }
-    requires says { Says (sized (graph_of marks.now targets.now sets.now)) }
-    ensures { told result
+    marks: &'a Marks,
+    targets: &'a Targets,
+    sets: &'a Sets,
+) -> Result<(), Refusal>
+    requires old_faultless { FaultlessChart (compared heads old_rows.now new_rows.now).old }
+    requires new_faultless { FaultlessChart (compared heads old_rows.now new_rows.now).new }
+    ensures { result_err result
         ≡ record_fault (compared heads old_rows.now new_rows.now)
         (record_of start marks.now targets.now sets.now) }
 {
     if !shaped(heads, start, marks, targets) {
-        return refused(31, 0);
+        return Err(sole(Reason::Misshapen, 0));
     }
-    let index = rows::index(old_rows, new_rows);
-    match broken(
-        heads, old_rows, new_rows, &index, start, marks, targets, sets,
-    ) {
-        Found::At(position) => refused(32, position),
-        Found::Nothing => Checked::Passed,
+    let charts = Comparison::new(heads, old_rows, new_rows);
+    let examined = Examined {
+        charts,
+        marks,
+        targets,
+        sets,
+    };
+    match examined.broken(start) {
+        Some(position) => Err(sole(Reason::BrokenRule, position)),
+        None => Ok(()),
     }
 }
 
@@ -69,18 +63,18 @@ pub fn check<'a>(
     marks: &[u8],
     targets: &[u16],
     sets: &[u64],
-) -> Checked
-    ensures is { told result
+) -> Result<(), Refusal>
+    ensures is { result_err result
         ≡ refusal (compared heads old_rows.now new_rows.now)
         (record_of start marks.now targets.now sets.now) }
-    ensures promise { told result ≡ None
+    ensures promise { IsOk result
         → Promise (compared heads old_rows.now new_rows.now)
         (record_of start marks.now targets.now sets.now) }
 {
-    match chart::judged(sized(marks, targets, sets), heads, old_rows, new_rows) {
-        Judged::Refused(r) => Checked::Refused(r),
-        Judged::Faultless => {
-            record_fault(heads, old_rows, new_rows, start, marks, targets, sets)
-        }
-    }
+    chart::judged(sized(marks, targets, sets), heads, old_rows, new_rows)?;
+    // The lengths are the stated ones.
+    let marks: &Marks = marks.as_array().unwrap();
+    let targets: &Targets = targets.as_array().unwrap();
+    let sets: &Sets = sets.as_array().unwrap();
+    record_fault(heads, old_rows, new_rows, start, marks, targets, sets)
 }

@@ -1,20 +1,64 @@
 -- `checker::check` meets its contract: the charts, then the record, and the promise of what passes. Assumes nothing.
-use Rattle.std.proofs.Common.{ap, arith}
+use Rattle.std.specs.Prelude.{Some}
+use Rattle.std.specs.Result.{result_err}
+use Rattle.std.proofs.Common.{ap, ◌∙◌, arith}
+use Rattle.std.proofs.lemmas.Result.{err_from_is_err_and}
 use Rattle.chart.specs.Compared.{compared}
-use Rattle.chart.specs.Faults.{told as chart_told}
 use Rattle.records.specs.Records.{record_of}
 use Rattle.checker.proofs.Answering.{charts_refused, accepted, record_judged, promised}
 use Rattle.checker.proofs.check.Goals as goal
 
+pub returns-in_err-judged : goal.returns-in_err-judged
+returns-in_err-judged c =
+    let a = c.args in
+    let X = compared a.heads a.old_rows.now a.new_rows.now in
+    let R = record_of a.start a.marks.now a.targets.now a.sets.now in
+    let p = err_from_is_err_and c.from_residual.result c.from_residual.ensures.1 in
+    let e = ap result_err p.1 ∙ ap Some p.2 ∙ charts_refused X R c.sized.ensures c.judged.ensures (ap result_err c.in_err-judged.was) in
+    record {
+      is = e;
+      promise = promised X R c.from_residual.result (record { small = λ k. omega (arith, c.type_inv.old_rows k) }) (record { small = λ k. omega (arith, c.type_inv.new_rows k) }) e;
+    }
+
+pub unwrap-marks-requires : goal.unwrap-marks-requires
+unwrap-marks-requires c =
+    let a = c.args in
+    let X = compared a.heads a.old_rows.now a.new_rows.now in
+    let R = record_of a.start a.marks.now a.targets.now a.sets.now in
+    let q = accepted X R c.sized.ensures c.judged.ensures (ap result_err c.in_ok-judged.was) in c.as_array.ensures.variant.1 q.2.0
+
+pub unwrap-targets-requires : goal.unwrap-targets-requires
+unwrap-targets-requires c =
+    let a = c.args in
+    let X = compared a.heads a.old_rows.now a.new_rows.now in
+    let R = record_of a.start a.marks.now a.targets.now a.sets.now in
+    let q = accepted X R c.sized.ensures c.judged.ensures (ap result_err c.in_ok-judged.was) in c.as_array-2.ensures.variant.1 q.2.1.0
+
+pub unwrap-sets-requires : goal.unwrap-sets-requires
+unwrap-sets-requires c =
+    let a = c.args in
+    let X = compared a.heads a.old_rows.now a.new_rows.now in
+    let R = record_of a.start a.marks.now a.targets.now a.sets.now in
+    let q = accepted X R c.sized.ensures c.judged.ensures (ap result_err c.in_ok-judged.was) in c.as_array-3.ensures.variant.1 q.2.1.1
+
 pub record_fault-requires : goal.record_fault-requires
-record_fault-requires c = let a = c.args in
-    let q = accepted (compared a.heads a.old_rows.now a.new_rows.now) (record_of a.start a.marks.now a.targets.now a.sets.now) c.sized.ensures c.judged.ensures (ap chart_told c.in-Faultless.is) in
-    record { faultless_chart = q.0; faultless_chart_2 = q.1; says = q.2 }
+record_fault-requires c =
+    let a = c.args in
+    let X = compared a.heads a.old_rows.now a.new_rows.now in
+    let R = record_of a.start a.marks.now a.targets.now a.sets.now in
+    let q = accepted X R c.sized.ensures c.judged.ensures (ap result_err c.in_ok-judged.was) in
+    record { old_faultless = q.0; new_faultless = q.1 }
 
-pub returns-in-Refused : goal.returns-in-Refused
-returns-in-Refused c = let p = promised _ (record_of _ _ _ _) (record { small = λ k. omega (arith, c.type_inv.old_rows k) }) (record { small = λ k. omega (arith, c.type_inv.new_rows k) })
-    (charts_refused _ (record_of _ _ _ _) c.sized.ensures c.judged.ensures (ap chart_told c.in-Refused.is)) in record { is = p.0; promise = p.1 }
-
-pub returns-in-Faultless : goal.returns-in-Faultless
-returns-in-Faultless c = let p = promised _ (record_of _ _ _ _) (record { small = λ k. omega (arith, c.type_inv.old_rows k) }) (record { small = λ k. omega (arith, c.type_inv.new_rows k) })
-    (record_judged _ (record_of _ _ _ _) c.sized.ensures c.judged.ensures (ap chart_told c.in-Faultless.is) c.record_fault.ensures) in record { is = p.0; promise = p.1 }
+pub returns : goal.returns
+returns c =
+    let a = c.args in
+    let X = compared a.heads a.old_rows.now a.new_rows.now in
+    let R = record_of a.start a.marks.now a.targets.now a.sets.now in
+    let m = rw c.unwrap-marks.ensures at c.as_array.ensures.cases in
+    let t = rw c.unwrap-targets.ensures at c.as_array-2.ensures.cases in
+    let s = rw c.unwrap-sets.ensures at c.as_array-3.ensures.cases in
+    let e = record_judged X R c.sized.ensures c.judged.ensures (ap result_err c.in_ok-judged.was) (rw (m.same, t.same, s.same) at c.record_fault.ensures) in
+    record {
+      is = e;
+      promise = promised X R c.record_fault.result (record { small = λ k. omega (arith, c.type_inv.old_rows k) }) (record { small = λ k. omega (arith, c.type_inv.new_rows k) }) e;
+    }

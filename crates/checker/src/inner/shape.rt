@@ -1,11 +1,12 @@
 // What every record of two charts is like: a start, marks and targets that can be (refusal 31).
-ghost use Rattle.std.specs.Prelude.{◌≡◌, ℕ, ◌+◌, ◌*◌, ◌<◌, ◌≤◌, ◌&&◌, length, nat_le, nat_lt, slice_index};
+ghost use Rattle.std.specs.Prelude.{◌≡◌, ℕ, ◌+◌, ◌*◌, ◌<◌, ◌≤◌, length, nat_le, nat_lt, slice_index};
 ghost use Rattle.base.specs.Says.{eq, ne, le, ◌and◌, ◌or◌, each, below, bool};
 ghost use Rattle.checker.specs.Rules.{start_named, mark_fits, marks_fit, target_fits, targets_fit, shaped};
 
 use chart::charts::Heads;
 use chart::inner::pairs::{start_kept, start_pair};
 use records::inner::marks::blank;
+use records::{Marks, Targets};
 
 // Whether the start is one of the two nodes that a record can start from.
 fn start_named(heads: Heads, start: u32) -> bool
@@ -16,16 +17,6 @@ fn start_named(heads: Heads, start: u32) -> bool
         return true;
     }
     n == start_kept(heads)
-}
-
-// The larger of two marks: at most k exactly where both are.
-fn larger_u8(a: u8, b: u8) -> u8
-    ensures { (k : ℕ) → nat_le result k ≡ nat_le a k && nat_le b k }
-{
-    if a < b {
-        return b;
-    }
-    a
 }
 
 // The mark, or 255 for the one that must not be.
@@ -40,24 +31,22 @@ fn rated(x: u8, never: u8) -> u8
 
 // The largest of n marks, 255 if one is `never`: at most k exactly where each is, and none is `never`. There is no
 // early end, so that many are taken at once.
-fn worst(marks: &[u8], from: usize, n: usize, never: u8) -> u8
-    requires { from + n ≤ length marks.now }
+fn worst(marks: &Marks, from: usize, n: usize, never: u8) -> u8
+    requires { from + n ≤ 4160 }
     ensures { (k : ℕ) → k < 255 → nat_le result k ≡ bool
         (each n (λ j. ne (slice_index marks.now (from + j)) never and le
         (slice_index marks.now (from + j)) k)) }
 {
-    let mut w = 0;
-    let mut j = 0;
-    while j < n {
-        w = larger_u8(w, rated(marks[from + j], never));
-        j += 1;
+    let mut w: u8 = 0;
+    for j in 0..n {
+        w = w.max(rated(marks[from + j], never));
     }
     w
 }
 
 // Of 64 marks, whether the first n are at most `most` and not `never`, and the others 0.
-fn line_fits(marks: &[u8], from: usize, n: usize, most: u8, never: u8) -> bool
-    requires { (from + 64 ≤ length marks.now) × (n ≤ 64) × (most < 255) × (0 < never) }
+fn line_fits(marks: &Marks, from: usize, n: usize, most: u8, never: u8) -> bool
+    requires { (from + 64 ≤ 4160) × (n ≤ 64) × (most < 255) × (0 < never) }
     ensures { result ≡ bool (each 64 (λ j. eq (slice_index marks.now (from + j)) 0 or below j n and ne
         (slice_index marks.now (from + j)) never and le (slice_index marks.now (from + j)) most)) }
 {
@@ -71,15 +60,12 @@ fn line_fits(marks: &[u8], from: usize, n: usize, most: u8, never: u8) -> bool
 fn shown(n: u32) -> usize
     ensures { (result ≤ 64) × ((j : ℕ) → j < 64 → nat_lt j result ≡ nat_lt j n) }
 {
-    if n < 64 {
-        return n as usize;
-    }
-    64
+    n.min(64) as usize
 }
 
 // Whether the 64 nodes at old place p have marks that can be: for pairs 1, 3 or 4, and for the kept nodes, p = 64, 2.
-fn place_fits(heads: Heads, marks: &[u8], p: usize) -> bool
-    requires { (p < 65) × (length marks.now ≡ 4160) }
+fn place_fits(heads: Heads, marks: &Marks, p: usize) -> bool
+    requires { p < 65 }
     ensures { result ≡ bool (each 64 (λ j. mark_fits heads (64 * p + j)
         (slice_index marks.now (64 * p + j)))) }
 {
@@ -94,53 +80,36 @@ fn place_fits(heads: Heads, marks: &[u8], p: usize) -> bool
     blank(marks, from, 64)
 }
 
-fn marks_fit(heads: Heads, marks: &[u8]) -> bool
-    requires { length marks.now ≡ 4160 }
+fn marks_fit(heads: Heads, marks: &Marks) -> bool
     ensures { result ≡ bool (marks_fit heads marks.now) }
 {
-    let mut p = 0;
-    while p < 65 {
+    for p in 0..65 {
         if !place_fits(heads, marks, p) {
             return false;
         }
-        p += 1;
     }
     true
-}
-
-// The larger of two numbers: at most k exactly where both are.
-fn larger_u16(a: u16, b: u16) -> u16
-    ensures { (k : ℕ) → nat_le result k ≡ nat_le a k && nat_le b k }
-{
-    if a < b {
-        return b;
-    }
-    a
 }
 
 // A number that is at most 4,160 exactly where the target fits: one more, 0 for 65535.
 fn wrapped(t: u16) -> u16
     ensures { nat_le result 4160 ≡ bool (target_fits t) }
 {
-    std::num::wrapping_add_u16(t, 1)
+    t.wrapping_add(1)
 }
 
 // By the largest of all, with no early end, so that many are taken at once.
-fn targets_fit(targets: &[u16]) -> bool
-    requires { length targets.now ≡ 8192 }
+fn targets_fit(targets: &Targets) -> bool
     ensures { result ≡ bool (targets_fit targets.now) }
 {
-    let mut w = 0;
-    let mut i = 0;
-    while i < 8192 {
-        w = larger_u16(w, wrapped(targets[i]));
-        i += 1;
+    let mut w: u16 = 0;
+    for i in 0..8192 {
+        w = w.max(wrapped(targets[i]));
     }
     w <= 4160
 }
 
-pub fn shaped(heads: Heads, start: u32, marks: &[u8], targets: &[u16]) -> bool
-    requires { (length marks.now ≡ 4160) × (length targets.now ≡ 8192) }
+pub fn shaped(heads: Heads, start: u32, marks: &Marks, targets: &Targets) -> bool
     ensures { result ≡ bool (shaped heads start marks.now targets.now) }
 {
     if !start_named(heads, start) {

@@ -6,9 +6,6 @@ use Rattle.checker.proofs.inner.rules.next_pair.Goals as goal
 pub loop-n-init : goal.loop-n-init
 loop-n-init c = (omega arith, omega arith, λ i u v. absurd (omega arith))
 
-pub gap-passed-requires : goal.gap-passed-requires
-gap-passed-requires c = (omega arith, omega arith)
-
 pub returns-then-passed-eq0 : goal.returns-then-passed-eq0
 returns-then-passed-eq0 c = (omega arith, omega arith, c.loop-n.invariant.2)
 

@@ -1,6 +1,7 @@
 -- `checker::inner::shape::shown` meets its contract. Assumes nothing.
-use Rattle.std.proofs.Common.{arith, rules, lt-ltb}
+use Rattle.std.proofs.Common.{◌∙◌, ap, ltb, arith}
+use Rattle.checker.proofs.Shapes.{smaller}
 use Rattle.checker.proofs.inner.shape.shown.Goals as goal
 
 pub returns : goal.returns
-returns c = (search rules, λ j l. rw (lt-ltb j 64 l, lt-ltb j c.args.n (omega arith)))
+returns c = (omega (arith, c.min.ensures), λ j l. ap (ltb j) c.min.ensures ∙ smaller c.args.n 64 j l)

@@ -4,4 +4,4 @@ use Rattle.std.proofs.Common.{rules}
 use Rattle.checker.proofs.inner.shape.wrapped.Goals as goal
 
 pub returns : goal.returns
-returns c = wrapped_fits c.args.t _ (search rules) c.wrapping_add_u16.ensures.value
+returns c = wrapped_fits c.args.t (search rules)

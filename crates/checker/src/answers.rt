@@ -1,8 +1,0 @@
-// What the check answers.
-use base::Refusal;
-
-#[derive(Clone, Copy)]
-pub enum Checked {
-    Passed,
-    Refused(Refusal),
-}
