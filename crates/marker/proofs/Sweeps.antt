@@ -1,99 +1,71 @@
 -- Passes that open pairs, word by word, in the form in which the code meets them. Assumes nothing.
-use mathlib.Core.Path.{◌≡◌, ◌∙◌}
+use mathlib.Core.Path.{◌≡◌, refl, sym, ◌∙◌}
+use mathlib.Core.Bool.{false}
 use mathlib.Core.List.{List}
-use Prim.Native.Nat.{ℕ, ◌+◌, ◌*◌, ◌-◌, ◌≤◌, ◌<◌}
+use mathlib.Core.Logic.{dite}
+use Prim.Native.Nat.{ℕ, zero, suc, ◌+◌, ◌*◌, ◌-◌, ◌%◌, ◌≤◌, ◌<◌}
 use native.Mathlib.Omega.{arith}
+use native.Mathlib.Decide.{ℕ_discrete}
+use borrow.Author.Tests.{ne_eqb}
 use lib.ListN.{length, get_or}
-use Rattle.sets.specs.Sets.{without}
-use Rattle.words.specs.inner.Words.{LowestFrom, HighestBefore}
-use Rattle.words.proofs.Rests.{Coming, coming_start, coming_next, coming_more, coming_end, Leaving, leaving-start, leaving-next, leaving-more, leaving_less, leaving_end, none_up, none_down}
-use Rattle.marker.specs.inner.Openings.{Tried, Swept}
+use Rattle.sets.specs.Sets.{bit, without}
+use Rattle.sets.proofs.Sets.{bit-none}
+use Rattle.words.specs.inner.Words.{Member}
+use Rattle.words.proofs.Words.{not_at}
+use Rattle.words.proofs.Rests.{same_else, ones, ones_most, ones_less}
+use Rattle.marker.specs.Marks.{opening}
+use Rattle.marker.specs.inner.Openings.{Opened, none_yet, Tried, Swept}
 use Rattle.marker.specs.inner.Seen.{HoldsBeyond}
-use Rattle.marker.proofs.Orders.{swept_none, swept_start, swept_one, swept_up, swept_down}
-use Rattle.marker.proofs.Seen.{none_past, beyond_opened}
+use Rattle.marker.proofs.Orders.{opened-long, opened_then, swept_none, swept_start, swept_up, swept_down}
+use Rattle.marker.proofs.Seen.{none_past}
 
--- ---- one word from the lowest bit up: the pairs of word p below bit `at` had their turn, and `word` is what is left of it. Whoever is beyond was
--- a member of w, the set as it was before
-pub record Upwards (t w : List ℕ) (p : ℕ) (x y : List ℕ) (n word : ℕ) : Type 0 where
-  pub at : ℕ
-  pub coming : Coming (get_or w p 0) word at
-  pub swept : Swept t x (64 * p) (64 * p + at) n y
-  pub held : HoldsBeyond w y
+-- ---- one word, in whatever order: the pairs of word p whose bits are no more in `word` had their turn. Whoever is beyond is a member of w
+pub record Trying (t w : List ℕ) (p : ℕ) (x y : List ℕ) (n word : ℕ) : Type 0 where
+  pub did : Opened t x n y
+  pub most : n + ones word ≤ 64
+  pub else_not : n ≡ 0 → (y ≡ x) × ((i : ℕ) → i < 64 → Member w (64 * p + i) → bit word i ≡ 0 → opening t x (64 * p + i) (get_or x (64 * p + i) 0) ≡ false)
 
 module _ (t w : List ℕ) (p : ℕ) where
-  pub upwards_start : {x : List ℕ} → HoldsBeyond w x → Upwards t w p x x 0 (get_or w p 0)
-  upwards_start {x} H =
-      let e : 64 * p + 0 ≡ 64 * p = omega arith in
-      record { at = 0; coming = coming_start (get_or w p 0); swept = rw e (swept_start t x (64 * p)); held = H }
+  pub trying_start : (x : List ℕ) → Trying t w p x x 0 (get_or w p 0)
+  trying_start x =
+      record {
+        did = none_yet;
+        most = omega (arith, ones_most (get_or w p 0));
+        else_not = λ e. (refl, λ i l m z. (let a : (64 * p + i) % 64 ≡ i = omega arith in absurd (not_at w p (64 * p + i) (omega arith) (rw a z) m)));
+      }
 
-  module _ {x y : List ℕ} {n word : ℕ} (U : Upwards t w p x y n word) (b : p < length w) where
-    -- up to the next bit none is beyond
-    up_past : {q : ℕ} → LowestFrom (get_or w p 0) U.at q → Swept t x (64 * p) (64 * p + q) n y
-    up_past {q} N =
-        let z : n + 0 ≡ n = omega arith in
-        rw z at (swept_up t U.swept none)
-      where
-        none : Swept t y (64 * p + U.at) (64 * p + q) 0 y
-        none =
-            swept_none t y (omega (arith, N.least))
-            (λ k c d e. let i : k ≡ 64 * p + (k - 64 * p) = omega arith in
-            none_up w p N (k - 64 * p) (omega arith) (omega arith) (rw i at (U.held.has k (omega (arith, N.most, U.held.most)) e)))
+  module _ {x y : List ℕ} {n word : ℕ} (S : Trying t w p x y n word) where
+    pub trying_more : {z : List ℕ} {q r rest : ℕ} → q < 64 → bit word q ≡ 1 → rest ≡ without word q → Tried t y (64 * p + q) r z → Trying t w p x z (n + r) rest
+    trying_more {q = q} l b e T =
+        rw e
+        (record {
+          did = opened_then t S.did T.did;
+          most = omega (arith, S.most, T.most, ones_less word q l b);
+          else_not = λ h.
+              (let u = S.else_not (omega arith) in
+              let v = T.else_not (omega arith) in (
+                v.0 ∙ u.0,
+                λ i c m f. dite (ℕ_discrete i q) (λ g. rw g (rw u.0 at v.1)) (λ g. u.1 i c m (sym (same_else word q l i c g) ∙ f)),
+              ));
+        })
 
-    pub upwards_more : {z : List ℕ} {q r rest : ℕ} → length x ≡ 4160 → LowestFrom word 0 q → q < 64 → rest ≡ without word q → Tried t y (64 * p + q) r z → Upwards t w p x z (n + r) rest
-    upwards_more {q = q} l L c e T =
-        let g : 64 * p + q + 1 ≡ 64 * p + (q + 1) = omega arith in
+    pub trying_end : word ≡ 0 → HoldsBeyond w x → p < length w → Swept t x (64 * p) (64 * p + 64) n y
+    unfolding opening
+    trying_end e H l =
         record {
-          at = q + 1;
-          coming = coming_more U.coming L c e;
-          swept = rw g at (swept_up t (up_past (coming_next U.coming L c)) (swept_one t T));
-          held = beyond_opened U.held (U.swept.long ∙ l) T.did;
+          did = S.did;
+          long = opened-long t S.did;
+          near = omega arith;
+          most = omega (arith, S.most);
+          else_not = λ h. (let u = S.else_not h in (u.0, λ k a b. go u.1 k (k - 64 * p) (omega arith) (omega arith)));
         }
-
-    pub upwards_end : word ≡ 0 → Swept t x (64 * p) (64 * p + 64) n y
-    upwards_end e = up_past (coming_end U.coming e)
-
--- ---- one word from the highest bit down: those from bit `at` on had their turn
-pub record Downwards (t w : List ℕ) (p : ℕ) (x y : List ℕ) (n word : ℕ) : Type 0 where
-  pub at : ℕ
-  pub leaving : Leaving (get_or w p 0) word at
-  pub swept : Swept t x (64 * p + at) (64 * p + 64) n y
-  pub held : HoldsBeyond w y
-
-module _ (t w : List ℕ) (p : ℕ) where
-  pub downwards_start : {x : List ℕ} → HoldsBeyond w x → Downwards t w p x x 0 (get_or w p 0)
-  downwards_start {x} H = record { at = 64; leaving = leaving-start (get_or w p 0); swept = swept_start t x (64 * p + 64); held = H }
-
-  module _ {x y : List ℕ} {n word : ℕ} (D : Downwards t w p x y n word) (b : p < length w) where
-    -- down to the next bit none is beyond
-    down_past : {q : ℕ} → HighestBefore (get_or w p 0) D.at q → Swept t x (64 * p + q) (64 * p + 64) n y
-    down_past {q} N =
-        let z : n + 0 ≡ n = omega arith in
-        rw z at (swept_down t D.swept none)
       where
-        none : Swept t y (64 * p + q) (64 * p + D.at) 0 y
-        none =
-            swept_none t y (omega (arith, N.most))
-            (λ k c d e. let i : k ≡ 64 * p + (k - 64 * p) = omega arith in
-            none_down w p N D.leaving.most (k - 64 * p) (omega arith) (omega arith)
-            (rw i at (D.held.has k (omega (arith, D.leaving.most, D.held.most)) e)))
-
-    module _ {q : ℕ} (f : word ≡ 0 → ⊥) (H : HighestBefore word 64 q) (some : 0 < word → 0 < q) where
-      pub downwards_less : {rest : ℕ} → rest ≡ without word (q - 1) → rest < word
-      downwards_less e = leaving_less D.leaving H (some (omega arith)) e
-
-      pub downwards_more : {z : List ℕ} {r rest : ℕ} → length x ≡ 4160 → rest ≡ without word (q - 1) → Tried t y (64 * p + (q - 1)) r z → Downwards t w p x z (n + r) rest
-      downwards_more l e T =
-          let c : 0 < q = some (omega arith) in
-          let g : 64 * p + q ≡ 64 * p + (q - 1) + 1 = omega arith in
-          record {
-            at = q - 1;
-            leaving = leaving-more D.leaving H c e;
-            swept = swept_down t (rw g at (down_past (leaving-next D.leaving H c))) (swept_one t T);
-            held = beyond_opened D.held (D.swept.long ∙ l) T.did;
-          }
-
-    pub downwards_end : word ≡ 0 → Swept t x (64 * p) (64 * p + 64) n y
-    downwards_end e = let z : 64 * p + 0 ≡ 64 * p = omega arith in rw z at (down_past (leaving_end D.leaving e))
+        go : ((i : ℕ) → i < 64 → Member w (64 * p + i) → bit word i ≡ 0 → opening t x (64 * p + i) (get_or x (64 * p + i) 0) ≡ false)
+            → (k i : ℕ) → i < 64 → k ≡ 64 * p + i → opening t x k (get_or x k 0) ≡ false
+        go u k i c f =
+            rw f
+            (dite (ℕ_discrete (get_or x (64 * p + i) 0) 4) (λ z. u i c (H.has (64 * p + i) (omega (arith, H.most)) z) (rw e (bit-none i)))
+            (λ z. rw (ne_eqb (get_or x (64 * p + i) 0) 4 z)))
 
 -- ---- all words
 module _ (t : List ℕ) where
@@ -101,18 +73,34 @@ module _ (t : List ℕ) where
   past : {w x : List ℕ} {p : ℕ} → HoldsBeyond w x → length w ≤ p → p ≤ 64 → Swept t x (64 * p) 4096 0 x
   past {w} {x} H l m = swept_none t x (omega arith) (λ k a b e. none_past w k (omega arith) (H.has k b e))
 
-  pub up_more : {w x y z : List ℕ} {p n r : ℕ} → HoldsBeyond w y → p < length w
-      → Swept t x 0 (64 * p) n y → Swept t y (64 * p) (64 * p + 64) r z → Swept t x 0 (64 * (p + 1)) (n + r) z
-  up_more {p = p} H l S R = let e : 64 * (p + 1) ≡ 64 * p + 64 = omega arith in rw e (swept_up t S R)
+  -- of c words k had their turn: the first, or the last
+  pub SweptTo : ℕ → ℕ → List ℕ → ℕ → ℕ → List ℕ → Type 0
+  SweptTo zero c x k n y = Swept t x 0 (64 * k) n y
+  SweptTo (suc d) c x k n y = Swept t x (64 * (c - k)) 4096 n y
 
-  pub up_end : {w x y : List ℕ} {p n : ℕ} → Swept t x 0 (64 * p) n y → HoldsBeyond w y → p ≤ length w → length w ≤ p → Swept t x 0 4096 n y
-  up_end {n = n} S H l m = let z : n + 0 ≡ n = omega arith in rw z at (swept_up t S (past H m (omega (arith, H.most))))
+  pub swept_to_start : (down : ℕ) {w x : List ℕ} → HoldsBeyond w x → SweptTo down (length w) x 0 0 x
+  unfolding SweptTo
+  swept_to_start zero {w} {x} H = swept_start t x 0
+  swept_to_start (suc d) {w} {x} H = past H (omega arith) (omega (arith, H.most))
 
-  pub down_start : {w x : List ℕ} → HoldsBeyond w x → Swept t x (64 * length w) 4096 0 x
-  down_start H = past H (omega arith) H.most
+  pub swept_to_more : (down : ℕ) {c k p : ℕ} (x : List ℕ) {y z : List ℕ} (n : ℕ) {r : ℕ} → k < c → (down ≡ 0 → p ≡ k) → ((down ≡ 0 → ⊥) → p ≡ c - 1 - k)
+      → SweptTo down c x k n y → Swept t y (64 * p) (64 * p + 64) r z → SweptTo down c x (k + 1) (n + r) z
+  unfolding SweptTo
+  swept_to_more zero {k = k} x n l u d S R =
+      let e : 64 * (k + 1) ≡ 64 * k + 64 = omega arith in rw e (swept_up t S (rw (u refl) at R))
+  swept_to_more (suc i) {c = c} {k = k} {p = p} x n l u d S R =
+      let a = d (λ h. omega arith) in
+      let e : 64 * p + 64 ≡ 64 * (c - k) = omega arith in
+      let f : 64 * (c - (k + 1)) ≡ 64 * p = omega arith in
+      rw f (swept_down t S (rw e at R))
 
-  pub down_more : {x y z : List ℕ} {p n r : ℕ} → 0 < p → Swept t x (64 * p) 4096 n y → Swept t y (64 * (p - 1)) (64 * (p - 1) + 64) r z → Swept t x (64 * (p - 1)) 4096 (n + r) z
-  down_more {p = p} l S R = let e : 64 * (p - 1) + 64 ≡ 64 * p = omega arith in swept_down t S (rw e at R)
+  pub swept_to_end : (down c k : ℕ) (x : List ℕ) (n : ℕ) {w y : List ℕ} → HoldsBeyond w y → length w ≡ c → k ≡ c → SweptTo down c x k n y → Swept t x 0 4096 n y
+  unfolding SweptTo
+  swept_to_end zero c k x n H g e S = let z : n + 0 ≡ n = omega arith in rw z at (swept_up t S (past H (omega arith) (omega (arith, H.most))))
+  swept_to_end (suc d) c k x n H g e S = let z : 64 * (c - k) ≡ 0 = omega arith in rw z at S
 
-  pub down_end : {x y : List ℕ} {p n : ℕ} → Swept t x (64 * p) 4096 n y → p ≤ 0 → Swept t x 0 4096 n y
-  down_end {p = p} S l = let e : 64 * p ≡ 0 = omega arith in rw e at S
+  -- no more than there are pairs
+  pub swept_to-most : (down c k : ℕ) (x y : List ℕ) {n : ℕ} → k ≤ 64 → SweptTo down c x k n y → n ≤ 4096
+  unfolding SweptTo
+  swept_to-most zero c k x y l S = omega (arith, S.most)
+  swept_to-most (suc d) c k x y l S = omega (arith, S.most)

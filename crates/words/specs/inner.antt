@@ -1,2 +1,3 @@
 -- What contracts of inner functions cite.
 pub mod Words
+pub mod Taken

@@ -14,8 +14,7 @@ ghost use Rattle.marker.specs.inner.Counts.{Counted};
 use crate::inner::openings::open_if;
 use crate::inner::spread::spread;
 use records::{Marks, Targets};
-use sets::inner::bits::without;
-use words::inner::members;
+use words::inner::members::{self, Bits, DOWNWARDS, UPWARDS};
 
 fn plain_mark(v: u8, x: u8) -> u8
     ensures { result ≡ plain_as v x }
@@ -63,76 +62,52 @@ fn open_out(marks: &mut Marks, targets: &Targets, rest: &mut [u64], i: usize) ->
     n
 }
 
-// Opens every pair of word p that is to be opened when its turn comes, from the highest down, and says how many that
-// were. It goes through those that are in rest when it begins: what is opened leaves rest, and none comes in.
-fn sweep_word_down(marks: &mut Marks, targets: &Targets, rest: &mut [u64], p: usize) -> usize
+// Opens every pair of word p that is to be opened when its turn comes, and says how many that were. It goes through
+// those that are in rest when it begins: what is opened leaves rest, and none comes in.
+fn sweep_word<const DOWN: bool>(
+    marks: &mut Marks,
+    targets: &Targets,
+    rest: &mut [u64],
+    p: usize,
+) -> usize
     requires { (p < length rest.old) × HoldsBeyond rest.old marks.old }
     ensures { Swept targets.now marks.old (64 * p) (64 * p + 64) result marks.new
         × HoldsBeyond rest.new marks.new }
 {
     let mut n = 0;
-    let mut word = rest[p];
-    while word != 0 {
-        let q = members::highest(word) - 1;
-        word = without(word, q as u32);
+    for q in Bits::<DOWN>(rest[p]) {
         n += open_out(marks, targets, rest, 64 * p + q);
     }
     n
 }
 
-// The same from the lowest up.
-fn sweep_word_up(marks: &mut Marks, targets: &Targets, rest: &mut [u64], p: usize) -> usize
-    requires { (p < length rest.old) × HoldsBeyond rest.old marks.old }
-    ensures { Swept targets.now marks.old (64 * p) (64 * p + 64) result marks.new
-        × HoldsBeyond rest.new marks.new }
-{
-    let mut n = 0;
-    let mut word = rest[p];
-    while word != 0 {
-        let q = members::lowest(word);
-        word = without(word, q as u32);
-        n += open_out(marks, targets, rest, 64 * p + q);
-    }
-    n
-}
-
-// Opens every pair that is to be opened when its turn comes, from the highest of rest down, and says how many that
-// were. Rows mostly lead to higher nodes, so that few such passes are needed.
-fn sweep_down(marks: &mut Marks, targets: &Targets, rest: &mut [u64]) -> usize
+// Opens every pair that is to be opened when its turn comes, from the highest of rest down or from the lowest up, and
+// says how many that were.
+fn sweep<const DOWN: bool>(marks: &mut Marks, targets: &Targets, rest: &mut [u64]) -> usize
     requires { HoldsBeyond rest.old marks.old }
     ensures { Swept targets.now marks.old 0 4096 result marks.new
         × HoldsBeyond rest.new marks.new }
 {
+    let words = rest.len();
     let mut n = 0;
-    for p in (0..rest.len()).rev() {
-        n += sweep_word_down(marks, targets, rest, p);
+    for k in 0..words {
+        let p = if DOWN { words - 1 - k } else { k };
+        n += sweep_word::<DOWN>(marks, targets, rest, p);
     }
     n
 }
 
-// The same from the lowest up, for chains that lead to lower nodes.
-fn sweep_up(marks: &mut Marks, targets: &Targets, rest: &mut [u64]) -> usize
-    requires { HoldsBeyond rest.old marks.old }
-    ensures { Swept targets.now marks.old 0 4096 result marks.new
-        × HoldsBeyond rest.new marks.new }
-{
-    let mut n = 0;
-    for p in 0..rest.len() {
-        n += sweep_word_up(marks, targets, rest, p);
-    }
-    n
-}
-
-// A pass down and, if it opens pairs, one up: 0, if the last of them opened none, which shows that none is left.
+// A pass down and, if it opens pairs, one up: 0, if the last of them opened none, which shows that none is left. Rows
+// mostly lead to higher nodes, so that few such passes are needed; that up is for chains that lead to lower nodes.
 fn sweep_both(marks: &mut Marks, targets: &Targets, rest: &mut [u64]) -> usize
     requires { HoldsBeyond rest.old marks.old }
     ensures { Passed targets.now marks.old result marks.new
         × HoldsBeyond rest.new marks.new }
 {
-    if sweep_down(marks, targets, rest) == 0 {
+    if sweep::<DOWNWARDS>(marks, targets, rest) == 0 {
         return 0;
     }
-    sweep_up(marks, targets, rest)
+    sweep::<UPWARDS>(marks, targets, rest)
 }
 
 // All pairs from which an open or kept node is a target. Where three passes each way still open pairs, they stand on
@@ -142,16 +117,10 @@ fn open_rest(marks: &mut Marks, targets: &Targets, rest: &mut [u64])
     requires { HoldsBeyond rest.old marks.old }
     ensures { marks.new ≡ all_opened targets.now marks.old }
 {
-    loop {
-        if sweep_both(marks, targets, rest) == 0 {
-            return;
-        }
-        if sweep_both(marks, targets, rest) == 0 {
-            return;
-        }
-        if sweep_both(marks, targets, rest) == 0 {
-            return;
-        }
+    while sweep_both(marks, targets, rest) != 0
+        && sweep_both(marks, targets, rest) != 0
+        && sweep_both(marks, targets, rest) != 0
+    {
         spread(marks, targets, &*rest);
     }
 }
@@ -211,10 +180,7 @@ fn cover_word(marks: &mut Marks, targets: &Targets, seen: &[u64], p: usize, so: 
 {
     let mut opened = so.opened;
     let mut covered = so.covered;
-    let mut word = seen[p];
-    while word != 0 {
-        let q = members::lowest(word);
-        word = without(word, q as u32);
+    for q in Bits::<UPWARDS>(seen[p]) {
         if marks[64 * p + q] == 1 {
             opened += 1;
             covered += cover_from(marks, targets, 64 * p + q);

@@ -8,8 +8,8 @@ ghost use Rattle.marker.specs.inner.Spreads.{Spread, led_to, led_from};
 
 use crate::inner::openings::open_if;
 use records::{Marks, Targets};
-use sets::inner::bits::{alone, joined, meets, with, without};
-use words::inner::members;
+use sets::inner::bits::{alone, joined, meets, with};
+use words::inner::members::{Bits, UPWARDS};
 
 // For each new place a set of new places.
 type Leads = [u64; 64];
@@ -42,10 +42,7 @@ fn lead_word(marks: &Marks, targets: &Targets, rest: &[u64], leads: &mut Leads, 
     ensures { leads.new ≡ each (led_from targets.now marks.now) (64 * p) 64
         leads.old }
 {
-    let mut word = rest[p];
-    while word != 0 {
-        let q = members::lowest(word);
-        word = without(word, q as u32);
+    for q in Bits::<UPWARDS>(rest[p]) {
         lead_from(marks, targets, leads, 64 * p + q);
     }
 }

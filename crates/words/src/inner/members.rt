@@ -1,6 +1,8 @@
 // The members of a set of pairs: pair n is bit n % 64 of word n / 64.
 ghost use Rattle.std.specs.Prelude.{◌≡◌, true, ◌↔◌, ◌+◌, ◌*◌, ◌/◌, ◌≤◌, ◌<◌, length};
+ghost use Rattle.std.specs.Iterator.{at_most};
 ghost use Rattle.words.specs.inner.Words.{Member, added, removed, gathered, listed, LowestFrom, HighestBefore};
+ghost use Rattle.words.specs.inner.Taken.{Taken};
 
 use crate::{PairList, Pairs};
 use sets::inner::bits::{alone, joined, meets, with, without};
@@ -62,4 +64,34 @@ pub fn highest(word: u64) -> usize
     ensures { HighestBefore word 64 result × (0 < word → 0 < result) }
 {
     64 - u64::leading_zeros(word) as usize
+}
+
+// The orders in which the bits of a word are gone through.
+pub const UPWARDS: bool = false;
+
+pub const DOWNWARDS: bool = true;
+
+// The bits of a word: from the highest down, or from the lowest up.
+#[derive(Drop)]
+pub struct Bits<const DOWN: bool>(pub u64);
+
+impl<const DOWN: bool> Iterator for Bits<DOWN> {
+    type Item = usize;
+
+    ghost next_gives = { λ s r t. Taken DOWN s.0 r t.0 };
+
+    ghost remaining = { λ s. at_most s.0 };
+
+    fn next(&mut self) -> Option<usize> {
+        if self.0 == 0 {
+            return None;
+        }
+        let q = if DOWN {
+            highest(self.0) - 1
+        } else {
+            lowest(self.0)
+        };
+        self.0 = without(self.0, q as u32);
+        Some(q)
+    }
 }

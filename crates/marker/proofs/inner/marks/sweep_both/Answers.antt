@@ -3,8 +3,8 @@ use Rattle.marker.proofs.Spreads.{passed_one, passed_two}
 use borrow.Author.Rules.{rules}
 use Rattle.marker.proofs.inner.marks.sweep_both.Goals as goal
 
-pub returns-then-sweep_down-eq0 : goal.returns-then-sweep_down-eq0
-returns-then-sweep_down-eq0 c = (search passed_one, search rules)
+pub returns-then-sweep-eq0 : goal.returns-then-sweep-eq0
+returns-then-sweep-eq0 c = (search passed_one, search rules)
 
 pub returns : goal.returns
 returns c = (search passed_two, search rules)

@@ -1,16 +1,16 @@
 -- `marker::inner::spread::lead_word` meets its contract. Assumes nothing.
-use Rattle.words.proofs.Rests.{coming_less}
+use mathlib.Core.Path.{refl}
 use Rattle.marker.proofs.Leads.{lead_start, lead_more, lead_end}
+use native.Mathlib.Omega.{arith}
 use Rattle.marker.proofs.inner.spread.lead_word.Goals as goal
 
-pub loop-word-init : goal.loop-word-init
-loop-word-init c = search lead_start
+pub loop-q-init : goal.loop-q-init
+loop-q-init c = rw c.into_iter-q-iterator.ensures.into_iter_gives (lead_start _ _ _ _ c.told-leads)
 
-pub loop-word-smaller : goal.loop-word-smaller
-loop-word-smaller c = search coming_less
-
-pub loop-word-preserved : goal.loop-word-preserved
-loop-word-preserved c = search lead_more
+pub loop-q-preserved : goal.loop-q-preserved
+loop-q-preserved c =
+    let S = c.in-Some.ensures.steps in
+    lead_more _ _ _ _ c.loop-q.invariant (omega arith) c.requires.0 (S.3 refl) S.0 S.2 c.lead_from.ensures
 
 pub returns : goal.returns
-returns c = search lead_end
+returns c = lead_end _ _ _ _ c.loop-q.invariant (omega arith) c.requires.0 c.in-None.ensures.steps.0
