@@ -87,7 +87,5 @@ pub fn build<'a>(
 {
     let lengths = lent(&*marks, &*targets, &*sets, &*waiting);
     chart::judged(lengths, heads, old_rows, new_rows)?;
-    Ok(complete(
-        heads, old_rows, new_rows, marks, targets, sets, waiting,
-    ))
+    Ok(complete(heads, old_rows, new_rows, marks, targets, sets, waiting))
 }
