@@ -201,12 +201,6 @@ pub fn index(old: &[u32], new: &[u32]) -> [u8; 130]
     entries
 }
 
-fn wide(x: u8) -> usize
-    ensures { result ≡ x }
-{
-    x as usize
-}
-
 // The rows between two neighbouring entries of an index.
 pub fn rows_at<'a>(rows: &'a [u32], index: &[u8; 130], at: usize) -> &'a [u32]
     requires { (at < 129) × (get_or index.now at 0 ≤ get_or index.now (at + 1) 0)
@@ -215,7 +209,7 @@ pub fn rows_at<'a>(rows: &'a [u32], index: &[u8; 130], at: usize) -> &'a [u32]
         ≡ take (get_or index.now (at + 1) 0 * 6 - get_or index.now at 0 * 6)
         (drop (get_or index.now at 0 * 6) rows.now) }
 {
-    part(rows, wide(index[at]), wide(index[at + 1]))
+    part(rows, usize::from(index[at]), usize::from(index[at + 1]))
 }
 
 // The rows that leave a place of either chart, by the index of both.
