@@ -7,10 +7,3 @@ pub struct OldPlace(pub u32);
 // A place of the new chart (L' in the source).
 #[derive(Clone, Copy, PartialEq, Eq)]
 pub struct NewPlace(pub u32);
-
-// A place of whichever chart is named.
-#[derive(Clone, Copy)]
-pub enum Place {
-    Old(OldPlace),
-    New(NewPlace),
-}
