@@ -5,28 +5,28 @@ ghost use Rattle.chart.specs.Compared.{sole_old, sole_new, both_heads};
 use crate::places::{NewPlace, OldPlace};
 
 // What a chart is beside its rows, whichever chart it is.
-#[derive(Clone, Copy)]
+#[derive(Clone, Copy, Debug, PartialEq, Eq)]
 pub struct Head {
     pub places: u32,
     pub alarm: u32,
 }
 
 // What the old chart is beside its rows: its alarm is one of its own places.
-#[derive(Clone, Copy)]
+#[derive(Clone, Copy, Debug, PartialEq, Eq)]
 pub struct OldHead {
     pub places: u32,
     pub alarm: OldPlace,
 }
 
 // What the new chart is beside its rows: its alarm is one of its own places.
-#[derive(Clone, Copy)]
+#[derive(Clone, Copy, Debug, PartialEq, Eq)]
 pub struct NewHead {
     pub places: u32,
     pub alarm: NewPlace,
 }
 
 // What is compared, beside the two tables, and by which edition of the detector: it is passed on whole.
-#[derive(Clone, Copy)]
+#[derive(Clone, Copy, Debug, PartialEq, Eq)]
 pub struct Heads {
     pub edition: u32,
     pub old: OldHead,
