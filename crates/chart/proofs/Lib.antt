@@ -11,5 +11,6 @@ pub mod Bounds
 pub mod Starts
 pub mod Words
 pub mod Found
+pub mod Told
 pub mod Takable
 pub mod Possible
