@@ -3,18 +3,16 @@ ghost use Rattle.std.specs.Prelude.{◌≡◌, ℕ, ◌+◌, ◌<◌, ◌≤◌,
 ghost use Rattle.base.specs.Options.{first_of};
 ghost use Rattle.base.specs.Says.{bool};
 ghost use Rattle.chart.specs.Compared.{heads_of};
-ghost use Rattle.chart.specs.Charts.{leaving};
-ghost use Rattle.chart.specs.Places.{new_of};
 ghost use Rattle.records.specs.Records.{Record};
 ghost use Rattle.checker.specs.Rules.{start_fits};
 ghost use Rattle.checker.specs.inner.Examinations.{charts_in, graph_in};
 ghost use Rattle.checker.specs.inner.Packed.{packed};
-ghost use Rattle.checker.specs.Checks.{target_fault, rows_fault, pair_fault, broken};
+ghost use Rattle.checker.specs.Checks.{pair_fault, broken};
 
 use crate::inner::examined::Examined;
+use crate::inner::present::Present;
 use align::inner::step::fair;
 use chart::inner::pairs::{new_of, old_of, start_kept, start_pair};
-use chart::inner::rows::can_be_taken;
 use records::Marks;
 use records::inner::marks::blank;
 
@@ -90,38 +88,6 @@ impl<'a> Examined<'a> {
         false
     }
 
-    // The rules for row k of the pair's new place, if there is such a row and it can be taken.
-    fn target_fault(&self, m: usize, rows: &[u32], k: usize) -> Option<usize>
-        requires { (m < 4096) × (rows.now ≡ leaving (charts_in self.now).new.table (new_of m).0) × (k < 2) }
-        ensures { result ≡ target_fault (charts_in self.now) (graph_in self.now) m rows.now k }
-    {
-        let n = rows.len() / 6;
-        if n <= k {
-            return None;
-        }
-        if self.row_fits(m, rows, k) {
-            return None;
-        }
-        // Asked last: of a record that was built it is asked only where a row never holds.
-        if !can_be_taken(rows, k) {
-            return None;
-        }
-        Some(2 * m + k)
-    }
-
-    // The rules for a pair's first and second row. One call in a loop, not two: the compiler then has it in place.
-    fn rows_fault(&self, m: usize, rows: &[u32]) -> Option<usize>
-        requires { (m < 4096) × (rows.now ≡ leaving (charts_in self.now).new.table (new_of m).0) }
-        ensures { result ≡ rows_fault (charts_in self.now) (graph_in self.now) m rows.now }
-    {
-        for k in 0..2 {
-            if let Some(at) = self.target_fault(m, rows, k) {
-                return Some(at);
-            }
-        }
-        None
-    }
-
     // The rules for a pair, if it is present.
     fn pair_fault(&self, m: usize) -> Option<usize>
         requires { m < 4096 }
@@ -130,7 +96,12 @@ impl<'a> Examined<'a> {
         if self.marks[m] == 0 {
             return None;
         }
-        self.rows_fault(m, self.charts.new_part(new_of(m)))
+        let present = Present {
+            examined: self,
+            m,
+            rows: self.charts.new_part(new_of(m)),
+        };
+        present.rows_fault()
     }
 
     // The lowest target index at fault.
