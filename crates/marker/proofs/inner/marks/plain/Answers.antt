@@ -1,12 +1,9 @@
 -- `marker::inner::marks::plain` meets its contract. Assumes nothing.
 use mathlib.Core.Path.{◌∙◌}
-use Rattle.marker.proofs.Ranking.{plain-start, plain_more, plain_past, plain_end}
+use Rattle.marker.proofs.Ranking.{plain_more, plain_past, plain_end}
 use native.Mathlib.Omega.{arith}
 use Rattle.marker.proofs.inner.marks.plain.Goals as goal
 use Rattle.marker.proofs.inner.marks.plain.Goals.{then-word-ne0, else-word-ne0}
-
-pub loop-p-init : goal.loop-p-init
-loop-p-init c = search plain-start
 
 pub loop-p-preserved : goal.loop-p-preserved
 loop-p-preserved c =

@@ -8,15 +8,6 @@ use Rattle.marker.proofs.inner.marks.sweep.Goals.{then-this-ne0, else-this-ne0}
 pub loop-k-init : goal.loop-k-init
 loop-k-init g c = (swept_to_start _ _ c.requires, search rules, search rules)
 
-pub sweep_word-n-requires : goal.sweep_word-n-requires
-sweep_word-n-requires g c = (
-  elim c.if-this-ne0.branch [
-    | then-this-ne0 w ↦ omega (arith, w.p-is, c.loop-k.invariant.2)
-    | else-this-ne0 w ↦ omega (arith, w.p-is, c.loop-k.invariant.2)
-  ],
-  c.loop-k.invariant.1,
-)
-
 pub overflow_add-n : goal.overflow_add-n
 overflow_add-n g c =
     record {
