@@ -31,9 +31,6 @@ pub record Clearing (of : ℕ → ℕ) (v : ℕ) (q : NewPlace) (d₀ d : List �
   pub after : (j : ℕ) → 64 * p ≤ of j → get_or d j 0 ≡ get_or d₀ j 0
 
 module _ (of : ℕ → ℕ) (v : ℕ) (q : NewPlace) {d₀ : List ℕ} where
-  clearing_none : Clearing of v q d₀ d₀ 0
-  clearing_none = record { long = refl; before = λ j l. absurd (omega arith); after = λ j l. refl }
-
   clearing_all : {d : List ℕ} → Clearing of v q d₀ d 64 → d ≡ pass (λ j x. gone q v (of j) x) 0 d₀
   clearing_all {d} C =
       pass-is (λ j x. gone q v (of j) x) d₀ d C.long
@@ -105,16 +102,6 @@ pub record Going (q : NewPlace) (g g' : Buffers) (p : ℕ) : Type 0 where
   pub targets : Clearing (λ j. j / 2) 65535 q g.targets g'.targets p
   pub sets : Clearing (λ j. j) 0 q g.sets g'.sets p
   pub waiting : Clearing (λ j. j) 0 q g.waiting g'.waiting p
-
-pub going_none : (q : NewPlace) (g : Buffers) → Going q g g 0
-going_none q g =
-    record {
-      most = omega arith;
-      marks = clearing_none (λ j. j) 0 q;
-      targets = clearing_none (λ j. j / 2) 65535 q;
-      sets = clearing_none (λ j. j) 0 q;
-      waiting = clearing_none (λ j. j) 0 q;
-    }
 
 module _ {q : NewPlace} {g g' : Buffers} {p : ℕ} (G : Going q g g' p) where
   pub going_sized : Sized g → Sized g'

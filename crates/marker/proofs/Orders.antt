@@ -140,17 +140,6 @@ module _ (t : List ℕ) where
   pub swept_start : (x : List ℕ) (e : ℕ) → Swept t x e e 0 x
   swept_start x e = swept_none x (omega arith) (λ k a b. absurd (omega arith))
 
-  -- one pair alone
-  pub swept_one : {x y : List ℕ} {i r : ℕ} → Tried t x i r y → Swept t x i (i + 1) r y
-  swept_one {i = i} T =
-      record {
-        did = T.did;
-        long = opened-long t T.did;
-        near = omega arith;
-        most = omega (arith, T.most);
-        else_not = λ z. ((T.else_not z).0, λ k a b. (let e : k ≡ i = omega arith in rw e (T.else_not z).1));
-      }
-
   -- two spans, whichever is the higher
   swept_both : {x y z : List ℕ} {a b c d n r : ℕ} (i e : ℕ) → Swept t x a b n y → Swept t y c d r z → i ≤ e → b - a + (d - c) ≤ e - i
       → ((k : ℕ) → i ≤ k → k < e → ((a ≤ k) × (k < b)) ⊎ ((c ≤ k) × (k < d))) → Swept t x i e (n + r) z

@@ -11,7 +11,7 @@ use lib.Dec.{eqb}
 use lib.ListN.{length, get_or, set, drop, drop_of_length-le, get_or-eq_default}
 use Rattle.base.specs.Walks.{count}
 use Rattle.base.proofs.Counts.{count_gap, count_none}
-use Rattle.base.proofs.Stores.{Passing, passing_none, passing_all, passing_gap}
+use Rattle.base.proofs.Stores.{Passing, passing_all, passing_gap}
 use Rattle.records.specs.Records.{index}
 use Rattle.marker.specs.declared.inner.marks.Counts.{Counts}
 use Rattle.marker.specs.inner.Spans.{remade}
@@ -54,9 +54,6 @@ pub record Plain (m₀ m : List ℕ) (p : ℕ) : Type 0 where
   pub most : p ≤ 64
   pub long : length m ≡ 4160
   pub done : Passing plain_mark m₀ m (64 * p)
-
-pub plain-start : {m : List ℕ} → length m ≡ 4160 → Plain m m 0
-plain-start {m} l = record { most = omega arith; long = l; done = passing_none plain_mark m }
 
 module _ {m₀ m : List ℕ} {p : ℕ} (P : Plain m₀ m p) where
   on : {m₁ : List ℕ} → p < 64 → Passing plain_mark m₀ m₁ (64 * p + 64) → Plain m₀ m₁ (p + 1)

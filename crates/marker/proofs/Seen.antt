@@ -35,9 +35,6 @@ module _ {w x : List ℕ} (H : Holds w x) where
   pub unmarked_past : (k : ℕ) → 64 * length w ≤ k → k < 4096 → get_or x k 0 ≡ 0
   unmarked_past k a b = dite (ℕ_discrete (get_or x k 0) 0) (λ f. f) (λ f. absurd (none_past w k a (H.has k b (omega arith))))
 
-  pub holds_copied : {v : List ℕ} → v ≡ w → HoldsBeyond v x
-  holds_copied e = rw e (record { most = H.most; has = λ n b p. H.has n b (omega arith) })
-
   -- the start pair, which becomes open, is a member
   pub holds_started : {y z : List ℕ} {n : ℕ} → length x ≡ 4160 → n < 4096 → Member w n → y ≡ plain_marks x → z ≡ set y n 1 → Holds w z
   holds_started {n = n} l b s f g =
@@ -57,9 +54,6 @@ module _ {w x : List ℕ} (H : HoldsBeyond w x) where
   beyond_opened {t} l o = record { most = H.most; has = λ k b p. H.has k b (⊎_elim (λ s. sym s ∙ p) (λ s. s.0) (opened_at t l o k)) }
 
   module _ {t y : List ℕ} {i r : ℕ} (T : Tried t x i r y) where
-    pub beyond_same : r ≡ 0 → HoldsBeyond w y
-    beyond_same e = rw (T.else_not e).0 H
-
     pub beyond_out : {v : List ℕ} → i < 64 * length w → (r ≡ 0 → ⊥) → v ≡ removed w i → length x ≡ 4160 → HoldsBeyond v y
     beyond_out b h e l =
         rw (e, T.here h)

@@ -36,9 +36,6 @@ module _ (t : List ℕ) where
     pub spread_zero : Spread t x 0 y
     spread_zero = record { count = S.count; did = S.did; long = S.long; some = λ h. absurd (h refl) }
 
-    pub spread-some : (r : ℕ) → (n ≡ 0 → ⊥) → Spread t x r y
-    spread-some r h = record { count = S.count; did = S.did; long = S.long; some = λ _. S.some h }
-
     pub spread_then : {z : List ℕ} {b r : ℕ} → Spread t y b z → r ≡ joined n b → Spread t x r z
     spread_then {b = b} {r = r} R q =
         record {

@@ -144,9 +144,6 @@ module _ {w : List ℕ} {all p : ℕ} (G : Gathering w all p) where
   unfolding gathered
   gathering_more l e = let z : suc p ≡ p + 1 = omega arith in record { most = omega arith; is = e ∙ ap (λ (n : ℕ). joined n (get_or w p 0)) G.is ∙ ap (gathered w) z }
 
-  pub gathering_all : length w ≤ p → all ≡ gathered w (length w)
-  gathering_all l = G.is ∙ ap (gathered w) (omega (arith, G.most))
-
 -- a member's is one
 pub gathered-has : (w : List ℕ) (n i : ℕ) → i / 64 < n → Member w i → bit (gathered w n) (i % 64) ≡ 1
 unfolding gathered
