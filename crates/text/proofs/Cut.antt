@@ -4,7 +4,7 @@ use Rattle.std.proofs.Common.{◌≡◌, ℕ, zero, suc, ◌+◌, ◌-◌, ◌%�
 use mathlib.Core.Logic.{dite}
 use native.Mathlib.Decide.{dec_lt}
 use borrow.Author.Tests.{lt-leb}
-use lib.Seq.{take-nil}
+use Rattle.std.proofs.lemmas.List.{drop-take}
 use Rattle.base.specs.Answers.{Answer}
 use Rattle.text.specs.declared.fields.Kind.{Kind}
 use Rattle.std.specs.Prelude.{Ok, Err}
@@ -12,12 +12,6 @@ use Rattle.text.specs.Fields.{Field, number, byte_at, digit_of, digits, kind, nu
 use Rattle.text.specs.Spans.{on_field, fields_at}
 use Rattle.text.proofs.Numbers.{missing-inside}
 use Rattle.text.proofs.Positions.{end, number-long, number-ends, followed-ends, field_ends, reach, item_ends, reach_one}
-
-drop-take : (n m : ℕ) (l : List ℕ) → drop n (take m l) ≡ take (m - n) (drop n l)
-drop-take zero m l = let z : m - 0 ≡ m = omega arith in rw z
-drop-take (suc n) zero l = let z : 0 - suc n ≡ 0 = omega arith in rw z
-drop-take (suc n) (suc m) [] = sym (take-nil (suc m - suc n))
-drop-take (suc n) (suc m) (x ∷ l) = let z : suc m - suc n ≡ m - n = omega arith in rw z (drop-take n m l)
 
 digits-take : (k : ℕ) (s : List ℕ) → digits (take k s) ≡ take k (digits s)
 unfolding digits
@@ -47,7 +41,9 @@ module _ (text : List ℕ) (m : ℕ) (long : m ≤ length text) where
   cut_number : (sort : Kind) (first : ℕ) → first + 11 ≤ m → number_at sort (take m text) first ≡ number_at sort text first
   unfolding number_at
   cut_number sort first h =
-      rw (drop-take first m text, digits-take (m - first) (drop first text)) (number-take sort first (m - first) (digits (drop first text)) (omega arith))
+      let z : first + (m - first) ≡ m = omega arith in
+      let d : drop first (take m text) ≡ take (m - first) (drop first text) = ap (λ (k : ℕ). drop first (take k text)) (sym z) ∙ drop-take first (m - first) text in
+      rw (d, digits-take (m - first) (drop first text)) (number-take sort first (m - first) (digits (drop first text)) (omega arith))
 
   cut_followed : (b : ℕ) (f : Field) → end f < m → followed b (take m text) f ≡ followed b text f
   unfolding followed

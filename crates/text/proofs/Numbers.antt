@@ -1,8 +1,10 @@
 -- Laws of bytes, digits, numbers and fields.
 -- Assumes nothing.
-use Rattle.std.proofs.Common.{◌≡◌, ℕ, zero, suc, ◌+◌, ◌-◌, ◌*◌, ◌%◌, ◌^◌, ◌<◌, ◌≤◌, Bool, true, false, not, ◌&&◌, eqb, leb, List, [], ◌∷◌, length, get_or, drop, sym, refl, ap, ◌∙◌, add-one, arith, drop_of_length-le, drop-cons, eq-eqb, ne_eqb, le-leb, leb-false, leb-true}
+use Rattle.std.proofs.Common.{◌≡◌, ℕ, zero, suc, ◌+◌, ◌-◌, ◌*◌, ◌%◌, ◌^◌, ◌<◌, ◌≤◌, Bool, true, false, not, eqb, leb, List, [], ◌∷◌, length, get_or, drop, sym, refl, ap, ◌∙◌, add-one, arith, drop_of_length-le, drop-cons, eq-eqb, ne_eqb, le-leb, leb-false, leb-true}
 use borrow.Author.Tests.{lt-leb, not-true, not-false}
 use lib.ListN.{get_or-eq_default}
+use Rattle.std.proofs.lemmas.List.{get_or_default}
+use Rattle.std.proofs.Math.Bool.{and-true}
 use Rattle.base.proofs.Tests.{and_false}
 use Rattle.text.specs.declared.causes.Unfit.{Unfit}
 use Rattle.base.specs.declared.Reason.{Reason}
@@ -20,24 +22,14 @@ use mathlib.Core.Logic.{dite}
 abbrev pub Refuses : Unfit → Reason → ℕ → Type 0
 Refuses u reason p = u ≡ record { reason = reason; offset = p }
 
--- what stands past the end counts only there
-pub get_d_here : (l : List ℕ) (i d e : ℕ) → i < length l → get_or l i d ≡ get_or l i e
-get_d_here [] i d e h = absurd (omega arith)
-get_d_here (x ∷ l) zero d e h = refl
-get_d_here (x ∷ l) (suc i) d e h = get_d_here l i d e (omega arith)
-
 module _ (text : List ℕ) (at : ℕ) where
   pub byte_here : at < length text → byte_at text at ≡ get_or text at 0
-  byte_here h = get_d_here text at 256 0 h
+  byte_here h = get_or_default text at 256 0 h
 
   pub byte_past : length text ≤ at → byte_at text at ≡ 256
   byte_past h = get_or-eq_default text 256 h
 
 -- ---- a digit
-
-and_true_right : (a : Bool) → a && true ≡ a
-and_true_right true = refl
-and_true_right false = refl
 
 pub digit_low : (b : ℕ) → b < 48 → digit_of b ≡ 10
 unfolding digit_of
@@ -123,20 +115,6 @@ ended-none sort first at x h = let z : at + 0 ≡ at = omega arith in rw (and_fa
 -- room for one digit more
 pub room_by : (x d : ℕ) (r : Bool) → r ≡ leb (x * 10 + d) 4294967295 → not r ≡ false → x * 10 + d ≤ 4294967295
 room_by x d r e f = leb-true (x * 10 + d) 4294967295 (sym e ∙ not-false r f)
-
--- below a tenth of the largest u32 there is room, at it for the digits up to 5, above it for none
-module _ (x d : ℕ) where
-  pub room-below : d ≤ 9 → x < 429496729 → true ≡ leb (x * 10 + d) 4294967295
-  room-below h l = sym (le-leb (x * 10 + d) 4294967295 (omega arith))
-
-  pub room-last : x ≡ 429496729 → leb d 5 ≡ leb (x * 10 + d) 4294967295
-  room-last e =
-      dite (dec_lt 5 d)
-      (λ l. lt-leb d 5 l ∙ sym (lt-leb (x * 10 + d) 4294967295 (omega arith)))
-      (λ n. le-leb d 5 (omega arith) ∙ sym (le-leb (x * 10 + d) 4294967295 (omega arith)))
-
-  pub room-above : 429496729 ≤ x → (x ≡ 429496729 → ⊥) → false ≡ leb (x * 10 + d) 4294967295
-  room-above l n = sym (lt-leb (x * 10 + d) 4294967295 (omega arith))
 
 -- the number has x up to an offset
 pub record Counting (sort : Kind) (text : List ℕ) (first x at : ℕ) : Type 0 where
@@ -304,7 +282,7 @@ module _ (k : ℕ) (text : List ℕ) (n : Number) (r : Field) where
 module _ (k : ℕ) (text : List ℕ) (at : ℕ) where
   pub missing_past : length text ≤ at → eqb (k % 6) 0 ≡ missing k text at
   unfolding missing
-  missing_past h = rw (le-leb _ _ h, missing, and_true_right (eqb (k % 6) 0))
+  missing_past h = rw (le-leb _ _ h, missing, and-true (eqb (k % 6) 0))
 
   pub missing-inside : at < length text → false ≡ missing k text at
   unfolding missing

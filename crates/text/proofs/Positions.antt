@@ -9,7 +9,7 @@ use Rattle.std.specs.Prelude.{Ok, Err}
 use Rattle.base.specs.declared.Reason.TheVariants as because
 use Rattle.text.specs.declared.fields.Kind.{Kind}
 use Rattle.text.specs.declared.fields.Kind.TheVariants.{Plain, Count, Spare}
-use Rattle.text.specs.Fields.{Field, number, unfit, byte_at, digits, value, more, kind, judged, bounded, ended, number_of, number_at, followed, field_at, line_end, closed, missing, item_at}
+use Rattle.text.specs.Fields.{Field, unfit, byte_at, digits, value, more, kind, judged, bounded, ended, number_of, number_at, followed, field_at, line_end, closed, missing, item_at}
 use Rattle.text.specs.Spans.{Span, fields_at}
 use Rattle.text.proofs.Cases.{by_test, by_field}
 use Rattle.text.proofs.Numbers.{missing-inside}

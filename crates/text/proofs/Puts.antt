@@ -50,9 +50,6 @@ module _ (before : List ℕ) (at x : ℕ) where
       → Put before at (decimal x) after r
   number_more middle p b after r h f e g = rw (decimal-more x h, ← e) (put_then f (put_byte middle p b after r g.0 g.1))
 
-  pub number_fits : (k : ℕ) → x ≤ 4294967295 → at + 10 ≤ k → at + length (decimal x) ≤ k
-  number_fits k h g = let l = decimal_ten x h in omega arith
-
 -- ---- a field is put
 
 closing-line : (k : ℕ) → k % 6 ≡ 5 → closing k ≡ 13 ∷ 10 ∷ []
@@ -95,26 +92,12 @@ module _ (before : List ℕ) (at k : ℕ) where
 
 -- ---- fields are put
 
-room-one : (k i : ℕ) → room k i + room (k + i) 1 ≡ room k (i + 1)
-room-one k i = omega arith
-
-room_most : (k i n : ℕ) → i ≤ n → room k i ≤ room k n
-room_most k i n h = let d : (k + i) / 6 ≤ (k + n) / 6 = omega arith in omega arith
-
-pub room_next : (at k p i n most : ℕ) → p ≤ at + room k i → i < n → at + room k n ≤ most → p + room (k + i) 1 ≤ most
-room_next at k p i n most h g w = omega (arith, room-one k i, room_most k (i + 1) n (omega arith))
-
 -- i of the numbers are put, and what is put of the others after them is put as it should
 pub record Putting (before : List ℕ) (at k : ℕ) (l after : List ℕ) (p i : ℕ) : Type 0 where
   pub rest : {last : List ℕ} {r : ℕ} → Put after p (fields_text (k + i) (drop i l)) last r → Put before at (fields_text k l) last r
   pub most : i ≤ length l
   pub short : p ≤ at + room k i
   pub long : length after ≡ length before
-
-pub putting_start : (before : List ℕ) (at k : ℕ) (l : List ℕ) → Putting before at k l before at 0
-putting_start before at k l =
-    let z : k + 0 ≡ k = omega arith in
-    record { rest = λ f. rw z at f; most = omega arith; short = omega arith; long = refl }
 
 module _ (before : List ℕ) (at k : ℕ) (l after : List ℕ) (p i : ℕ) (c : Putting before at k l after p i) where
   pub putting_more : (last : List ℕ) (r : ℕ) → i < length l → (Put after p (field_text (k + i) (get_or l i 0)) last r) × (r ≤ p + room (k + i) 1) → Putting before at k l last r (i + 1)

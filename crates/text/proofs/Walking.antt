@@ -1,7 +1,7 @@
 -- Laws of the walk over a text: its answers together are what the text spells, and what it leaves in its table are the
 -- rows.
 -- Assumes nothing.
-use Rattle.std.proofs.Common.{◌≡◌, ℕ, zero, suc, ◌*◌, ◌/◌, ◌%◌, ◌<◌, ◌≤◌, List, [], ◌∷◌, ◌++◌, length, take, sym, refl, ap, ◌∙◌, subst, append_assoc, append-nil, arith, drop_of_length-le, take_at, le-ltb, lt-ltb}
+use Rattle.std.proofs.Common.{◌≡◌, ℕ, zero, suc, ◌*◌, ◌/◌, ◌%◌, ◌<◌, ◌≤◌, List, [], ◌∷◌, ◌++◌, length, take, sym, refl, ap, ◌∙◌, subst, append_assoc, append-nil, arith, drop_of_length-le, take_at}
 use mathlib.Core.Logic.{dite}
 use native.Mathlib.Decide.{dec_lt}
 use Rattle.base.specs.declared.Reason.TheVariants.{NoBytes, WrongEnd}
@@ -14,11 +14,11 @@ use Rattle.base.specs.Refusals.{unless}
 use Rattle.base.proofs.Answers.{different}
 use Rattle.base.proofs.OnSome.{OnGiven}
 use Rattle.chart.specs.declared.charts.Head.{Head}
-use Rattle.chart.specs.Charts.{Chart, size, charted}
+use Rattle.chart.specs.Charts.{Chart, charted}
 use Rattle.chart.specs.Faults.{refusal}
 use Rattle.text.specs.declared.answers.Heading.{Heading}
 use Rattle.text.specs.declared.causes.Unfit.{Unfit}
-use Rattle.text.specs.Causes.{refusal_of, refused_for}
+use Rattle.text.specs.Causes.{refusal_of}
 use Rattle.text.specs.Fields.{Field, missing, item_at}
 use Rattle.text.specs.Spans.{Span, on_field, fields_at}
 use Rattle.text.specs.Texts.{whole, rows_at, parsed, read_text, read_into, filled, heading, head_in, count_in}
@@ -265,9 +265,6 @@ module _ (text rows spare : List ℕ) (h : Heading) (s : Spelt text h) (l : rows
 
   front_long : length (take (6 * h.rows) rows) ≡ 6 * h.rows
   front_long = rw front s.rows
-
-  pub front_fits : (table : List ℕ) → length table ≡ 768 → length (take (6 * h.rows) rows) ≤ length table
-  front_fits table sized = rw front (omega (arith, s.few))
 
 module _ (text table : List ℕ) (sized : length table ≡ 768) (a : Result Heading Unfit) (is : refusing a ≡ mapped heading (parsed text)) where
   pub read_unfit : (u : Unfit) → a ≡ Err u → ReadAs (read_into text table) (Err (refusal_of u)) table table

@@ -5,7 +5,7 @@ use Rattle.std.proofs.lemmas.Result.{err_from_is_err_and}
 use Rattle.base.proofs.Answers.{none-due, some-due}
 use Rattle.text.proofs.Told.{read_unsized}
 use Rattle.text.proofs.Filed.{read_said}
-use Rattle.text.proofs.Walking.{spelt, front_fits, read_unfit, read_faulty, read_chart}
+use Rattle.text.proofs.Walking.{spelt, read_unfit, read_faulty, read_chart}
 use Rattle.text.proofs.read.Goals as goal
 
 pub returns-then-table-ne768 : goal.returns-then-table-ne768
@@ -31,9 +31,6 @@ returns-in_err-judge c =
     let p = err_from_is_err_and c.from_residual-in_err-judge.result c.from_residual-in_err-judge.ensures.1 in
     let q = read_said _ _ _ _ (read_faulty _ _ c.if-table-ne768.false _ c.parse.ensures.0 _ _ _ c.in_ok-heading.was c.parse.ensures.1 _ (some-due c.judge.ensures c.in_err-judge.was)) in
     rw (p.1, p.2) (record { is = q.0; file = q.1 })
-
-pub copy-requires : goal.copy-requires
-copy-requires c = front_fits _ _ _ _ (spelt _ _ c.parse.ensures.0 _ c.in_ok-heading.was) c.parse.ensures.1 c.args.table.now c.if-table-ne768.false
 
 pub returns : goal.returns
 returns c =

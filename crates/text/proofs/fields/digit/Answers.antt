@@ -6,8 +6,5 @@ use Rattle.text.proofs.fields.digit.Goals as goal
 pub returns-then-text-at : goal.returns-then-text-at
 returns-then-text-at c = search digit_past
 
-pub overflow_cast-b : goal.overflow_cast-b
-overflow_cast-b c = omega (arith, c.type_inv.text c.args.at)
-
 pub returns : goal.returns
 returns c = search (digit_here, arith)

@@ -14,6 +14,3 @@ returns-in-3-to-5 c = kind_spare _ (omega arith) (omega arith)
 
 pub returns-in_default : goal.returns-in_default
 returns-in_default c = kind-low _ (omega arith)
-
-pub returns-in_default-2 : goal.returns-in_default-2
-returns-in_default-2 c = kind-high _ (omega arith)

@@ -1,7 +1,7 @@
 -- `text::fields::number_at` meets its contract: the loop keeps the value of the digits passed (`Counting`), which is
 -- not 0; the measure is what is left of the text. Assumes nothing.
-use Rattle.std.proofs.Common.{◌+◌, ◌*◌, ◌<◌, ◌≤◌, length, arith}
-use Rattle.text.proofs.Numbers.{number-none, number-start, number_stop, number_zero, number-above, number_more, inside_by, room_by}
+use Rattle.std.proofs.Common.{◌<◌, length, arith}
+use Rattle.text.proofs.Numbers.{number-none, number-start, number_stop, number_zero, number-above, number_more, inside_by}
 use Rattle.text.proofs.fields.number_at.Goals as goal
 
 pub returns-then-value-gt9 : goal.returns-then-value-gt9
@@ -24,15 +24,6 @@ returns-then-d-gt9 c = search (number_stop, c.loop-first.invariant.0)
 
 pub returns-then-not-has_room : goal.returns-then-not-has_room
 returns-then-not-has_room c = search (number-above, c.loop-first.invariant.0, c.loop-first.invariant.1)
-
-pub overflow_mul-value : goal.overflow_mul-value
-overflow_mul-value c = let h : c.loop-first.value * 10 + c.digit-d.result ≤ 4294967295 = search room_by in omega arith
-
-pub overflow_add-value : goal.overflow_add-value
-overflow_add-value c = let h : c.loop-first.value * 10 + c.digit-d.result ≤ 4294967295 = search room_by in omega arith
-
-pub overflow_add-next-in-loop-first : goal.overflow_add-next-in-loop-first
-overflow_add-next-in-loop-first c = let h : c.loop-first.next < length c.args.text.now = search inside_by in omega arith
 
 pub loop-first-smaller : goal.loop-first-smaller
 loop-first-smaller c = let h : c.loop-first.next < length c.args.text.now = search inside_by in omega arith

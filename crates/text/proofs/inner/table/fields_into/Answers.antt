@@ -1,12 +1,9 @@
 -- `text::inner::table::fields_into` meets its contract: reading the fields that are left gives what reading all gives
 -- (`Reading`). Assumes nothing.
-use Rattle.std.proofs.Common.{sym, ◌∙◌, refl}
+use Rattle.std.proofs.Common.{refl}
 use Rattle.std.proofs.lemmas.Result.{err_from_is_err_and}
-use Rattle.text.proofs.Tables.{reading_start, reading_stop, reading_more, reading_done}
+use Rattle.text.proofs.Tables.{reading_stop, reading_more, reading_done}
 use Rattle.text.proofs.inner.table.fields_into.Goals as goal
-
-pub loop-i-init : goal.loop-i-init
-loop-i-init c = search reading_start
 
 pub returns-in_err-number : goal.returns-in_err-number
 returns-in_err-number c =
