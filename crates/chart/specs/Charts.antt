@@ -3,7 +3,7 @@
 use Rattle.std.specs.Prelude.{Bool, cond, ◌&&◌, not, List, [], ◌++◌, ℕ, zero, suc, ◌+◌, ◌*◌, ◌/◌, eqb, ltb, length, get_or, take, drop}
 use Rattle.operations.specs.declared.Operation.{Operation}
 use Rattle.operations.specs.Trials.{never_holds}
-use Rattle.chart.specs.declared.charts.Head.{Head}
+use Rattle.chart.specs.Heads.{Head}
 
 -- "A chart is a count of places n, an alarm place, and rows of six u32 fields in a lent table": its head, places and
 -- alarm, as the code has it by value, and its table

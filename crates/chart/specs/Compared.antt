@@ -1,9 +1,7 @@
 -- What is compared, an old chart and a new one, and by which edition of the detector, as one value. It is handed on
 -- whole: what is compared, or what a head has, can gain a field without a change to those that only hand it on.
 use Rattle.std.specs.Prelude.{Bool, ◌||◌, List, ℕ, eqb}
-use Rattle.chart.specs.declared.charts.Head.{Head}
-use Rattle.chart.specs.declared.charts.OldHead.{OldHead}
-use Rattle.chart.specs.declared.charts.NewHead.{NewHead}
+use Rattle.chart.specs.Heads.{Head, OldHead, NewHead}
 use Rattle.chart.specs.declared.charts.Heads.{Heads}
 use Rattle.chart.specs.Charts.{Chart, charted}
 

@@ -7,7 +7,7 @@ use Rattle.base.specs.Refusals.{due_in, due}
 use Rattle.base.specs.Tests.{some_below}
 use Rattle.operations.specs.Operations.{is_known, is_assumption, operands_fit}
 use Rattle.operations.specs.Trials.{exclusive}
-use Rattle.chart.specs.declared.charts.Head.{Head}
+use Rattle.chart.specs.Heads.{Head}
 use Rattle.chart.specs.Charts.{Chart, size, from, to, operation}
 use Rattle.chart.specs.Compared.{Compared, edition_named}
 

@@ -4,26 +4,21 @@ ghost use Rattle.chart.specs.Compared.{sole_old, sole_new, both_heads};
 
 use crate::places::{NewPlace, OldPlace};
 
-// What a chart is beside its rows, whichever chart it is.
+// What a chart is beside its rows: its alarm is one of its places.
 #[derive(Clone, Copy, Debug, PartialEq, Eq)]
-pub struct Head {
+pub struct HeadOf<P> {
     pub places: u32,
-    pub alarm: u32,
+    pub alarm: P,
 }
 
-// What the old chart is beside its rows: its alarm is one of its own places.
-#[derive(Clone, Copy, Debug, PartialEq, Eq)]
-pub struct OldHead {
-    pub places: u32,
-    pub alarm: OldPlace,
-}
+// That of whichever chart it is.
+pub type Head = HeadOf<u32>;
 
-// What the new chart is beside its rows: its alarm is one of its own places.
-#[derive(Clone, Copy, Debug, PartialEq, Eq)]
-pub struct NewHead {
-    pub places: u32,
-    pub alarm: NewPlace,
-}
+// That of the old chart.
+pub type OldHead = HeadOf<OldPlace>;
+
+// That of the new chart.
+pub type NewHead = HeadOf<NewPlace>;
 
 // What is compared, beside the two tables, and by which edition of the detector: it is passed on whole.
 #[derive(Clone, Copy, Debug, PartialEq, Eq)]

@@ -9,7 +9,7 @@ use mathlib.Core.List.{List}
 use Rattle.std.specs.Prelude.{Option}
 use Prim.Native.Nat.{ℕ}
 use Rattle.base.specs.declared.Refusal.{Refusal}
-use Rattle.chart.specs.declared.charts.Head.{Head}
+use Rattle.chart.specs.Heads.{Head}
 use Rattle.chart.specs.Charts.{charted}
 use Rattle.chart.specs.Faults.{fault, judged}
 use Rattle.chart.proofs.judged.Goals as goal

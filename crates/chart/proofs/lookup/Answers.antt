@@ -6,7 +6,7 @@ use mathlib.Core.Logic.{◌≢◌}
 use Prim.Native.Nat.{ℕ}
 use native.Mathlib.Omega.{arith}
 use borrow.Author.Tests.{eq-eqb, ne_eqb}
-use Rattle.chart.specs.declared.charts.Head.{Head}
+use Rattle.chart.specs.Heads.{Head}
 use Rattle.chart.specs.Charts.{charted, leaving}
 use Rattle.chart.specs.Lookup.{open_to, lookup}
 use Rattle.chart.proofs.lookup.Goals as goal
