@@ -8,7 +8,7 @@ use Prim.Native.Nat.{ℕ, zero, suc}
 use Rattle.base.specs.Says.{bool}
 use Rattle.operations.specs.declared.Operation.{Operation}
 use Rattle.operations.specs.Operations.{is_assignment, same}
-use Rattle.chart.specs.declared.charts.Head.{Head}
+use Rattle.chart.specs.Heads.{Head}
 use Rattle.chart.specs.declared.places.NewPlace.{NewPlace}
 use Rattle.chart.specs.Charts.{Chart, charted}
 use Rattle.chart.specs.Compared.{Compared, both, is_second, heads_of}

@@ -10,7 +10,7 @@ use Rattle.base.specs.declared.Refusal.{Refusal}
 use Rattle.base.specs.Chains.{mapped}
 use Rattle.base.specs.inner.Fits.{FitsOr}
 use Rattle.base.proofs.Answers.{different}
-use Rattle.chart.specs.declared.charts.Head.{Head}
+use Rattle.chart.specs.Heads.{Head}
 use Rattle.chart.specs.Charts.{Chart, size}
 use Rattle.chart.specs.Faultless.{FaultlessChart}
 use Rattle.text.specs.declared.answers.Read.{Read}

@@ -35,7 +35,7 @@ use Rattle.picker.specs.Numbers.{chart_of, number, one, of_chart, of_text, zeros
 use Rattle.picker.specs.inner.Told.{told, Below, of_heading}
 use Rattle.picker.proofs.Numbers.{first, refused-high}
 use Rattle.chart.specs.Compared.{Compared, compared, both_heads, both}
-use Rattle.chart.specs.declared.charts.Head.{Head}
+use Rattle.chart.specs.Heads.{Head}
 use Rattle.chart.specs.declared.charts.Heads.{Heads}
 use Rattle.checker.specs.Promise.{Promise}
 

@@ -7,7 +7,7 @@ use Rattle.base.specs.Answers.{Answer}
 use Rattle.base.specs.Refusals.{sole, unless}
 use Rattle.base.proofs.Answers.{different}
 use Rattle.base.proofs.Tests.{T_true}
-use Rattle.chart.specs.declared.charts.Head.{Head}
+use Rattle.chart.specs.Heads.{Head}
 use Rattle.chart.specs.Charts.{Chart, size, charted}
 use Rattle.chart.specs.Faults.{refusal}
 use Rattle.chart.proofs.Faultless.{faultless}

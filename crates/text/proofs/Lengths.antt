@@ -6,7 +6,7 @@ use native.Mathlib.Decide.{dec_lt}
 use Rattle.std.specs.Prelude.{None, Ok, Err}
 use Rattle.base.specs.Answers.{Answer}
 use Rattle.base.specs.Chains.{and_then}
-use Rattle.chart.specs.declared.charts.Head.{Head}
+use Rattle.chart.specs.Heads.{Head}
 use Rattle.chart.specs.Charts.{Chart, charted}
 use Rattle.chart.specs.Faults.{refusal}
 use Rattle.chart.proofs.Faultless.{faultless}

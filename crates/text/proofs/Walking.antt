@@ -13,7 +13,7 @@ use Rattle.base.specs.Chains.{and_then, mapped}
 use Rattle.base.specs.Refusals.{unless}
 use Rattle.base.proofs.Answers.{different}
 use Rattle.base.proofs.OnSome.{OnGiven}
-use Rattle.chart.specs.declared.charts.Head.{Head}
+use Rattle.chart.specs.Heads.{Head}
 use Rattle.chart.specs.Charts.{Chart, charted}
 use Rattle.chart.specs.Faults.{refusal}
 use Rattle.text.specs.declared.answers.Heading.{Heading}

@@ -4,7 +4,7 @@ use Rattle.base.specs.declared.Reason.TheVariants.{NoBytes, WrongEnd}
 use Rattle.base.specs.Answers.{Answer}
 use Rattle.base.specs.Chains.{and_then}
 use Rattle.base.specs.Refusals.{sole, unless}
-use Rattle.chart.specs.declared.charts.Head.{Head}
+use Rattle.chart.specs.Heads.{Head}
 use Rattle.chart.specs.Charts.{Chart, charted, size}
 use Rattle.chart.specs.Faults.{fault}
 use Rattle.text.specs.declared.answers.Heading.{Heading}
