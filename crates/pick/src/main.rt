@@ -2,15 +2,15 @@
 // writes; what it prints is made by the crate report, in portions that together are `printed` of that crate's specs.
 #![tactic(auto)]
 
-ghost use Rattle.std.specs.Prelude.{◌^◌, ◌<◌};
+ghost use Rattle.std.specs.Prelude.{◌≡◌, ◌^◌, ◌<◌};
 ghost use Rattle.io.specs.Counts.{IsPrefixLen};
 ghost use Rattle.text.specs.Texts.{read_into};
 ghost use Rattle.builder.specs.inner.Small.{Small};
+ghost use Rattle.report.specs.Printed.{in_new};
 ghost use Rattle.pick.specs.Both.{BothAs};
 ghost use Rattle.pick.specs.inner.Small.{Few};
 
 use base::Refusal;
-use builder::answers::Built;
 use builder::build;
 use chart::charts::{Heads, both_heads};
 use condition::Summary;
@@ -18,14 +18,14 @@ use std::fs::File;
 use std::io;
 use std::io::{Print, Write};
 use std::rt::Files;
-use text::answers::Read;
 
-// What reading the texts of both files answers.
+// What is read of both files: the heads, and the row counts of the old and of the new chart. The rows stand at the front
+// of the tables.
 #[derive(Clone, Copy)]
-pub enum Both {
-    // Both heads, and the row counts of the old and of the new chart; the rows stand at the front of the tables.
-    Charts(Heads, usize, usize),
-    Refused(Refusal),
+pub struct Both {
+    pub heads: Heads,
+    pub old_rows: usize,
+    pub new_rows: usize,
 }
 
 // Reads to the end of the file, or as much as the text holds, and answers the count of bytes: none where a read fails.
@@ -54,29 +54,37 @@ fn load<R: Files>(rt: &R, path: &str, text: &mut [u8]) -> usize
     }
 }
 
+// A refusal of new.csv: the reader tells it of the sole chart.
+fn in_new(r: Refusal) -> Refusal
+    ensures { result ≡ in_new r }
+{
+    Refusal { chart: 1, ..r }
+}
+
 // The charts of two texts, the old one first: their rows go to the front of the tables, which have 768 entries each. A
 // refusal leaves the table of the chart that is refused as it was, and ends the program. The program names edition 1.
-fn read_both(old_text: &[u8], new_text: &[u8], old: &mut [u32], new: &mut [u32]) -> Both
+fn read_both(
+    old_text: &[u8],
+    new_text: &[u8],
+    old: &mut [u32],
+    new: &mut [u32],
+) -> Result<Both, Refusal>
     ensures is { BothAs (read_into old_text.now old.old)
         (read_into new_text.now new.old) result
         old.old old.new new.old new.new }
     ensures few { Few result }
 {
-    match text::read(old_text, old) {
-        Read::Refused(r) => Both::Refused(r),
-        Read::Chart(head, rows) => match text::read(new_text, new) {
-            Read::Refused(r) => Both::Refused(Refusal {
-                number: r.number,
-                chart: 1,
-                position: r.position,
-            }),
-            Read::Chart(other, more) => Both::Charts(both_heads(1, head, other), rows, more),
-        },
-    }
+    let one = text::read(old_text, old)?;
+    let other = text::read(new_text, new).map_err(in_new)?;
+    Ok(Both {
+        heads: both_heads(1, one.head, other.head),
+        old_rows: one.rows,
+        new_rows: other.rows,
+    })
 }
 
 // Both charts. At most 16,384 bytes of a file are read: more do not change what is printed.
-fn charts<R: Files>(rt: &R, old: &mut [u32], new: &mut [u32]) -> Both
+fn charts<R: Files>(rt: &R, old: &mut [u32], new: &mut [u32]) -> Result<Both, Refusal>
     ensures { Few result }
 {
     let mut old_text = [0u8; 16384];
@@ -153,8 +161,8 @@ fn show<P: Print>(rt: &P, heads: Heads, old_rows: &[u32], new_rows: &[u32]) {
         &mut sets,
         &mut waiting,
     ) {
-        Built::Refused(r) => refuse(rt, r),
-        Built::Done(s) => {
+        Err(r) => refuse(rt, r),
+        Ok(s) => {
             if head(rt, s) {
                 transitions(rt, new_rows, &marks, &targets);
             }
@@ -166,11 +174,11 @@ fn main(rt: HostRuntime) {
     let mut old = [0u32; 768];
     let mut new = [0u32; 768];
     match charts(&rt, &mut old, &mut new) {
-        Both::Refused(r) => refuse(&rt, r),
-        Both::Charts(heads, rows, more) => {
-            let m = 6 * rows;
-            let n = 6 * more;
-            show(&rt, heads, &old[..m], &new[..n]);
+        Err(r) => refuse(&rt, r),
+        Ok(both) => {
+            let m = 6 * both.old_rows;
+            let n = 6 * both.new_rows;
+            show(&rt, both.heads, &old[..m], &new[..n]);
         }
     }
 }
