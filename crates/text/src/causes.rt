@@ -13,6 +13,7 @@ pub struct Unfit {
 }
 
 impl Unfit {
+    // The text does not fit for this reason, at this offset.
     pub fn new(reason: Reason, offset: usize) -> Unfit
         ensures { result ≡ record { reason = reason; offset = offset } }
     {

@@ -1,7 +1,7 @@
--- `text::read` meets its contract: a law for each way through it. What is known where a chart was spelt is s, where an
--- answer is passed on p. Assumes nothing.
+-- `text::read` meets its contract: a law for each way through it. What is known where a chart was spelt is s. Assumes
+-- nothing.
 use Rattle.std.proofs.Common.{arith, length-take}
-use Rattle.std.proofs.lemmas.Result.{err_from_is_err_and}
+use Rattle.text.proofs.Cases.{handed_on}
 use Rattle.base.proofs.Answers.{none-due, some-due}
 use Rattle.text.proofs.Told.{read_unsized}
 use Rattle.text.proofs.Filed.{read_said}
@@ -13,9 +13,8 @@ returns-then-table-ne768 c = let q = read_said _ _ _ _ (read_unsized _ _ _ c.sol
 
 pub returns-in_err-heading : goal.returns-in_err-heading
 returns-in_err-heading c =
-    let p = err_from_is_err_and c.from_residual.result c.from_residual.ensures.1 in
     let q = read_said _ _ _ _ (read_unfit _ _ c.if-table-ne768.false _ c.parse.ensures.0 _ c.in_err-heading.was) in
-    rw (p.1, p.2) (record { is = q.0; file = q.1 })
+    rw (handed_on _ c.from_residual.ensures.1) (record { is = q.0; file = q.1 })
 
 pub overflow_mul-rows : goal.overflow_mul-rows
 overflow_mul-rows c = let s = spelt _ _ c.parse.ensures.0 _ c.in_ok-heading.was in omega (arith, s.rows, s.few)
@@ -28,9 +27,8 @@ slice_bounds-front-end c = let s = spelt _ _ c.parse.ensures.0 _ c.in_ok-heading
 
 pub returns-in_err-judge : goal.returns-in_err-judge
 returns-in_err-judge c =
-    let p = err_from_is_err_and c.from_residual-in_err-judge.result c.from_residual-in_err-judge.ensures.1 in
     let q = read_said _ _ _ _ (read_faulty _ _ c.if-table-ne768.false _ c.parse.ensures.0 _ _ _ c.in_ok-heading.was c.parse.ensures.1 _ (some-due c.judge.ensures c.in_err-judge.was)) in
-    rw (p.1, p.2) (record { is = q.0; file = q.1 })
+    rw (handed_on _ c.from_residual-in_err-judge.ensures.1) (record { is = q.0; file = q.1 })
 
 pub returns : goal.returns
 returns c =

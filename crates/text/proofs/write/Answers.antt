@@ -1,6 +1,6 @@
 -- `text::write` meets its contract: a law for each way through it. Assumes nothing.
 use Rattle.std.proofs.Common.{arith}
-use Rattle.std.proofs.lemmas.Result.{err_from_is_err_and}
+use Rattle.text.proofs.Cases.{handed_on}
 use Rattle.base.proofs.Answers.{none-due, some-due}
 use Rattle.text.proofs.Filed.{write_said}
 use Rattle.text.proofs.Told.{short_table, write_short, write_faulty, write_chart}
@@ -13,9 +13,8 @@ returns-then-bytes-lt8643 c =
 
 pub returns-in_err-judge : goal.returns-in_err-judge
 returns-in_err-judge c =
-    let p = err_from_is_err_and c.from_residual.result c.from_residual.ensures.1 in
     let q = write_said c.args.head c.args.rows.now c.args.bytes.now (omega arith) (omega arith) (λ i. omega (arith, c.type_inv.rows i)) _ _ (write_faulty _ _ c.if-bytes-lt8643.false _ (some-due c.judge.ensures c.in_err-judge.was)) in
-    rw (p.1, p.2) (record { is = q.0; file = q.1 })
+    rw (handed_on _ c.from_residual.ensures.1) (record { is = q.0; file = q.1 })
 
 pub put_chart-requires : goal.put_chart-requires
 put_chart-requires c = (omega arith, short_table _ (none-due c.judge.ensures c.in_ok-judge.was))
