@@ -27,7 +27,7 @@ use Rattle.align.specs.Steps.{fair}
 use Rattle.records.specs.Records.{index}
 use Rattle.words.specs.inner.Words.{Member, LowestFrom}
 use Rattle.words.proofs.Words.{none_in}
-use Rattle.words.proofs.Rests.{Coming, coming_start, coming_next, coming_more, coming_less, coming_end}
+use Rattle.words.proofs.Rests.{Coming, coming_start, coming_next, coming_more, coming_end}
 use Rattle.graph.specs.Buffers.{Buffers, buffers, marked}
 use Rattle.graph.specs.inner.Sized.{Sized}
 use Rattle.graph.specs.inner.Tracks.{Covers}
@@ -104,17 +104,14 @@ module _ (m t₀ : List ℕ) (p word : ℕ) (U : (i r : ℕ) → i < 64 → r < 
     on : {q : ℕ} → LowestFrom word R.k q → Remaking (128 * p) (128 * p + 128) (redirected m) t₀ t (128 * p + 2 * q)
     on L = remaking_gap (128 * p) (128 * p + 128) (redirected m) R.done (omega (arith, L.least)) (omega (arith, L.most)) (unused L)
 
-    pub word_again : {q z x y : ℕ} → LowestFrom rest 0 q × (q < 64) → z ≡ without rest q → x ≡ redirected m (get_or t (128 * p + 2 * q) 0)
-        → y ≡ redirected m (get_or t (128 * p + 2 * q + 1) 0) → Redirecting m t₀ p word (set (set t (128 * p + 2 * q) x) (128 * p + 2 * q + 1) y) z
-    word_again {q} {z} {x} {y} L e f g =
-        let at : ℕ = 128 * p + 2 * q in
-        let one = remaking_more (128 * p) (128 * p + 128) (redirected m) (on (coming_next R.coming L.0 L.1)) (omega (arith, L.1)) f in
-        let two = remaking_more (128 * p) (128 * p + 128) (redirected m) one (omega (arith, L.1)) (g ∙ ap (redirected m) (sym (get_or-set_other t at (at + 1) x 0 (λ h. omega arith)))) in
-        let w : at + 1 + 1 ≡ 128 * p + 2 * (q + 1) = omega arith in
-        record { k = q + 1; coming = coming_more R.coming L.0 L.1 e; done = rw w at two }
-
-    pub word_less : {q z : ℕ} → LowestFrom rest 0 q × (q < 64) → z ≡ without rest q → z < rest
-    word_less L e = coming_less R.coming L.0 L.1 e
+    pub word_again : {q z x y : ℕ} → q < 64 → LowestFrom rest 0 q → z ≡ without rest q → x ≡ redirected m (get_or t (128 * p + 2 * q) 0)
+        → y ≡ redirected m (get_or (set t (128 * p + 2 * q) x) (128 * p + 2 * q + 1) 0)
+        → Redirecting m t₀ p word (set (set t (128 * p + 2 * q) x) (128 * p + 2 * q + 1) y) z
+    word_again {q} b L e f g =
+        let one = remaking_more (128 * p) (128 * p + 128) (redirected m) (on (coming_next R.coming L b)) (omega arith) f in
+        let two = remaking_more (128 * p) (128 * p + 128) (redirected m) one (omega arith) g in
+        let w : 128 * p + 2 * q + 1 + 1 ≡ 128 * p + 2 * (q + 1) = omega arith in
+        record { k = q + 1; coming = coming_more R.coming L b e; done = rw w at two }
 
     pub word_end : rest ≡ 0 → t ≡ remade (128 * p) (128 * p + 128) (redirected m) t₀
     word_end e = remaking_end (128 * p) (128 * p + 128) (redirected m) (on (coming_end R.coming e)) (omega arith)
@@ -208,9 +205,9 @@ module _ (m : List ℕ) {b : Bool} (e : b ≡ bool (each 64 (λ j. eq (get_or m 
 
 -- ---- the lone kept start
 module _ (heads : Heads) (m : List ℕ) {k : ℕ} {b : Bool} (a : k ≡ start_kept heads) (d : b ≡ marked m k) where
-  pub alone-kept : b ≡ true → true ≡ alone heads m
+  pub alone-kept : b ≡ true → b ≡ alone heads m
   unfolding alone
-  alone-kept t = rw (ap (marked m) (sym a) ∙ sym d ∙ t)
+  alone-kept t = t ∙ rw (ap (marked m) (sym a) ∙ sym d ∙ t)
 
   pub alone_not : {f : ℕ} {p : OldPlace} {q : NewPlace} {r : Bool} → b ≡ false → f ≡ start_pair heads → p ≡ old_of f → q ≡ new_of f
       → r ≡ bool (fair heads p q) → not r ≡ alone heads m

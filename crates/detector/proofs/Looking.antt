@@ -16,78 +16,59 @@ use Rattle.base.specs.Walks.{first_from}
 use Rattle.base.proofs.Walks.{skip_at, stop_at, end_at}
 use Rattle.sets.specs.Sets.{bit, without}
 use Rattle.sets.proofs.Sets.{bit-none, without-kept}
-use Rattle.words.specs.inner.Words.{Member, Listed, LowestFrom}
-use Rattle.words.proofs.Rests.{coming_start, coming_less}
+use Rattle.words.specs.inner.Words.{Member, Listed, LowestFrom, removed}
+use Rattle.words.proofs.Words.{length_removed, unlisted_other}
 use Rattle.graph.specs.inner.Tracks.{Lists}
 use Rattle.detector.specs.Turns.{lowest}
 use Rattle.detector.specs.inner.Lowest.{LowestOf}
 
-pub same-long : {l l' w : List ℕ} → Lists l w → Lists l' w → length l' ≡ length l
-same-long A B = B.long ∙ sym A.long
-
 -- ---- the pairs of one old place
-module _ (w : List ℕ) (p : ℕ) where
-  -- a word that has whoever of old place p waits
-  pub record Word (x : ℕ) : Type 0 where
-    pub has : (q : ℕ) → q < 64 → 0 < get_or w (64 * p + q) 0 → bit x q ≡ 1
-
-  -- a pair whose bit the word lacks does not wait
-  lacks : {x : ℕ} → Word x → (q : ℕ) → q < 64 → bit x q ≡ 0 → get_or w (64 * p + q) 0 ≡ 0
-  lacks H q b e = dite (ℕ_discrete (get_or w (64 * p + q) 0) 0) (λ z. z) (λ z. absurd (omega (arith, e, H.has q b (omega arith))))
-
-  -- the bit that is met waits no more, and is dropped
-  pub word_on : {x y q : ℕ} → Word x → q < 64 → get_or w (64 * p + q) 0 ≡ 0 → y ≡ without x q → Word y
-  word_on {x} {y} {q} H b e z =
-      rw z (record { has = λ i c s. without-kept i x q c b (λ h. omega (arith, e, other i h s)) (H.has i c s) })
-    where
-      other : (i : ℕ) → i ≡ q → 0 < get_or w (64 * p + i) 0 → 0 < get_or w (64 * p + q) 0
-      other i h s = rw h at s
-
-  module _ (l : List ℕ) (b : p < 64) (L : Lists l w) where
-    pub word_of : Word (get_or l p 0)
-    word_of = record { has = λ q c s. go q c (L.each (64 * p + q) (omega arith) s).0 }
+module _ (w : List ℕ) (p : ℕ) (b : p < 64) where
+  module _ {l : List ℕ} (L : Lists l w) where
+    -- a pair whose bit its word lacks does not wait
+    lacks : (q : ℕ) → q < 64 → bit (get_or l p 0) q ≡ 0 → get_or w (64 * p + q) 0 ≡ 0
+    lacks q c e =
+        dite (ℕ_discrete (get_or w (64 * p + q) 0) 0)
+        (λ z. z) (λ z. absurd (omega (arith, e, has (L.each (64 * p + q) (omega arith) (omega arith)).0)))
       where
-        go : (q : ℕ) → q < 64 → Member l (64 * p + q) → bit (get_or l p 0) q ≡ 1
-        go q c m =
+        has : Member l (64 * p + q) → bit (get_or l p 0) q ≡ 1
+        has m =
             let y : (64 * p + q) / 64 ≡ p = omega arith in
             let z : (64 * p + q) % 64 ≡ q = omega arith in
             rw (y, z) at m
 
-    -- a list with that word in place of its own
-    pub word_stored : {x : ℕ} → Word x → Lists (set l p x) w
-    word_stored {x} H = record { long = length-set l p x ∙ L.long; each = each }
+    -- the lowest bit waits: it is the lowest pair that does. Below it none has a bit
+    pub word_found : {x q : ℕ} → x ≡ get_or l p 0 → q < 64 → LowestFrom x 0 q → (get_or w (64 * p + q) 0 ≡ 0 → ⊥)
+        → LowestOf w p (Some (64 * p + q))
+    word_found {x} {q} f c M s = (omega arith, omega arith, below)
       where
-        here : (i : ℕ) → i / 64 ≡ p → 0 < get_or w i 0 → bit x (i % 64) ≡ 1
-        here i e s = let z : i ≡ 64 * p + i % 64 = omega arith in H.has (i % 64) (omega arith) (rw z at s)
+        below : (i : ℕ) → 64 * p ≤ i → i < 64 * p + q → get_or w i 0 ≡ 0
+        below i d h =
+            let z : i ≡ 64 * p + i % 64 = omega arith in
+            rw z (lacks (i % 64) (omega arith) (ap (λ (x : ℕ). bit x (i % 64)) (sym f) ∙ M.none (i % 64) (omega arith) (omega arith)))
 
-        each : (i : ℕ) → i < 4096 → 0 < get_or w i 0 → Listed (set l p x) i
-        each i c s =
-            let o = L.each i c s in (
-              dite (ℕ_discrete (i / 64) p) (λ e. rw (e, get_or-set_same l p x 0 (omega (arith, L.long))) (here i e s))
-                  (λ e. rw (get_or-set_other l p (i / 64) x 0 e) o.0),
-              rw (get_or-set_other l p 64 x 0 (λ e. omega arith)) o.1,
-            )
+    pub word_empty : {x : ℕ} → x ≡ get_or l p 0 → x ≡ 0 → LowestOf w p None
+    word_empty f e i c d =
+        let z : i ≡ 64 * p + i % 64 = omega arith in
+        rw z (lacks (i % 64) (omega arith) (ap (λ (y : ℕ). bit y (i % 64)) (sym f ∙ e) ∙ bit-none (i % 64)))
 
-    pub last_stored : (x : ℕ) → get_or (set l p x) 64 0 ≡ get_or l 64 0
-    last_stored x = get_or-set_other l p 64 x 0 (λ e. omega arith)
-
-  -- the lowest bit waits: it is the lowest pair that does. Below it none has a bit
-  pub word_found : {x q : ℕ} → Word x → LowestFrom x 0 q × (q < 64) → (get_or w (64 * p + q) 0 ≡ 0 → ⊥)
-      → LowestOf w p (Some (64 * p + q))
-  word_found {x} {q} H (M, b) s = (omega arith, omega arith, below)
+  -- what is left of the word is what the list has, whose last word is k. The bit in hand waits no more, and is dropped
+  pub word_on : {l : List ℕ} {k x y q : ℕ} → Lists l w × (x ≡ get_or l p 0) × (get_or l 64 0 ≡ k) → q < 64
+      → get_or w (64 * p + q) 0 ≡ 0 → y ≡ without x q
+      → Lists (removed l (64 * p + q)) w × (y ≡ get_or (removed l (64 * p + q)) p 0) × (get_or (removed l (64 * p + q)) 64 0 ≡ k)
+  unfolding removed
+  word_on {l} {k} {y = y} {q} (L, f, g) c e z = go (64 * p + q) (omega arith) (omega arith) e
     where
-      below : (i : ℕ) → 64 * p ≤ i → i < 64 * p + q → get_or w i 0 ≡ 0
-      below i c d =
-          let z : i ≡ 64 * p + i % 64 = omega arith in
-          rw z (lacks H (i % 64) (omega arith) (M.none (i % 64) (omega arith) (omega arith)))
-
-  pub word_none : {x : ℕ} → Word x → x ≡ 0 → Word 0
-  word_none H e = rw e at H
-
-  pub word_empty : {x : ℕ} → Word x → x ≡ 0 → LowestOf w p None
-  word_empty {x} H e i c d =
-      let z : i ≡ 64 * p + i % 64 = omega arith in
-      rw z (lacks H (i % 64) (omega arith) (ap (λ (y : ℕ). bit y (i % 64)) e ∙ bit-none (i % 64)))
+      go : (n : ℕ) → n / 64 ≡ p → n % 64 ≡ q → get_or w n 0 ≡ 0
+          → Lists (removed l n) w × (y ≡ get_or (removed l n) p 0) × (get_or (removed l n) 64 0 ≡ k)
+      go n u v e = (
+        record {
+          long = length_removed l n ∙ L.long;
+          each = λ i d s. unlisted_other l n L.long (omega arith) i d (λ h. omega (arith, e, rw h at s)) (L.each i d s);
+        },
+        rw (u, v, get_or-set_same l p (without (get_or l p 0) q) 0 (omega (arith, L.long))) (z ∙ ap (λ (x : ℕ). without x q) f),
+        get_or-set_other l (n / 64) 64 _ 0 (λ h. omega arith) ∙ g,
+      )
 
 -- ---- all pairs
 module _ (w : List ℕ) (long : length w ≡ 4096) where
@@ -109,40 +90,38 @@ module _ (w : List ℕ) (long : length w ≡ 4096) where
     idle : (i : ℕ) → i < 4096 → bit (get_or l 64 0) (i / 64) ≡ 0 → get_or w i 0 ≡ 0
     idle i b e = dite (ℕ_discrete (get_or w i 0) 0) (λ z. z) (λ z. absurd (omega (arith, e, (L.each i b (omega arith)).1)))
 
-    pub look_end : get_or l 64 0 ≡ 0 → None ≡ lowest w
-    look_end e =
-        sym (look_from 4096 (omega arith) (λ i b. idle i b (ap (λ (x : ℕ). bit x (i / 64)) e ∙ bit-none (i / 64)))
-        ∙ end_at (λ k x. not (eqb x 0)) w 4096 (omega arith))
+    module _ {x : ℕ} (f : x ≡ get_or l 64 0) where
+      pub look_end : x ≡ 0 → None ≡ lowest w
+      look_end e =
+          sym (look_from 4096 (omega arith) (λ i b. idle i b (ap (λ (x : ℕ). bit x (i / 64)) (sym f ∙ e) ∙ bit-none (i / 64)))
+          ∙ end_at (λ k x. not (eqb x 0)) w 4096 (omega arith))
 
-    -- p is the lowest place that the last word has
-    module _ {p : ℕ} (M : LowestFrom (get_or l 64 0) 0 p × (p < 64)) where
-      -- no pair of an earlier one waits
-      before : (i : ℕ) → i < 64 * p → get_or w i 0 ≡ 0
-      before i b = idle i (omega (arith, M.1)) (M.0.none (i / 64) (omega arith) (omega arith))
+      -- p is the lowest place that the last word has
+      module _ {p : ℕ} (b : p < 64) (M : LowestFrom x 0 p) where
+        -- no pair of an earlier one waits
+        before : (i : ℕ) → i < 64 * p → get_or w i 0 ≡ 0
+        before i b = idle i (omega arith) (ap (λ (x : ℕ). bit x (i / 64)) (sym f) ∙ M.none (i / 64) (omega arith) (omega arith))
 
-      -- dropped, it leaves less
-      pub look_less : {l' : List ℕ} {x : ℕ} → Lists l' w → get_or l' 64 0 ≡ get_or l 64 0 → x ≡ without (get_or l' 64 0) p
-          → get_or (set l' 64 x) 64 0 < get_or l 64 0
-      look_less {l'} {x} N e z =
-          rw (get_or-set_same l' 64 x 0 (omega (arith, N.long)))
-          (coming_less (coming_start (get_or l 64 0)) M.0 M.1 (z ∙ ap (λ (y : ℕ). without y p) e))
+        -- a pair was found there
+        pub look_here : {n : ℕ} → LowestOf w p (Some n) → Some n ≡ lowest w
+        look_here {n} (a, s, h) =
+            lowest-is n (omega arith) s (λ i b. dite (dec_lt i (64 * p)) (λ d. before i d) (λ d. h i (omega arith) b))
 
-      -- a pair was found there
-      pub look_here : {n : ℕ} → LowestOf w p (Some n) → Some n ≡ lowest w
-      look_here {n} (a, s, h) =
-          lowest-is n (omega (arith, M.1)) s (λ i b. dite (dec_lt i (64 * p)) (λ d. before i d) (λ d. h i (omega arith) b))
+  -- none was: the place is dropped
+  pub look_on : {l : List ℕ} {p k x y z : ℕ} → p < 64 → LowestOf w p None → Lists l w → get_or l 64 0 ≡ k → x ≡ k
+      → y ≡ without x p → z ≡ without (get_or l 64 0) p → Lists (set l 64 z) w × (y ≡ get_or (set l 64 z) 64 0)
+  look_on {l} {p} {z = z} c nobody L g f d e = (
+    record { long = length-set l 64 z ∙ L.long; each = each },
+    d ∙ ap (λ (x : ℕ). without x p) (f ∙ sym g) ∙ sym e ∙ sym (get_or-set_same l 64 z 0 (omega (arith, L.long))),
+  )
+    where
+      other : (i : ℕ) → i / 64 ≡ p → get_or w i 0 ≡ 0
+      other i h = nobody i (omega arith) (omega arith)
 
-      -- none was: the place is dropped
-      pub look_on : {l' : List ℕ} {x : ℕ} → LowestOf w p None → Lists l' w → x ≡ without (get_or l' 64 0) p → Lists (set l' 64 x) w
-      look_on {l'} {x} nobody N z = record { long = length-set l' 64 x ∙ N.long; each = each }
-        where
-          other : (i : ℕ) → i / 64 ≡ p → get_or w i 0 ≡ 0
-          other i h = nobody i (omega arith) (omega arith)
-
-          each : (i : ℕ) → i < 4096 → 0 < get_or w i 0 → Listed (set l' 64 x) i
-          each i b s =
-              let o = N.each i b s in (
-                rw (get_or-set_other l' 64 (i / 64) x 0 (λ h. omega arith)) o.0,
-                rw (get_or-set_same l' 64 x 0 (omega (arith, N.long)), z)
-                    (without-kept (i / 64) (get_or l' 64 0) p (omega arith) M.1 (λ h. omega (arith, other i h)) o.1),
-              )
+      each : (i : ℕ) → i < 4096 → 0 < get_or w i 0 → Listed (set l 64 z) i
+      each i b s =
+          let o = L.each i b s in (
+            rw (get_or-set_other l 64 (i / 64) z 0 (λ h. omega arith)) o.0,
+            rw (get_or-set_same l 64 z 0 (omega (arith, L.long)), e)
+                (without-kept (i / 64) (get_or l 64 0) p (omega arith) c (λ h. omega (arith, other i h)) o.1),
+          )

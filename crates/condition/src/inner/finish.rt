@@ -19,9 +19,8 @@ use graph::inner::graphs::is_marked;
 use marker::inner::marks::rank;
 use records::inner::marks::blank;
 use records::{Marks, Sets, Targets};
-use sets::inner::bits::without;
 use words::Pairs;
-use words::inner::members;
+use words::inner::members::{Bits, UPWARDS};
 
 // A target whose new place is kept becomes that kept node. Both are asked at once, so that there is one branch alone.
 fn redirect(marks: &Marks, x: u16) -> u16
@@ -37,20 +36,14 @@ fn redirect(marks: &Marks, x: u16) -> u16
 // Both targets of the pairs with old place p that are bits of the word: no other has one.
 fn redirect_word(marks: &Marks, targets: &mut Targets, p: usize, word: u64)
     requires p_bound { p < 64 }
-    requires by_index { (i r : ℕ) → i < 64 → r < 2 → (get_or targets.old (index (64 * p + i) r) 0 ≡ 65535 → ⊥) → bit word i
-        ≡ 1 }
-    ensures { targets.new ≡ remade (128 * p) (128 * p + 128) (redirected marks.now)
-        targets.old }
+    requires by_index { (i r : ℕ) → i < 64 → r < 2 → (get_or targets.old (index (64 * p + i) r) 0 ≡ 65535 → ⊥)
+        → bit word i ≡ 1 }
+    ensures { targets.new ≡ remade (128 * p) (128 * p + 128) (redirected marks.now) targets.old }
 {
-    let mut rest = word;
-    while rest != 0 {
-        let q = members::lowest(rest);
-        rest = without(rest, q as u32);
+    for q in Bits::<UPWARDS>(word) {
         let at = 128 * p + 2 * q;
-        let x = targets[at];
-        let y = targets[at + 1];
-        targets[at] = redirect(marks, x);
-        targets[at + 1] = redirect(marks, y);
+        targets[at] = redirect(marks, targets[at]);
+        targets[at + 1] = redirect(marks, targets[at + 1]);
     }
 }
 
@@ -81,8 +74,7 @@ fn redirect_kept(marks: &Marks, targets: &mut Targets, seen: &[u64])
 
 // So many words from the first on have all members: those behind the last that is not 0 have none.
 fn used(seen: &[u64]) -> usize
-    ensures { (result ≤ length seen.now) × ((n : ℕ) → Member seen.now n
-        → Member (take result seen.now) n) }
+    ensures { (result ≤ length seen.now) × ((n : ℕ) → Member seen.now n → Member (take result seen.now) n) }
 {
     for n in (0..seen.len()).rev() {
         if seen[n] != 0 {
@@ -96,11 +88,8 @@ fn used(seen: &[u64]) -> usize
 fn is_alone(heads: Heads, marks: &Marks) -> bool
     ensures { result ≡ alone heads marks.now }
 {
-    if is_marked(marks, start_kept(heads)) {
-        return true;
-    }
     let first = start_pair(heads);
-    !fair(heads, old_of(first), new_of(first))
+    is_marked(marks, start_kept(heads)) || !fair(heads, old_of(first), new_of(first))
 }
 
 // The new start alone, kept.

@@ -5,7 +5,6 @@ ghost use Rattle.chart.specs.Places.{new_of};
 ghost use Rattle.chart.specs.inner.Comparisons.{charts_of};
 ghost use Rattle.chart.specs.inner.NoneNever.{NoneNever};
 ghost use Rattle.align.specs.declared.spots.Spot.{Spot};
-ghost use Rattle.words.specs.inner.Words.{LowestFrom};
 ghost use Rattle.graph.specs.Buffers.{buffers};
 ghost use Rattle.graph.specs.inner.Tracks.{Lists};
 ghost use Rattle.detector.specs.Turns.{lowest, set_now, arrived, processed, row_done, taken};
@@ -23,7 +22,7 @@ use graph::Waiting;
 use graph::inner::graphs;
 use records::{Marks, Sets, Targets};
 use sets::inner::bits::without;
-use words::inner::members;
+use words::inner::members::{self, Bits, UPWARDS};
 use words::{PairList, Pairs};
 
 // Where to look, so that nobody looks at every pair: a list of whoever waits, and whoever was seen in the graph.
@@ -33,30 +32,19 @@ pub struct Tracked {
     pub seen: Pairs,
 }
 
-// The next pair of an old place to look at: the lowest bit of what is left of its word.
-fn next_pair(word: u64) -> usize
-    requires { 0 < word }
-    ensures { LowestFrom word 0 result × (result < 64) }
-{
-    members::lowest(word)
-}
-
 // The lowest pair of old place p that waits. Bits of its word that wait no more are met once, and dropped.
 fn lowest_of(waits: &mut PairList, waiting: &Waiting, p: usize) -> Option<usize>
     requires { (p < 64) × Lists waits.old waiting.now }
     ensures lowest_of { LowestOf waiting.now p result × Lists waits.new waiting.now }
     ensures waits_unchanged { get_or waits.new 64 0 ≡ get_or waits.old 64 0 }
 {
-    let mut word = waits[p];
-    while word != 0 {
-        let q = next_pair(word);
-        if waiting[64 * p + q] != 0 {
-            waits[p] = word;
-            return Some(64 * p + q);
+    for q in Bits::<UPWARDS>(waits[p]) {
+        let n = 64 * p + q;
+        if waiting[n] != 0 {
+            return Some(n);
         }
-        word = without(word, q as u32);
+        members::remove(waits, n);
     }
-    waits[p] = 0;
     None
 }
 
@@ -66,8 +54,7 @@ pub fn lowest(waits: &mut PairList, waiting: &Waiting) -> Option<usize>
     requires { Lists waits.old waiting.now }
     ensures { (result ≡ lowest waiting.now) × Lists waits.new waiting.now }
 {
-    while waits[64] != 0 {
-        let p = members::lowest(waits[64]);
+    for p in Bits::<UPWARDS>(waits[64]) {
         if let Some(n) = lowest_of(waits, waiting, p) {
             return Some(n);
         }

@@ -9,7 +9,6 @@ use Rattle.std.proofs.lemmas.List.{take_all, length-drop}
 use Rattle.base.specs.Walks.{count}
 use Rattle.condition.proofs.inner.finish.finish.Goals as goal
 
-
 pub returns-then-is_alone : goal.returns-then-is_alone
 returns-then-is_alone c = (search finish_alone, summed_alone _ _ c.is_alone.ensures c.if-is_alone.true c.start_kept.ensures c.leave_alone.ensures)
 

@@ -5,5 +5,5 @@ use Rattle.condition.proofs.inner.finish.is_alone.Goals as goal
 pub returns-then-is_marked : goal.returns-then-is_marked
 returns-then-is_marked c = search alone-kept
 
-pub returns : goal.returns
-returns c = search alone_not
+pub returns-else-is_marked : goal.returns-else-is_marked
+returns-else-is_marked c = search alone_not

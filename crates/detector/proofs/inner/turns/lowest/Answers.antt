@@ -1,18 +1,26 @@
--- `detector::inner::turns::lowest` meets its contract. The invariant: whoever waits is in the list, whose last word gets less. Assumes nothing.
-use Rattle.detector.proofs.Looking.{look_end, look_less, look_here, look_on}
+-- `detector::inner::turns::lowest` meets its contract. Assumes nothing.
+use mathlib.Core.Path.{refl}
+use Rattle.detector.proofs.Looking.{look_end, look_here, look_on}
 use Rattle.detector.proofs.inner.turns.lowest.Goals as goal
 
+pub loop-p-init : goal.loop-p-init
+loop-p-init c = rw c.into_iter-p-iterator.ensures.into_iter_gives (c.requires, refl)
+
 pub lowest_of-requires : goal.lowest_of-requires
-lowest_of-requires c = (c.lowest-p.ensures.1, c.loop-waits.invariant)
+lowest_of-requires c = (c.in-Some.ensures.steps.0, c.loop-p.invariant.0)
 
-pub returns-in-Some : goal.returns-in-Some
-returns-in-Some c = (look_here _ c.told-waiting c.loop-waits.invariant c.lowest-p.ensures c.in-Some.ensures.lowest_of.0, c.in-Some.ensures.lowest_of.1)
+pub returns-in-Some-lowest_of : goal.returns-in-Some-lowest_of
+returns-in-Some-lowest_of c =
+    let S = c.in-Some.ensures.steps in
+    let I = c.loop-p.invariant in
+    let F = c.in-Some-lowest_of.ensures.lowest_of in
+    (look_here _ c.told-waiting I.0 I.1 S.0 (S.3 refl) F.0, F.1)
 
-pub loop-waits-smaller : goal.loop-waits-smaller
-loop-waits-smaller c = look_less _ c.told-waiting c.loop-waits.invariant c.lowest-p.ensures c.lowest_of.ensures.lowest_of.1 c.lowest_of.ensures.waits_unchanged c.without.ensures
-
-pub loop-waits-preserved : goal.loop-waits-preserved
-loop-waits-preserved c = look_on _ c.told-waiting c.loop-waits.invariant c.lowest-p.ensures c.in_default.ensures.lowest_of.0 c.in_default.ensures.lowest_of.1 c.without.ensures
+pub loop-p-preserved : goal.loop-p-preserved
+loop-p-preserved c =
+    let S = c.in-Some.ensures.steps in
+    let F = c.in_default.ensures in
+    look_on _ c.told-waiting S.0 F.lowest_of.0 F.lowest_of.1 F.waits_unchanged c.loop-p.invariant.1 S.2 c.without.ensures
 
 pub returns : goal.returns
-returns c = (look_end _ c.told-waiting c.loop-waits.invariant c.loop-waits-test.false, c.loop-waits.invariant)
+returns c = (look_end _ c.told-waiting c.loop-p.invariant.0 c.loop-p.invariant.1 c.in-None.ensures.steps.0, c.loop-p.invariant.0)
