@@ -157,24 +157,18 @@ module _ (m t₀ : List ℕ) where
             rw e (sym (redirect_far m 65535 (omega arith)))
 
 -- ---- the words that are used
--- those from n on have no member
-pub record Ends (w : List ℕ) (n : ℕ) : Type 0 where
-  pub most : n ≤ length w
-  pub none : (p : ℕ) → n ≤ p → get_or w p 0 ≡ 0
-
+-- all members are in the first n words
 abbrev Used : List ℕ → ℕ → Type 0
 Used w n = (n ≤ length w) × ((k : ℕ) → Member w k → Member (take n w) k)
 
 module _ (w : List ℕ) where
-  pub used_start : Ends w (length w)
-  used_start = record { most = omega arith; none = λ p l. get_or-eq_default w 0 {n = p} l }
-
-  pub used_less : {n : ℕ} → Ends w n → 0 < n → get_or w (n - 1) 0 ≡ 0 → Ends w (n - 1)
-  used_less {n} E l e =
-      record { most = omega (arith, E.most); none = λ p q. dite (ℕ_discrete p (n - 1)) (λ z. rw z e) (λ z. E.none p (omega arith)) }
-
-  pub used_all : {n : ℕ} → Ends w n → Used w n
-  used_all {n} E = (E.most, λ k m. dite (dec_lt (k / 64) n) (λ l. rw (get_or-take n w (k / 64) 0 l) m) (λ l. absurd (none_in w k (E.none (k / 64) (omega arith)) m)))
+  -- those from n on have none
+  pub used_to : (n : ℕ) → n ≤ length w → ((p : ℕ) → n ≤ p → p < length w → get_or w p 0 ≡ 0) → Used w n
+  used_to n l none =
+      (l, λ k m. dite (dec_lt (k / 64) n) (λ c. rw (get_or-take n w (k / 64) 0 c) m) (λ c. absurd (none_in w k (past (k / 64) (omega arith)) m)))
+    where
+      past : (p : ℕ) → n ≤ p → get_or w p 0 ≡ 0
+      past p a = dite (dec_lt p (length w)) (λ c. none p a c) (λ c. get_or-eq_default w 0 {n = p} (omega arith))
 
 -- they have all pairs seen
 module _ {w : List ℕ} {r : ℕ} {g : Buffers} (C : Covers w g) (U : Used w r) where

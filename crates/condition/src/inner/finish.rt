@@ -76,12 +76,10 @@ fn redirect_kept(marks: &Marks, targets: &mut Targets, seen: &[u64])
 fn used(seen: &[u64]) -> usize
     ensures { (result ≤ length seen.now) × ((n : ℕ) → Member seen.now n → Member (take result seen.now) n) }
 {
-    for n in (0..seen.len()).rev() {
-        if seen[n] != 0 {
-            return n + 1;
-        }
+    match seen.iter().rposition(|word| *word != 0) {
+        Some(last) => last + 1,
+        None => 0,
     }
-    0
 }
 
 // Whether the new start is kept, or is the new alarm without the old one being the old alarm.
