@@ -3,12 +3,6 @@ use native.Mathlib.Omega.{arith}
 use Rattle.condition.proofs.Finishing.{count-start, count-one, count-all}
 use Rattle.condition.proofs.inner.finish.count_row.Goals as goal
 
-pub loop-mark-init : goal.loop-mark-init
-loop-mark-init c = count-start _ _
-
-pub overflow_add-n : goal.overflow_add-n
-overflow_add-n c = omega (arith, (count-one _ _ c.loop-mark.invariant c.loop-mark-test.true c.from-n.ensures).few)
-
 pub loop-mark-preserved : goal.loop-mark-preserved
 loop-mark-preserved c = count-one _ _ c.loop-mark.invariant c.loop-mark-test.true c.from-n.ensures
 

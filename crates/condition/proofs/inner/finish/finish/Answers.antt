@@ -12,19 +12,6 @@ use Rattle.condition.proofs.inner.finish.finish.Goals as goal
 pub returns-then-is_alone : goal.returns-then-is_alone
 returns-then-is_alone c = (search finish_alone, summed_alone _ _ c.is_alone.ensures c.if-is_alone.true c.start_kept.ensures c.leave_alone.ensures)
 
-pub slice_bounds-cut-end : goal.slice_bounds-cut-end
-slice_bounds-cut-end c = sym (length-take-le _ _ c.used-top.ensures.0)
-
-pub redirect_kept-requires : goal.redirect_kept-requires
-redirect_kept-requires c = let C = c.requires.0 in
-    let U = c.used-top.ensures in
-    record { seen_len = used_most C U; by_index = used_targets C U }
-
-pub rank-counts-requires : goal.rank-counts-requires
-rank-counts-requires c =
-    let U = c.used-top.ensures in
-    (omega (arith, c.start_pair-first.ensures), used_holds c.requires.0 U, used_here c.requires.0 U c.start_pair-first.ensures (c.requires.1 (sym c.is_alone.ensures ∙ c.if-is_alone.false)))
-
 pub returns : goal.returns
 returns c =
     let m = c.rank-counts.new.marks in

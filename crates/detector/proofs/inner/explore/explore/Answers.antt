@@ -6,14 +6,11 @@ use Rattle.detector.proofs.inner.explore.explore.Goals as goal
 pub loop-n-init : goal.loop-n-init
 loop-n-init c = build_begun _ c.args.charts.now.prepared.old-faultless c.args.charts.now.prepared.new-faultless c.begin-tracked.ensures.waiting_after c.begin-tracked.ensures.follows
 
-pub lowest-requires : goal.lowest-requires
-lowest-requires c = c.loop-n.invariant.tracks.lists
-
 pub to_skip-skips-requires : goal.to_skip-skips-requires
 to_skip-skips-requires c = (build_below _ c.loop-n.invariant c.in-Some.ensures.0, none_never c.args.charts.now.new_rows.now c.some_never-any_never.ensures)
 
-pub turn-requires : goal.turn-requires
-turn-requires c = record { n_bound = (build_below _ c.loop-n.invariant c.in-Some.ensures.0, c.to_skip-skips.ensures); follows = record { lists = c.lowest.ensures.1; covers = c.loop-n.invariant.tracks.covers } }
+pub turn-requires-clause-n_bound : goal.turn-requires-clause-n_bound
+turn-requires-clause-n_bound c = (build_below _ c.loop-n.invariant c.in-Some.ensures.0, c.to_skip-skips.ensures)
 
 pub loop-n-smaller : goal.loop-n-smaller
 loop-n-smaller c = build_less _ c.loop-n.invariant c.in-Some.ensures.0 c.turn.ensures.waiting_after
@@ -21,5 +18,5 @@ loop-n-smaller c = build_less _ c.loop-n.invariant c.in-Some.ensures.0 c.turn.en
 pub loop-n-preserved : goal.loop-n-preserved
 loop-n-preserved c = build_turn _ c.loop-n.invariant c.in-Some.ensures.0 c.turn.ensures.waiting_after c.turn.ensures.follows_2
 
-pub returns : goal.returns
-returns c = record { covers = c.loop-n.invariant.tracks.covers; waiting_after = build_done _ c.loop-n.invariant c.in_default.ensures.0 }
+pub returns-clause-waiting_after : goal.returns-clause-waiting_after
+returns-clause-waiting_after c = build_done _ c.loop-n.invariant c.in_default.ensures.0

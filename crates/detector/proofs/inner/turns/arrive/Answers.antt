@@ -10,9 +10,6 @@ returns-then-is_marked c =
     let p = arrive_kept _ _ _ _ _ _ _ _ c.requires.n_bound.0 c.requires.n_bound.1 c.requires.n_bound.2 S c.requires.follows _ c.kept-node.ensures c.is_marked.ensures c.if-is_marked.true c.aim.ensures in
     record { follows_2 = p.0; waiting_after = p.1 }
 
-pub join-requires : goal.join-requires
-join-requires c = record { n_bound = search rules; member = c.requires.follows.covers.marks _ (search rules) }
-
 pub returns : goal.returns
 returns c =
     let S = sized-of c.told-marks c.told-targets c.told-sets c.told-waiting in

@@ -3,12 +3,6 @@ use mathlib.Core.Path.{refl}
 use Rattle.detector.proofs.Looking.{look_end, look_here, look_on}
 use Rattle.detector.proofs.inner.turns.lowest.Goals as goal
 
-pub loop-p-init : goal.loop-p-init
-loop-p-init c = rw c.into_iter-p-iterator.ensures.into_iter_gives (c.requires, refl)
-
-pub lowest_of-requires : goal.lowest_of-requires
-lowest_of-requires c = (c.in-Some.ensures.steps.0, c.loop-p.invariant.0)
-
 pub returns-in-Some-lowest_of : goal.returns-in-Some-lowest_of
 returns-in-Some-lowest_of c =
     let S = c.in-Some.ensures.steps in

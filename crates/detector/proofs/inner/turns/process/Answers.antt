@@ -3,11 +3,8 @@ use Rattle.graph.proofs.Graphs.{sized-of}
 use Rattle.detector.proofs.Processing.{came_is, process_fails}
 use Rattle.detector.proofs.inner.turns.process.Goals as goal
 
-pub arrive-requires : goal.arrive-requires
-arrive-requires c = record { n_bound = (c.requires.n_bound.0, c.requires.n_bound.1, c.requires.n_bound.2, c.requires.place_bound _ c.in-Some.is); follows = c.requires.follows }
-
-pub returns-in-Some : goal.returns-in-Some
-returns-in-Some c = record { follows_2 = c.arrive.ensures.follows_2; waiting_after = came_is _ _ _ _ _ _ _ _ c.in-Some.is c.arrive.ensures.waiting_after }
+pub returns-in-Some-clause-waiting_after : goal.returns-in-Some-clause-waiting_after
+returns-in-Some-clause-waiting_after c = came_is _ _ _ _ _ _ _ _ c.in-Some.is c.arrive.ensures.waiting_after
 
 pub returns-in-None : goal.returns-in-None
 returns-in-None c =

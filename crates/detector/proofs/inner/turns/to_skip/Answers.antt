@@ -11,9 +11,6 @@ pub returns-then-not-any_never : goal.returns-then-not-any_never
 returns-then-not-any_never c =
     skips_none (leaving c.args.charts.now.new_rows.now _) (part_none c.args.charts.now.new_rows.now _ c.requires.1 c.if-not-any_never.true)
 
-pub new_part-part-requires : goal.new_part-part-requires
-new_part-part-requires c = let e = ap (λ (q : NewPlace). q.0) c.new_of.ensures in omega arith
-
 pub returns : goal.returns
 returns c =
     let e = c.new_part-part.ensures ∙ ap (λ (q : NewPlace). leaving c.args.charts.now.new_rows.now q.0) c.new_of.ensures in

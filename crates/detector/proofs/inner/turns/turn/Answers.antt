@@ -8,11 +8,8 @@ loop-r-init c =
     let S = sized-of c.told-marks c.told-targets c.told-sets c.told-waiting in
     turn_begins _ _ _ (unwait-kept_up _ c.requires.n_bound.0 S c.requires.follows c.remove.ensures)
 
-pub row-requires : goal.row-requires
-row-requires c = record { n_bound = (c.requires.n_bound.0, c.loop-r-test.true, c.requires.n_bound.1 _ c.loop-r-test.true); follows = c.loop-r.invariant.tracks }
-
 pub loop-r-preserved : goal.loop-r-preserved
 loop-r-preserved c = turn_row _ _ _ _ c.loop-r.invariant c.loop-r-test.true c.set_now-v.ensures (c.row.ensures.follows_2, c.row.ensures.waiting_after)
 
-pub returns : goal.returns
-returns c = record { follows_2 = c.loop-r.invariant.tracks; waiting_after = turn_done _ _ _ _ _ _ c.loop-r.invariant c.loop-r-test.false }
+pub returns-clause-waiting_after : goal.returns-clause-waiting_after
+returns-clause-waiting_after c = turn_done _ _ _ _ _ _ c.loop-r.invariant c.loop-r-test.false
