@@ -9,8 +9,8 @@ use native.Mathlib.Decide.{ℕ_discrete, dec_lt}
 use borrow.Author.Tests.{lt-ltb, le-ltb, eq-eqb, ne_eqb}
 use lib.Dec.{eqb, ltb}
 use Rattle.std.specs.Int.{from_bool}
-use lib.ListN.{length, get_or, set, take, drop, replicate, get_or-eq_default, drop_of_length-le}
-use lib.Seq.{get_or-set_same, get_or-set_other, get_or-take, length-take-le}
+use lib.ListN.{length, get_or, set, take, drop, replicate, drop_of_length-le}
+use lib.Seq.{get_or-set_same, get_or-set_other, length-take-le}
 use Rattle.base.specs.Says.{eq, each, bool}
 use Rattle.base.specs.Walks.{pass, count}
 use Rattle.base.proofs.Counts.{count_set, count-here, count_else, count_none}
@@ -26,10 +26,8 @@ use Rattle.sets.specs.Sets.{bit, without}
 use Rattle.align.specs.Steps.{fair}
 use Rattle.records.specs.Records.{index}
 use Rattle.words.specs.inner.Words.{Member, LowestFrom}
-use Rattle.words.proofs.Words.{none_in}
 use Rattle.words.proofs.Rests.{Coming, coming_start, coming_next, coming_more, coming_end}
 use Rattle.graph.specs.Buffers.{Buffers, buffers, marked}
-use Rattle.graph.specs.inner.Sized.{Sized}
 use Rattle.graph.specs.inner.Tracks.{Covers}
 use Rattle.marker.specs.inner.Spans.{remade}
 use Rattle.marker.specs.inner.Seen.{Holds}
@@ -160,15 +158,6 @@ module _ (m t₀ : List ℕ) where
 -- all members are in the first n words
 abbrev Used : List ℕ → ℕ → Type 0
 Used w n = (n ≤ length w) × ((k : ℕ) → Member w k → Member (take n w) k)
-
-module _ (w : List ℕ) where
-  -- those from n on have none
-  pub used_to : (n : ℕ) → n ≤ length w → ((p : ℕ) → n ≤ p → p < length w → get_or w p 0 ≡ 0) → Used w n
-  used_to n l none =
-      (l, λ k m. dite (dec_lt (k / 64) n) (λ c. rw (get_or-take n w (k / 64) 0 c) m) (λ c. absurd (none_in w k (past (k / 64) (omega arith)) m)))
-    where
-      past : (p : ℕ) → n ≤ p → get_or w p 0 ≡ 0
-      past p a = dite (dec_lt p (length w)) (λ c. none p a c) (λ c. get_or-eq_default w 0 {n = p} (omega arith))
 
 -- they have all pairs seen
 module _ {w : List ℕ} {r : ℕ} {g : Buffers} (C : Covers w g) (U : Used w r) where

@@ -1,7 +1,7 @@
 -- The loop of a build's turns, in the form in which the code meets it. Assumes nothing.
-use mathlib.Core.Path.{◌≡◌, refl, sym, ap, ◌∙◌}
+use mathlib.Core.Path.{◌≡◌, refl, sym, ◌∙◌}
 use mathlib.Core.List.{List}
-use Rattle.std.specs.Prelude.{Option, None, Some}
+use Rattle.std.specs.Prelude.{None, Some}
 use Prim.Native.Nat.{ℕ, ◌^◌, ◌<◌}
 use native.Mathlib.Omega.{arith}
 use lib.ListN.{length, set, replicate}
@@ -16,7 +16,6 @@ use Rattle.records.specs.Records.{index}
 use Rattle.words.specs.inner.Words.{Member, added, listed}
 use Rattle.words.proofs.Words.{length-added, added-here, length-listed, listed_here}
 use Rattle.graph.specs.Buffers.{Buffers, buffers}
-use Rattle.graph.specs.inner.Sized.{Sized}
 use Rattle.graph.specs.inner.Tracks.{Covers, Lists, Tracks}
 use Rattle.detector.specs.Turns.{lowest, next, begun, taken, explored}
 use Rattle.graph.proofs.Graphs.{Shaped}

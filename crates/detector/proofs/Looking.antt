@@ -1,5 +1,5 @@
 -- The look for the lowest waiting pair, in the form in which the code meets it. Assumes nothing.
-use mathlib.Core.Path.{◌≡◌, refl, sym, ap, subst, ◌∙◌}
+use mathlib.Core.Path.{◌≡◌, refl, sym, ap, ◌∙◌}
 use mathlib.Core.Bool.{not}
 use mathlib.Core.Logic.{dite}
 use mathlib.Core.List.{List}

@@ -9,7 +9,7 @@ use native.Mathlib.Decide.{dec_lt}
 use native.Mathlib.Omega.{arith}
 use borrow.Author.Tests.{le-ltb}
 use lib.Dec.{ltb}
-use lib.ListN.{get_or, set, replicate, length-set}
+use lib.ListN.{get_or, set, replicate}
 use Rattle.operations.specs.Operations.{is_known, operands_fit}
 use Rattle.operations.specs.Trials.{never_holds}
 use Rattle.chart.specs.declared.places.OldPlace.{OldPlace}
@@ -55,7 +55,7 @@ skips_by {part} {rows} {a} {b} e f g = both
 
 -- ---- the part of the new table that leaves the pair's new place, and a row of it that can be taken
 -- whether one can be taken: it is there, and is none that never holds
-pub part_can : (t : List ℕ) (n r : ℕ) {q' : NewPlace} {part : List ℕ} {skip : Bool} → q' ≡ new_of n → part ≡ leaving t q'.0
+part_can : (t : List ℕ) (n r : ℕ) {q' : NewPlace} {part : List ℕ} {skip : Bool} → q' ≡ new_of n → part ≡ leaving t q'.0
     → NeverIf skip (leaving t (new_of n).0) r → ltb r (size part) && not skip ≡ can_be_taken part r
 unfolding can_be_taken
 part_can t n r {q'} {part} {skip} a b N = subst (λ (rows : List ℕ). ltb r (size rows) && not skip ≡ ltb r (size rows) && not (never_holds (operation rows r))) (sym e) there
@@ -77,7 +77,10 @@ module _ (new : Chart) (n r : ℕ) {q' : NewPlace} {part : List ℕ} (a : q' ≡
   part_leads : (q : NewPlace) → q.0 ≡ to part r → q ≡ leads_to new n r
   part_leads q e = let z : q.0 ≡ to (rows_of new n) r = e ∙ ap (λ (x : List ℕ). to x r) part_is in λ i. record { 0 = z i }
 
-  module _ {t : Bool} (u : t ≡ can_be_taken part r) (e : t ≡ true) where
+  module _ {skip : Bool} (N : NeverIf skip (leaving new.table (new_of n).0) r) (e : ltb r (size part) && not skip ≡ true) where
+    u : ltb r (size part) && not skip ≡ can_be_taken part r
+    u = part_can new.table n r a b N
+
     pub row-right : FaultlessChart new
         → (r < size part) × (is_known (operation part r) ≡ true) × (operands_fit (operation part r) ≡ true)
     row-right G =
@@ -90,14 +93,14 @@ module _ (new : Chart) (n r : ℕ) {q' : NewPlace} {part : List ℕ} (a : q' ≡
         omega (arith, ap (λ (x : NewPlace). x.0) (part_leads q f), row-to new G (n % 64) r (takable (rows_of new n) r (part_takable u e)).0, G.few_places)
 
 -- ---- the step by one of its rows
-module _ (X : Compared) (n r : ℕ) {q' : NewPlace} {part : List ℕ} (a : q' ≡ new_of n) (b : part ≡ leaving X.new.table q'.0) {t : Bool} (u : t ≡ can_be_taken part r) (v : ℕ) where
+module _ (X : Compared) (n r : ℕ) {q' : NewPlace} {part : List ℕ} (a : q' ≡ new_of n) (b : part ≡ leaving X.new.table q'.0) {skip : Bool} (N : NeverIf skip (leaving X.new.table (new_of n).0) r) (v : ℕ) where
   is : part ≡ rows_of X.new n
   is = part_is X.new n r a b
 
-  can : {d : Bool} → t ≡ d → can_be_taken (rows_of X.new n) r ≡ d
-  can = part_takable X.new n r a b u
+  can : {d : Bool} → ltb r (size part) && not skip ≡ d → can_be_taken (rows_of X.new n) r ≡ d
+  can = part_takable X.new n r a b (part_can X.new.table n r a b N)
 
-  module _ {p : OldPlace} (came : Option Spot) (o : p ≡ old_of n) (s : came ≡ step X (record { place = p; set = v }) (operation part r) (record { 0 = to part r })) (y : t ≡ true) where
+  module _ {p : OldPlace} {came : Option Spot} (o : p ≡ old_of n) (s : came ≡ step X (record { place = p; set = v }) (operation part r) (record { 0 = to part r })) (y : ltb r (size part) && not skip ≡ true) where
     stepped : came ≡ step_of X n v r
     unfolding step_of
     stepped = s ∙ (λ i. step X (record { place = o i; set = v }) (operation (is i) r) (record { 0 = to (is i) r }))
@@ -109,7 +112,7 @@ module _ (X : Compared) (n r : ℕ) {q' : NewPlace} {part : List ℕ} (a : q' �
     row-there g q e h =
         h ∙ (λ i. processed X.old.head.alarm g n r (part_leads X.new n r a b q e i) (stepped i)) ∙ sym (a-row X g n v r (can y) refl)
 
-  pub row_spare : (g : Buffers) → t ≡ false → g ≡ row_done X g n v r
+  pub row_spare : (g : Buffers) → ltb r (size part) && not skip ≡ false → g ≡ row_done X g n v r
   row_spare g f = sym (no_row X g n v r (can f))
 
 -- ---- the set of the pair in hand

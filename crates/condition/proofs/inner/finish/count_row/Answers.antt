@@ -1,6 +1,6 @@
 -- `condition::inner::finish::count_row` meets its contract. Assumes nothing.
 use native.Mathlib.Omega.{arith}
-use Rattle.condition.proofs.Finishing.{count-start, count-one, count-all}
+use Rattle.condition.proofs.Finishing.{count-one, count-all}
 use Rattle.condition.proofs.inner.finish.count_row.Goals as goal
 
 pub loop-mark-preserved : goal.loop-mark-preserved

@@ -1,9 +1,7 @@
 -- `condition::inner::finish::finish` meets its contract. Assumes nothing.
-use mathlib.Core.Path.{sym, ap, ◌∙◌}
+use mathlib.Core.Path.{ap, ◌∙◌}
 use lib.ListN.{drop}
-use lib.Seq.{length-take-le}
-use Rattle.condition.proofs.Finishing.{used_most, used_targets, used_holds, used_here, finish_alone, finish_joint, summed_alone, summed_joint}
-use borrow.Author.Rules.{rules}
+use Rattle.condition.proofs.Finishing.{finish_alone, finish_joint, summed_alone, summed_joint}
 use native.Mathlib.Omega.{arith}
 use Rattle.std.proofs.lemmas.List.{take_all, length-drop}
 use Rattle.base.specs.Walks.{count}

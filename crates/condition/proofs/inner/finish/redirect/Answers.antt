@@ -1,8 +1,5 @@
 -- `condition::inner::finish::redirect` meets its contract. Assumes nothing.
-use mathlib.Core.Path.{ap}
-use Rattle.chart.specs.declared.places.NewPlace.{NewPlace}
 use Rattle.condition.proofs.Finishing.{redirect_kept, redirect_not}
-use native.Mathlib.Omega.{arith}
 use Rattle.condition.proofs.inner.finish.redirect.Goals as goal
 
 pub returns-then-is_marked-x : goal.returns-then-is_marked-x

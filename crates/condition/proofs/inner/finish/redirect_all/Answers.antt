@@ -1,5 +1,5 @@
 -- `condition::inner::finish::redirect_all` meets its contract. Assumes nothing.
-use Rattle.condition.proofs.Finishing.{all_start, all_asks, all_again, all_end}
+use Rattle.condition.proofs.Finishing.{all_again, all_end}
 use native.Mathlib.Omega.{arith}
 use Rattle.condition.proofs.inner.finish.redirect_all.Goals as goal
 

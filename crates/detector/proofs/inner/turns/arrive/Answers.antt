@@ -1,7 +1,6 @@
 -- `detector::inner::turns::arrive` meets its contract: to a kept place, or to a pair that joins. Assumes nothing.
 use Rattle.graph.proofs.Graphs.{sized-of}
 use Rattle.detector.proofs.Processing.{arrive_kept, arrive_joins}
-use borrow.Author.Rules.{rules}
 use Rattle.detector.proofs.inner.turns.arrive.Goals as goal
 
 pub returns-then-is_marked : goal.returns-then-is_marked

@@ -1,6 +1,5 @@
 -- `detector::inner::turns::lowest_of` meets its contract. Assumes nothing.
-use mathlib.Core.Path.{refl}
-use Rattle.detector.proofs.Looking.{word_on, word_found, word_empty}
+use Rattle.detector.proofs.Looking.{word_on}
 use Rattle.detector.proofs.inner.turns.lowest_of.Goals as goal
 
 pub loop-q-preserved : goal.loop-q-preserved

@@ -1,6 +1,5 @@
 -- `detector::inner::turns::to_skip` meets its contract: none where the table has none, else row by row. Assumes nothing.
 use mathlib.Core.Path.{ap, ◌∙◌}
-use native.Mathlib.Omega.{arith}
 use Rattle.chart.specs.declared.places.NewPlace.{NewPlace}
 use Rattle.chart.specs.Charts.{leaving}
 use Rattle.chart.proofs.Takable.{part_none}
