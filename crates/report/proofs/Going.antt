@@ -6,8 +6,9 @@ use Prim.Native.Nat.{ℕ, ◌+◌, ◌≤◌, ◌<◌}
 use native.Mathlib.Numerals.{add-one}
 use native.Mathlib.Omega.{arith}
 use native.Mathlib.Decide.{dec_lt}
+use native.Mathlib.Nat.{min-le_left}
 use mathlib.Core.Logic.{dite}
-use lib.ListN.{length, take}
+use lib.ListN.{length, take, length-take, drop_of_length-le}
 use lib.Seq.{take_all, slice, slice-cons}
 use Rattle.text.specs.inner.Puts.{Put}
 use Rattle.text.proofs.Puts.{put_then, put-length}
@@ -22,6 +23,13 @@ pub remaining-next : (t : List ℕ) (G : Graph) (n : ℕ) → length G.marks ≡
 unfolding remaining of_pairs
 remaining-next t G n l h =
     sym (ap (of_pairs t G n) (slice-cons n 4096 G.marks 0 h (omega arith) ∙ ap (λ (i : ℕ). mark G n ∷ slice i 4096 G.marks) (sym (add-one n))))
+
+-- past the last pair there is nothing
+pub remaining_end : (t : List ℕ) (G : Graph) (n : ℕ) → 4096 ≤ n → remaining t G n ≡ []
+unfolding remaining of_pairs
+remaining_end t G n h =
+    let l : length (take 4096 G.marks) ≤ n = omega (arith, length-take 4096 G.marks, min-le_left 4096 (length G.marks)) in
+    ap (of_pairs t G n) (drop_of_length-le (take 4096 G.marks) {i = n} l)
 
 -- the pairs from the first on, up to n, are put
 pub record Going (t : List ℕ) (G : Graph) (pair : ℕ) (before after : List ℕ) (n at : ℕ) : Type 0 where
@@ -71,6 +79,16 @@ module _ (t : List ℕ) (G : Graph) (pair : ℕ) (before : List ℕ) where
           front = front-put before c.bytes after at c.put (omega (arith, c.short, c.long));
           rest = c.rest;
           onward = f;
+        }
+
+    -- past the last pair nothing is left to put
+    pub going_end : 4096 ≤ n → Portioned t G pair before after 4096 at
+    going_end h =
+        record {
+          bytes = c.bytes;
+          front = front-put before c.bytes after at c.put (omega (arith, c.short, c.long));
+          rest = ap (λ (b : List ℕ). c.bytes ++ b) (remaining_end t G 4096 (omega arith) ∙ sym (remaining_end t G n h)) ∙ c.rest;
+          onward = λ l. l;
         }
 
 -- a table of fewer than 768 entries is looked at whole

@@ -3,11 +3,10 @@
 use mathlib.Core.Path.{◌≡◌, refl, sym, ap, ap₂, ◌∙◌}
 use mathlib.Core.List.{List, [], ◌∷◌, ◌++◌}
 use mathlib.Core.Logic.{dite}
-use Prim.Native.Nat.{ℕ, ◌+◌, ◌≤◌}
-use native.Mathlib.Nat.{min-le_left}
+use Prim.Native.Nat.{ℕ, ◌+◌}
 use native.Mathlib.Decide.{dec_lt}
 use native.Mathlib.Omega.{arith}
-use lib.ListN.{length, take, length-take, drop_of_length-le}
+use lib.ListN.{length, take}
 use lib.Seq.{take_all, slice}
 use Rattle.std.specs.Prelude.{Ok, Err}
 use Rattle.base.specs.declared.Refusal.{Refusal}
@@ -18,16 +17,10 @@ use Rattle.records.specs.Records.{Graph, graph_of, read_target}
 use Rattle.report.specs.Lines.{refusal_line}
 use Rattle.report.specs.Transitions.{of_pair, of_pairs, remaining}
 use Rattle.report.specs.Printed.{both_read, program_edition, summary_line, transitions, condition, condition_of, printed_in, printed}
+use Rattle.report.proofs.Going.{remaining_end}
 use Rattle.report.proofs.Lengths.{whole-table}
 use Rattle.report.specs.Portions.{Front, Portions, last, more}
 use Rattle.chart.specs.Compared.{Compared}
-
--- past the last pair there is nothing
-remaining_end : (t : List ℕ) (G : Graph) (n : ℕ) → 4096 ≤ n → remaining t G n ≡ []
-unfolding remaining of_pairs
-remaining_end t G n h =
-    let l : length (take 4096 G.marks) ≤ n = omega (arith, length-take 4096 G.marks, min-le_left 4096 (length G.marks)) in
-    ap (of_pairs t G n) (drop_of_length-le (take 4096 G.marks) {i = n} l)
 
 pub portions_are : (t : List ℕ) (G : Graph) {n : ℕ} {out : List ℕ} → Portions t G n out → out ≡ remaining t G n
 portions_are t G {n} (last h) = sym (remaining_end t G n h)

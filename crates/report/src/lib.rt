@@ -9,6 +9,7 @@ ghost use Rattle.report.specs.Portions.{Front, Portioned};
 
 use inner::lines::put_line;
 use inner::transitions::{Extent, put_pairs};
+use records::{Marks, Targets};
 
 pub mod inner; // inner.rt: what the portions are made of
 
@@ -34,8 +35,8 @@ pub fn summary(start: u32, opened: u32, kept: u32, covered: u32, bytes: &mut [u8
 // them is looked at. Nor are sets, so that any will do in the graph that the contract names.
 pub fn portion(
     table: &[u32],
-    marks: &[u8; 4160],
-    targets: &[u16; 8192],
+    marks: &Marks,
+    targets: &Targets,
     pair: usize,
     bytes: &mut [u8; 1024],
 ) -> Extent

@@ -14,4 +14,4 @@ slice_bounds-put_pairs-end-2 c = sym (length-take-le 768 c.args.table.now (omega
 
 pub put_pairs-requires-2 : goal.put_pairs-requires-2
 put_pairs-requires-2 c = let l = length-take-le 768 c.args.table.now (omega arith) in
-    record { table_len_bound = (omega arith, search rules); marks_len = search rules }
+    (omega arith, search rules)

@@ -11,6 +11,7 @@ ghost use Rattle.report.specs.Portions.{Portioned};
 use crate::inner::lines::put_line;
 use chart::inner::rows::{from_at, operation_at, some_never};
 use operations::assumptions::never_holds;
+use records::{Marks, Targets};
 
 // How far a portion goes: the pair that the next one begins with, and the count of its bytes.
 #[derive(Clone, Copy)]
@@ -24,14 +25,11 @@ fn first_row(table: &[u32], place: u32) -> usize
     requires { length table.now ≤ 768 }
     ensures { (result ≡ first_row table.now place) × (result ≤ 128) }
 {
-    let n = table.len() / 6;
     let mut rows = 0;
-    let mut i = 0;
-    while i < n {
-        if table[i * 6] < place {
+    for i in 0..table.len() / 6 {
+        if from_at(table, i) < place {
             rows += 1;
         }
-        i += 1;
     }
     rows
 }
@@ -41,30 +39,27 @@ fn first_row(table: &[u32], place: u32) -> usize
 fn never_row(table: &[u32], place: u32, k: usize) -> bool
     ensures { result ≡ never_holds (operation (leaving table.now place) k) }
 {
-    let n = table.len() / 6;
     let mut left = k;
-    let mut i = 0;
-    while i < n {
+    for i in 0..table.len() / 6 {
         if from_at(table, i) == place {
             if left == 0 {
                 return never_holds(operation_at(table, i));
             }
             left -= 1;
         }
-        i += 1;
     }
     false
 }
 
 // The target, at a pair, of row k of its new place, as a reader takes it: none where the row never holds. Where there
-// is none anyway, or the table has no row that never holds, as `some` says, the row is not looked for.
-fn read_target(table: &[u32], targets: &[u16], pair: usize, k: usize, some: bool) -> u16
-    requires pair_bound { (pair < 4096) × (k < 2) × (length targets.now ≡ 8192) }
-    requires none_never { NoneNever some table.now }
+// is none anyway, or the table has no row that never holds, as `any_never` says, the row is not looked for.
+fn read_target(table: &[u32], targets: &Targets, pair: usize, k: usize, any_never: bool) -> u16
+    requires pair_bound { (pair < 4096) × (k < 2) }
+    requires none_never { NoneNever any_never table.now }
     ensures { result ≡ read_target table.now (graph_of [] targets.now []) pair k }
 {
     let entry = targets[2 * pair + k];
-    if (entry == 65535) | !some {
+    if (entry == 65535) | !any_never {
         return entry;
     }
     if never_row(table, (pair % 64) as u32, k) {
@@ -74,20 +69,17 @@ fn read_target(table: &[u32], targets: &[u16], pair: usize, k: usize, some: bool
 }
 
 // The mark of a node; what is no node has none.
-fn mark_of(marks: &[u8], node: usize) -> u8
+fn mark_of(marks: &Marks, node: usize) -> u8
     ensures { result ≡ get_or marks.now node 0 }
 {
-    if node < marks.len() {
-        return marks[node];
-    }
-    0
+    marks.get(node).copied().unwrap_or(0)
 }
 
 // The transition from a pair by a row, if there is a target, and the offset after it.
 fn put_transition(
     bytes: &mut [u8],
     at: usize,
-    marks: &[u8],
+    marks: &Marks,
     pair: usize,
     row: usize,
     target: u16,
@@ -116,14 +108,13 @@ pub fn put_pair(
     bytes: &mut [u8],
     at: usize,
     table: &[u32],
-    marks: &[u8],
-    targets: &[u16],
+    marks: &Marks,
+    targets: &Targets,
     pair: usize,
-    some: bool,
+    any_never: bool,
 ) -> usize
     requires at_in_bounds { at + 90 ≤ length bytes.old }
-    requires pair_bound { (pair < 4096) × (length table.now ≤ 768) × NoneNever some table.now }
-    requires marks_len { (length marks.now ≡ 4160) × (length targets.now ≡ 8192) }
+    requires pair_bound { (pair < 4096) × (length table.now ≤ 768) × NoneNever any_never table.now }
     ensures { (Put bytes.old at (of_pair table.now
         (graph_of marks.now targets.now []) pair (get_or marks.now pair 0))
         bytes.new result)
@@ -133,9 +124,9 @@ pub fn put_pair(
         return at;
     }
     let row = first_row(table, (pair % 64) as u32);
-    let one = read_target(table, targets, pair, 0, some);
+    let one = read_target(table, targets, pair, 0, any_never);
     let p = put_transition(bytes, at, marks, pair, row, one);
-    let two = read_target(table, targets, pair, 1, some);
+    let two = read_target(table, targets, pair, 1, any_never);
     put_transition(bytes, p, marks, pair, row + 1, two)
 }
 
@@ -143,25 +134,22 @@ pub fn put_pair(
 // once, before all pairs: where none does, no pair has to ask it of its rows.
 pub fn put_pairs(
     table: &[u32],
-    marks: &[u8],
-    targets: &[u16],
+    marks: &Marks,
+    targets: &Targets,
     pair: usize,
     bytes: &mut [u8],
 ) -> Extent
-    requires table_len_bound { (length table.now ≤ 768) × (length bytes.old ≡ 1024) }
-    requires marks_len { (length marks.now ≡ 4160) × (length targets.now ≡ 8192) }
+    requires { (length table.now ≤ 768) × (length bytes.old ≡ 1024) }
     ensures { Portioned table.now (graph_of marks.now targets.now [])
         pair bytes.old bytes.new result.next result.count }
 {
-    let some = some_never(table);
-    let mut n = pair;
-    let mut at = 0;
-    while n < 4096 {
-        if 934 < at {
-            return Extent { next: n, count: at };
+    let any_never = some_never(table);
+    let mut count = 0;
+    for next in pair..4096 {
+        if 934 < count {
+            return Extent { next, count };
         }
-        at = put_pair(bytes, at, table, marks, targets, n, some);
-        n += 1;
+        count = put_pair(bytes, count, table, marks, targets, next, any_never);
     }
-    Extent { next: n, count: at }
+    Extent { next: 4096, count }
 }

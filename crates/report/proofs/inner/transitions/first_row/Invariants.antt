@@ -1,12 +1,6 @@
 -- The loop counts the rows that it passes. Assumes nothing.
-use Prim.Native.Nat.{◌-◌}
-use mathlib.Core.Path.{◌≡◌}
-use Rattle.chart.specs.Charts.{size}
 use Rattle.report.proofs.Rows.{Counted}
 use Rattle.report.proofs.inner.transitions.first_row.Given as goal
 
 abbrev pub invariant-loop-i : goal.invariant-loop-i
-invariant-loop-i l = Counted l.table l.place l.rows l.i × (l.n ≡ size l.table)
-
-abbrev pub decreases-loop-i : goal.decreases-loop-i
-decreases-loop-i l = l.n - l.i
+invariant-loop-i l = Counted l.table l.place l.rows l.i

@@ -1,12 +1,6 @@
 -- The loop counts down the rows of the place that it passes. Assumes nothing.
-use Prim.Native.Nat.{◌-◌}
-use mathlib.Core.Path.{◌≡◌}
-use Rattle.chart.specs.Charts.{size}
 use Rattle.report.proofs.Rows.{Sought}
 use Rattle.report.proofs.inner.transitions.never_row.Given as goal
 
 abbrev pub invariant-loop-i : goal.invariant-loop-i
-invariant-loop-i l = Sought l.table l.place l.k l.left l.i × (l.n ≡ size l.table)
-
-abbrev pub decreases-loop-i : goal.decreases-loop-i
-decreases-loop-i l = l.n - l.i
+invariant-loop-i l = Sought l.table l.place l.k l.left l.i
