@@ -49,18 +49,21 @@ module _ (m : List ℕ) (byte : (i : ℕ) → get_or m i 0 < 256) where
       low-bytes (count_trailing_zeros 64 w / 8) 8 n (omega (arith, trailing_le 64 w)) (rw (sym e) (trailing_bytes w)) i a b
 
 -- eight bytes that stand from n on, as the library joins them
-pub eight_is : (m bytes : List ℕ) (n : ℕ) → ((i : ℕ) → i < 8 → get_or bytes i 0 ≡ get_or m (n + i) 0) → from_le_bytes w64 bytes ≡ packed m n 8
-unfolding packed
-eight_is m bytes n h =
-    let v : packed m n 8 ≡ get_or m n 0 + 256 * (get_or m (n + 1) 0 + 256 * (get_or m (n + 1 + 1) 0 + 256 * (get_or m (n + 1 + 1 + 1) 0 + 256 * (get_or m (n + 1 + 1 + 1 + 1) 0 + 256 * (get_or m (n + 1 + 1 + 1 + 1 + 1) 0 + 256 * (get_or m (n + 1 + 1 + 1 + 1 + 1 + 1) 0 + 256 * (get_or m (n + 1 + 1 + 1 + 1 + 1 + 1 + 1) 0 + 256 * 0))))))) = refl in
-    let w : from_le_bytes w64 bytes ≡ get_or bytes 0 0 + get_or bytes 1 0 * 256 + get_or bytes 2 0 * 65536 + get_or bytes 3 0 * 16777216 + get_or bytes 4 0 * 4294967296 + get_or bytes 5 0 * 1099511627776 + get_or bytes 6 0 * 281474976710656 + get_or bytes 7 0 * 72057594037927936 = refl in
-    let same : (i j : ℕ) → i < 8 → j ≡ n + i → get_or m j 0 ≡ get_or bytes i 0 = λ i j l e. ap (λ (k : ℕ). get_or m k 0) e ∙ sym (h i l) in
-    let a = same 0 n (omega arith) (omega arith) in
-    let b = same 1 (n + 1) (omega arith) (omega arith) in
-    let c = same 2 (n + 1 + 1) (omega arith) (omega arith) in
-    let d = same 3 (n + 1 + 1 + 1) (omega arith) (omega arith) in
-    let e = same 4 (n + 1 + 1 + 1 + 1) (omega arith) (omega arith) in
-    let f = same 5 (n + 1 + 1 + 1 + 1 + 1) (omega arith) (omega arith) in
-    let g = same 6 (n + 1 + 1 + 1 + 1 + 1 + 1) (omega arith) (omega arith) in
-    let z = same 7 (n + 1 + 1 + 1 + 1 + 1 + 1 + 1) (omega arith) (omega arith) in
-    omega (arith, v, w, a, b, c, d, e, f, g, z)
+module _ (m bytes : List ℕ) (n : ℕ) (same : (i : ℕ) → i < 8 → get_or bytes i 0 ≡ get_or m (n + i) 0) where
+  byte : (i j : ℕ) → i < 8 → j ≡ n + i → get_or m j 0 ≡ get_or bytes i 0
+  byte i j l e = ap (λ (k : ℕ). get_or m k 0) e ∙ sym (same i l)
+
+  pub eight_is : from_le_bytes w64 bytes ≡ packed m n 8
+  unfolding packed
+  eight_is =
+      sym (rw (
+        byte 0 n (omega arith) (omega arith),
+        byte 1 (n + 1) (omega arith) (omega arith),
+        byte 2 (n + 1 + 1) (omega arith) (omega arith),
+        byte 3 (n + 1 + 1 + 1) (omega arith) (omega arith),
+        byte 4 (n + 1 + 1 + 1 + 1) (omega arith) (omega arith),
+        byte 5 (n + 1 + 1 + 1 + 1 + 1) (omega arith) (omega arith),
+        byte 6 (n + 1 + 1 + 1 + 1 + 1 + 1) (omega arith) (omega arith),
+        byte 7 (n + 1 + 1 + 1 + 1 + 1 + 1 + 1) (omega arith) (omega arith),
+      )
+      (omega arith))

@@ -71,6 +71,7 @@ module _ (X : Compared) (R : Record) where
       record_judged h = rw none-due h
 
   -- ---- the answer with its promise
-  pub promised : {A : Type 0} (a : Answer A) → Words X.old.table → Words X.new.table → result_err a ≡ refusal X R → IsOk a → Promise X R
+  pub promised : {A : Type 0} (a : Answer A) → Words X.old.table → Words X.new.table → result_err a ≡ refusal X R
+      → IsOk a → Promise X R
   promised (Ok x) ow nw e t = demand_3_first X ow nw R (sym e)
   promised (Err r) ow nw e t = absurd (T_true t)

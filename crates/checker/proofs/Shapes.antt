@@ -1,8 +1,7 @@
 -- The shape of a record, test by test, as the code comes upon it. Assumes nothing.
-use Rattle.std.proofs.Common.{◌≡◌, ℕ, zero, suc, ◌+◌, ◌-◌, ◌*◌, ◌/◌, ◌%◌, ◌<◌, ◌≤◌, min, max, Bool, true, false, not, ◌&&◌, ◌||◌, eqb, ltb, leb, List, get_or, sym, refl, ap, ◌∙◌, add-zero, add_assoc, add-suc, arith, eqb→eq, le-ltb, lt-ltb, eq-eqb, ne_eqb, le-leb}
+use Rattle.std.proofs.Common.{◌≡◌, ℕ, zero, suc, ◌+◌, ◌-◌, ◌*◌, ◌/◌, ◌%◌, ◌<◌, ◌≤◌, max, Bool, true, false, not, ◌&&◌, ◌||◌, eqb, ltb, leb, List, get_or, sym, refl, ap, ◌∙◌, add-zero, add_assoc, add-suc, arith, eqb→eq, le-ltb, lt-ltb, eq-eqb, ne_eqb, le-leb}
 use mathlib.Core.Bool.{and-true, and_assoc}
-use mathlib.Core.Logic.{dite}
-use native.Mathlib.Decide.{ℕ_discrete, dec_le, dec_lt}
+use native.Mathlib.Decide.{ℕ_discrete, dec_le}
 use borrow.Author.Tests.{lt-leb}
 use lib.Dec.{leb-zero}
 use Rattle.base.specs.Says.{every, bool, Says}
@@ -24,14 +23,6 @@ larger a b k = go (dec_le a k) (dec_le b k)
     go (yes u) (yes v) = rw (le-leb a k u, le-leb b k v, le-leb (max a b) k (omega arith))
     go (yes u) (no n) = rw (le-leb a k u, lt-leb b k (omega arith), lt-leb (max a b) k (omega arith))
     go (no n) d = rw (lt-leb a k (omega arith), lt-leb (max a b) k (omega arith))
-
--- of the numbers below k, those below the smaller of n and k are those below n
-pub smaller : (n k j : ℕ) → j < k → ltb j (min n k) ≡ ltb j n
-smaller n k j l = go (dec_lt j n)
-  where
-    go : Dec (j < n) → ltb j (min n k) ≡ ltb j n
-    go (yes u) = rw (lt-ltb j n u, lt-ltb j (min n k) (omega arith))
-    go (no m) = rw (le-ltb j n (omega arith), le-ltb j (min n k) (omega arith))
 
 -- ---- a test of each number, part by part
 module _ (f : ℕ → Bool) where
@@ -55,13 +46,6 @@ module _ (f : ℕ → Bool) where
       sym (rw (← q) (all_parts (64 * p + 64) (n - (64 * p + 64)) ∙ rw (all_parts (64 * p) 64, e, sym h ∙ t)))
 
 -- ---- marks
--- a mark is rated above all others if it must not be
-pub rated_never : (x never : ℕ) → x ≡ never → (k : ℕ) → k < 255 → leb 255 k ≡ not (eqb x never) && leb x k
-rated_never x never e k l = rw (lt-leb 255 k l, eq-eqb x never e)
-
-pub rated_else : (x never : ℕ) → (x ≡ never → ⊥) → (k : ℕ) → k < 255 → leb x k ≡ not (eqb x never) && leb x k
-rated_else x never n k l = rw (ne_eqb x never n)
-
 module _ (marks : List ℕ) (from : ℕ) where
   -- 64 marks: the first n, and the others
   module _ (n most never : ℕ) (l : n ≤ 64) (z : 0 < never) where
@@ -94,16 +78,12 @@ module _ (marks : List ℕ) (from : ℕ) where
         → b ≡ every (64 - n) (λ j. eqb (get_or marks (from + n + j) 0) 0) → b ≡ every 64 in_line
     line-within {r} e u h = h ∙ sym (in_parts ∙ rw (sym e ∙ le-leb r most u))
 
--- absent pairs: k marks that are all 0, and such as follow others
+-- absent pairs: k marks that are all 0
 module _ (marks : List ℕ) (n : ℕ) where
   pub absent_all : (k : ℕ) {b : Bool} → b ≡ every k (λ j. eqb (get_or marks (n + j) 0) 0) → b ≡ true → (i : ℕ) → n ≤ i → i < n + k → get_or marks i 0 ≡ 0
   absent_all k e t i u v =
       let q : n + (i - n) ≡ i = omega arith in
       eqb→eq (get_or marks i 0) 0 (rw q at (every_at (λ j. eqb (get_or marks (n + j) 0) 0) k (i - n) (T_true (sym e ∙ t)) (omega arith)))
-
-  pub absent_on : (m r : ℕ) → ((i : ℕ) → m < i → i < n → get_or marks i 0 ≡ 0) → ((i : ℕ) → n ≤ i → i < r → get_or marks i 0 ≡ 0)
-      → (i : ℕ) → m < i → i < r → get_or marks i 0 ≡ 0
-  absent_on m r g h i u v = dite (dec_lt i n) (λ l. g i u l) (λ l. h i (omega arith) v)
 
 -- what a mark other than 0 is, on a pair and on a kept node
 pair-mark : (x : ℕ) → (x ≡ 0 → ⊥) → not (eqb x 2) && leb x 4 ≡ eqb x 1 || (eqb x 3 || eqb x 4)
@@ -183,15 +163,8 @@ module _ (heads : Heads) (marks : List ℕ) (p n : ℕ) (there : (j : ℕ) → j
     place_none u h = h ∙ all_same (λ j. eqb (x j) 0) fits 64 (λ j l. none-fits heads p j (x j) l pair (sym (there-old p pair) ∙ le-ltb p k u))
 
 -- ---- targets
-pub wrapped_fits : (t : ℕ) → t < 65536 → leb ((t + 1) % 65536) 4160 ≡ bool (target_fits t)
-wrapped_fits t l = go (dec_lt t 4160) (ℕ_discrete t 65535)
-  where
-    go : Dec (t < 4160) → Dec (t ≡ 65535) → leb ((t + 1) % 65536) 4160 ≡ bool (target_fits t)
-    go (yes u) d = rw (le-leb ((t + 1) % 65536) 4160 (omega arith), lt-ltb t 4160 u)
-    go (no n) (yes z) = rw (le-leb ((t + 1) % 65536) 4160 (omega arith), le-ltb t 4160 (omega arith), eq-eqb t 65535 z)
-    go (no n) (no z) = rw (lt-leb ((t + 1) % 65536) 4160 (omega arith), le-ltb t 4160 (omega arith), ne_eqb t 65535 z)
-
-pub fits_at : (targets : List ℕ) (i : ℕ) → bool (targets_fit targets) ≡ true → i < 8192 → Says (target_fits (get_or targets i 0))
+pub fits_at : (targets : List ℕ) (i : ℕ) → bool (targets_fit targets) ≡ true → i < 8192
+    → Says (target_fits (get_or targets i 0))
 unfolding targets_fit
 fits_at targets i h l = says (targets_fit targets) (T_true h) i l
 

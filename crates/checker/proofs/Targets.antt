@@ -100,9 +100,6 @@ module _ (new : Chart) (F : FaultlessChart new) {rows : List ℕ} (p k : ℕ) (e
   pub row_below : {q : NewPlace} → q.0 ≡ to rows k → q.0 < 64
   row_below z = subst (λ (x : ℕ). x < 64) (sym (z ∙ ap (λ (rows : List ℕ). to rows k) e)) (part_below new F p k (subst (λ (rows : List ℕ). k < size rows) e l))
 
-pub pair-below : {p : OldPlace} (m : ℕ) → p ≡ old_of m → m < 4096 → p.0 < 64
-pair-below m e l = subst (λ (p : OldPlace). p.0 < 64) (sym e) (omega arith)
-
 module _ (X : Compared) (G : Graph) (m : ℕ) (o : Operation) (x t : ℕ) {p : OldPlace} {a : Option Spot} (e : p ≡ old_of m)
     (s : a ≡ step X (record { place = p; set = set_at G m }) o (record { 0 = x })) where
   same_step : a ≡ step X (spot G m) o (record { 0 = x })
@@ -189,7 +186,8 @@ node-below t (inl l) n = l
 node-below t (inr e) n = absurd (n e)
 
 -- what the walk over rows or pairs comes upon is the first
-pub found_at : {A : Type 0} (f : ℕ → Option A) (n i : ℕ) {x : A} → i < n → first_of i f ≡ None → f i ≡ Some x → Some x ≡ first_of n f
+pub found_at : {A : Type 0} (f : ℕ → Option A) (n i : ℕ) {x : A} → i < n → first_of i f ≡ None → f i ≡ Some x
+    → Some x ≡ first_of n f
 found_at f n i {x} l e h = sym (first_at_lem f n i l e (ap missing h) ∙ h)
 
 -- a pair's two rows, one after the other

@@ -8,19 +8,27 @@ use Rattle.checker.proofs.Answering.{shape_refused, rules_judged, fitting}
 use Rattle.checker.proofs.record_fault.Goals as goal
 
 pub returns-then-not-shaped : goal.returns-then-not-shaped
-returns-then-not-shaped c = ap Some c.sole.ensures ∙ shape_refused _ (record_of _ _ _ _) c.shaped.ensures c.if-not-shaped.true
+returns-then-not-shaped c =
+    ap Some c.sole.ensures ∙ shape_refused _ (record_of _ _ _ _) c.shaped.ensures c.if-not-shaped.true
 
 pub invariant_of-examined : goal.invariant_of-examined
 invariant_of-examined c =
     let a = c.args in
     let X = compared a.heads a.old_rows.now a.new_rows.now in
-    record { fitting = fitting X (record_of a.start a.marks.now a.targets.now a.sets.now) c.shaped.ensures c.if-not-shaped.false }
+    let R = record_of a.start a.marks.now a.targets.now a.sets.now in
+    record { fitting = fitting X R c.shaped.ensures c.if-not-shaped.false }
 
 pub returns-in-Some : goal.returns-in-Some
 returns-in-Some c =
+    let a = c.args in
+    let R = record_of a.start a.marks.now a.targets.now a.sets.now in
     ap Some c.sole-in-Some.ensures
-    ∙ rules_judged _ (record_of _ _ _ _) c.shaped.ensures c.if-not-shaped.false (sym c.in-Some.is ∙ c.broken.ensures ∙ ap (λ (X : Compared). broken X (record_of c.args.start c.args.marks.now c.args.targets.now c.args.sets.now)) c.new-charts.ensures)
+    ∙ rules_judged _ R c.shaped.ensures c.if-not-shaped.false
+    (sym c.in-Some.is ∙ c.broken.ensures ∙ ap (λ (X : Compared). broken X R) c.new-charts.ensures)
 
 pub returns-in-None : goal.returns-in-None
 returns-in-None c =
-    rules_judged _ (record_of _ _ _ _) c.shaped.ensures c.if-not-shaped.false (sym c.in-None.is ∙ c.broken.ensures ∙ ap (λ (X : Compared). broken X (record_of c.args.start c.args.marks.now c.args.targets.now c.args.sets.now)) c.new-charts.ensures)
+    let a = c.args in
+    let R = record_of a.start a.marks.now a.targets.now a.sets.now in
+    rules_judged _ R c.shaped.ensures c.if-not-shaped.false
+    (sym c.in-None.is ∙ c.broken.ensures ∙ ap (λ (X : Compared). broken X R) c.new-charts.ensures)

@@ -7,8 +7,5 @@ use Rattle.checker.proofs.inner.rules.absent.Goals as goal
 pub returns-then-word-eq0 : goal.returns-then-word-eq0
 returns-then-word-eq0 c = (omega arith, none_of_eight _ (λ i. omega (arith, c.type_inv.marks i)) _ c.eight-word.ensures c.if-word-eq0.true (omega arith))
 
-pub overflow_cast-result : goal.overflow_cast-result
-overflow_cast-result c = omega (arith, trailing_le 64 c.eight-word.result)
-
 pub returns : goal.returns
 returns c = (omega (arith, trailing_le 64 c.eight-word.result), first_of_eight _ (λ i. omega (arith, c.type_inv.marks i)) _ c.eight-word.ensures)

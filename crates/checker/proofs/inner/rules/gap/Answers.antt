@@ -5,6 +5,3 @@ use Rattle.checker.proofs.inner.rules.gap.Goals as goal
 
 pub returns-then-blank : goal.returns-then-blank
 returns-then-blank c = (omega arith, absent_all c.args.marks.now _ 64 c.blank.ensures c.if-blank.true)
-
-pub returns : goal.returns
-returns c = (omega (arith, c.absent.ensures.0), c.absent.ensures.1)

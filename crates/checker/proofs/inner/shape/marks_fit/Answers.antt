@@ -13,7 +13,8 @@ loop-p-init c = refl
 
 pub returns-then-not-place_fits : goal.returns-then-not-place_fits
 unfolding marks_fit
-returns-then-not-place_fits c = part_fails _ 4160 c.loop-p.p (omega arith) c.loop-p.invariant c.place_fits.ensures (c.if-not-place_fits.true)
+returns-then-not-place_fits c =
+    part_fails _ 4160 c.loop-p.p (omega arith) c.loop-p.invariant c.place_fits.ensures c.if-not-place_fits.true
 
 pub loop-p-preserved : goal.loop-p-preserved
 loop-p-preserved c = part_more _ _ c.loop-p.invariant c.place_fits.ensures (c.if-not-place_fits.false)

@@ -1,5 +1,5 @@
--- `checker::inner::shape::targets_fit` meets its contract. The invariant: the largest is at most 4,160 exactly where each
--- one passed fits. Assumes nothing.
+-- `checker::inner::shape::targets_fit` meets its contract. The invariant: the largest is at most 4,160 exactly where
+-- each one passed fits. Assumes nothing.
 use Rattle.std.proofs.Common.{refl, ◌∙◌, leb, ap}
 use Rattle.base.specs.Says.{every}
 use Rattle.checker.specs.Rules.{targets_fit}
@@ -12,7 +12,8 @@ unfolding every
 loop-i-init c = refl
 
 pub loop-i-preserved : goal.loop-i-preserved
-loop-i-preserved c = all_next _ _ c.loop-i.invariant c.wrapped.ensures (ap (λ m. leb m 4160) c.max-w.ensures ∙ larger _ _ 4160)
+loop-i-preserved c =
+    all_next _ _ c.loop-i.invariant c.wrapped.ensures (ap (λ m. leb m 4160) c.max-w.ensures ∙ larger _ _ 4160)
 
 pub returns : goal.returns
 unfolding targets_fit

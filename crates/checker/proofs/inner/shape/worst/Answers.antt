@@ -12,4 +12,6 @@ unfolding every
 loop-j-init c = λ k l. leb-zero k
 
 pub loop-j-preserved : goal.loop-j-preserved
-loop-j-preserved c = λ k l. all_next _ _ (c.loop-j.invariant k l) (c.rated.ensures k l) (ap (λ m. leb m k) c.max-w.ensures ∙ larger _ _ k)
+loop-j-preserved c = λ k l.
+    all_next _ _ (c.loop-j.invariant k l) (c.rated.ensures k l)
+    (ap (λ m. leb m k) c.max-w.ensures ∙ larger _ _ k)

@@ -1,4 +1,5 @@
--- `checker::inner::examined::Examined::first_fault` meets its contract. The invariant: no pair passed has a fault. Assumes nothing.
+-- `checker::inner::examined::Examined::first_fault` meets its contract. The invariant: no pair passed has a fault.
+-- Assumes nothing.
 use Rattle.std.proofs.Common.{◌≡◌, ◌-◌, ◌≤◌}
 use Rattle.checker.specs.Checks.{pair_fault}
 use Rattle.base.specs.Options.{first_of}

@@ -12,4 +12,6 @@ pub returns-then-t-ge4096 : goal.returns-then-t-ge4096
 returns-then-t-ge4096 c = rests_nowhere _ _ _ c.if-t-eq65535.false c.keeps.ensures c.if-keeps.false c.if-t-ge4096.true
 
 pub returns : goal.returns
-returns c = rests_present _ _ _ c.if-t-eq65535.false c.keeps.ensures c.if-keeps.false c.if-t-ge4096.false c.new_of.ensures c.eq.ensures
+returns c =
+    rests_present _ _ _ c.if-t-eq65535.false c.keeps.ensures c.if-keeps.false c.if-t-ge4096.false c.new_of.ensures
+    c.eq.ensures

@@ -5,9 +5,6 @@ use Rattle.checker.proofs.Targets.{row_astray, row-ranked}
 use Rattle.checker.specs.inner.Presences.{graph_at}
 use Rattle.checker.proofs.inner.present.Present.row_fits.Goals as goal
 
-pub leads-requires : goal.leads-requires
-leads-requires c = c.requires.0
-
 pub returns-then-not-leads : goal.returns-then-not-leads
 returns-then-not-leads c = row_astray _ (graph_at c.args.self.now) _ _ _ c.leads.ensures (c.if-not-leads.true)
 

@@ -12,10 +12,14 @@ unfolding first_of
 loop-k-init c = refl
 
 pub returns-in-Some : goal.returns-in-Some
-returns-in-Some c = found_at _ 2 _ (omega arith) c.loop-k.invariant (sym c.target_fault.ensures ∙ c.in-Some.is) ∙ both-rows _ (graph_at c.args.self.now) _ _
+returns-in-Some c =
+    found_at _ 2 _ (omega arith) c.loop-k.invariant (sym c.target_fault.ensures ∙ c.in-Some.is)
+    ∙ both-rows _ (graph_at c.args.self.now) _ _
 
 pub loop-k-preserved : goal.loop-k-preserved
 loop-k-preserved c = none_at _ _ c.loop-k.invariant (ap missing (sym c.target_fault.ensures ∙ c.in_default.is))
 
 pub returns : goal.returns
-returns c = none_all _ 2 _ c.loop-k.auto.k-end c.loop-k-test.false c.loop-k.invariant ∙ both-rows _ (graph_at c.args.self.now) _ _
+returns c =
+    none_all _ 2 _ c.loop-k.auto.k-end c.loop-k-test.false c.loop-k.invariant
+    ∙ both-rows _ (graph_at c.args.self.now) _ _
