@@ -2,6 +2,7 @@
 use mathlib.Core.Path.{◌≡◌, refl, sym, ap, subst, ◌∙◌}
 use mathlib.Core.List.{List}
 use Rattle.std.specs.Prelude.{Option, None, Some, Ok, Err}
+use Rattle.std.specs.Result.{IsOkAnd, MatchResult, result_err}
 use Prim.Native.Nat.{ℕ, ◌%◌, ◌^◌, ◌≤◌, ◌<◌}
 use native.Mathlib.Omega.{arith}
 use lib.ListN.{length, get_or}
@@ -14,7 +15,8 @@ use Rattle.base.proofs.Fits.{unless-fits, mapped-fits}
 use Rattle.base.proofs.OnSome.{OnSome}
 use Rattle.chart.specs.Charts.{Chart, charted}
 use Rattle.chart.specs.Faultless.{FaultlessChart}
-use Rattle.text.specs.Texts.{Heading, heading, read_into}
+use Rattle.text.specs.declared.answers.Heading.{Heading}
+use Rattle.text.specs.Texts.{heading, read_into}
 use Rattle.text.specs.Written.{writing}
 use Rattle.text.proofs.Bounds.{read_fits, Short, write_fits}
 use Rattle.text.proofs.Filed.{u32s}
@@ -23,16 +25,12 @@ use Rattle.checker.specs.Checks.{refusal}
 use Rattle.graph.specs.Buffers.{Buffers}
 use Rattle.paper.specs.Returned.{Returned}
 use Rattle.condition.specs.declared.Summary.{Summary}
-use Rattle.builder.specs.declared.answers.Built.{Built}
-use Rattle.builder.specs.declared.answers.Built.TheVariants as built
-use Rattle.builder.specs.Answers.{answered, told as told_built}
+use Rattle.builder.specs.Answers.{answered}
 use Rattle.builder.specs.inner.Small.{Small}
 use Rattle.builder.proofs.Bounds.{build_fits}
 use Rattle.picker.specs.declared.Four.{Four}
-use Rattle.picker.specs.declared.Answer.{Answer as Coded}
-use Rattle.picker.specs.declared.Answer.TheVariants.{Given, Refused}
 use Rattle.picker.specs.Numbers.{chart_of, number, one, of_chart, of_text, zeros, of_build}
-use Rattle.picker.specs.inner.Told.{told, Below, of_heading}
+use Rattle.picker.specs.inner.Below.{Below, of_heading}
 use Rattle.picker.proofs.Numbers.{first, refused-high}
 use Rattle.chart.specs.Compared.{Compared, compared, both_heads, both}
 use Rattle.chart.specs.Heads.{Head}
@@ -51,11 +49,17 @@ module _ {x y : Answer Four} (A : Answers x y) where
   pub makes : {n : ℕ} → n ≡ number x → n ≡ number y
   makes e = e ∙ ap number A.is
 
+-- what the code makes of an answer by a function that gives f
+pub made : {A B : Type 0} (f : A → B) (a : Answer A) (x : Answer B) → MatchResult a (λ y. IsOkAnd x (λ z. z ≡ f y)) (λ r. x ≡ Err r) → x ≡ mapped f a
+made {B = B} f (Ok y) (Ok z) h = ap (λ (z : B). Ok z) h
+made f (Ok y) (Err r) h = absurd h
+made f (Err r) x h = h
+
 -- the case that the code comes upon
-pub given_below : {x : Coded} {f : Four} → x ≡ Given f → FitsOr Below (told x) → Below f
+pub given_below : {x : Answer Four} {f : Four} → x ≡ Ok f → FitsOr Below x → Below f
 given_below e h = rw e at h
 
-pub refused-fits : {x : Coded} {r : Refusal} → x ≡ Refused r → FitsOr Below (told x) → Fits r
+pub refused-fits : {x : Answer Four} {r : Refusal} → x ≡ Err r → FitsOr Below x → Fits r
 refused-fits e h = rw e at h
 
 pub one_below : (n : ℕ) → n < 2 ^ 14 → Below (one n)
@@ -94,9 +98,13 @@ module _ (places alarm : ℕ) (rows : List ℕ) (lent : ℕ) where
       }
 
 -- ---- a refusal that may be due
-pub due_answers : {p : Option Refusal} → OnSome Fits p → {x : Answer Four} {o : Option Refusal} → o ≡ p → x ≡ unless o zeros → Answers x (unless p zeros)
-due_answers {p} h e i =
-    record { is = i ∙ ap (λ (o : Option Refusal). unless o zeros) e; fits = unless-fits Below p zeros h (λ _. one_below 0 (omega arith)) }
+passed : (a : Answer Unit) → mapped (λ (_ : Unit). zeros) a ≡ unless (result_err a) zeros
+passed (Ok _) = refl
+passed (Err r) = refl
+
+pub due_answers : {p : Option Refusal} → OnSome Fits p → {x : Answer Four} (a : Answer Unit) → result_err a ≡ p → x ≡ mapped (λ (_ : Unit). zeros) a → Answers x (unless p zeros)
+due_answers {p} h a e i =
+    record { is = i ∙ passed a ∙ ap (λ (o : Option Refusal). unless o zeros) e; fits = unless-fits Below p zeros h (λ _. one_below 0 (omega arith)) }
 
 -- the number is 0 only where none is due
 pub none-due : (p : Option Refusal) → OnSome Fits p → number (unless p zeros) ≡ 0 → p ≡ None
@@ -122,19 +130,19 @@ module _ (X : Compared) (g : Buffers) where
       }
 
 -- what is below 2^56 tells the start
-module _ {b : Built} {x : Answer Four} (i : x ≡ mapped of_build (told_built b)) (h : FitsOr Below x) {n : ℕ} (e : n ≡ number x) (l : n < 2 ^ 56) where
-  told-start : (P : ℕ → Type 0) → ((s : Summary) → b ≡ built.Done s → P s.start) → P (n % 2 ^ 14)
+module _ {b : Answer Summary} {x : Answer Four} (i : x ≡ mapped of_build b) (h : FitsOr Below x) {n : ℕ} (e : n ≡ number x) (l : n < 2 ^ 56) where
+  told-start : (P : ℕ → Type 0) → ((s : Summary) → b ≡ Ok s → P s.start) → P (n % 2 ^ 14)
   told-start P f = go b refl i h
     where
-      go : (a : Built) → b ≡ a → x ≡ mapped of_build (told_built a) → FitsOr Below x → P (n % 2 ^ 14)
-      go (built.Done s) c i h = let j = e ∙ ap number i in subst P (first (of_build s) (rw i at h) ∙ ap (λ (n : ℕ). n % 2 ^ 14) (sym j)) (f s c)
-      go (built.Refused r) c i h = let j = e ∙ ap number i in absurd (omega (arith, refused-high r (rw i at h)))
+      go : (a : Answer Summary) → b ≡ a → x ≡ mapped of_build a → FitsOr Below x → P (n % 2 ^ 14)
+      go (Ok s) c i h = let j = e ∙ ap number i in subst P (first (of_build s) (rw i at h) ∙ ap (λ (n : ℕ). n % 2 ^ 14) (sym j)) (f s c)
+      go (Err r) c i h = let j = e ∙ ap number i in absurd (omega (arith, refused-high r (rw i at h)))
 
   module _ (X : Compared) (marks targets sets : List ℕ) where
-    pub built_passes : ((s : Summary) → b ≡ built.Done s → refusal X (record_of s.start marks targets sets) ≡ None)
+    pub built_passes : ((s : Summary) → b ≡ Ok s → refusal X (record_of s.start marks targets sets) ≡ None)
         → refusal X (record_of (n % 2 ^ 14) marks targets sets) ≡ None
     built_passes = told-start (λ (k : ℕ). refusal X (record_of k marks targets sets) ≡ None)
 
-    pub built-returned : ((s : Summary) → b ≡ built.Done s → Returned X (record_of s.start marks targets sets))
+    pub built-returned : ((s : Summary) → b ≡ Ok s → Returned X (record_of s.start marks targets sets))
         → Returned X (record_of (n % 2 ^ 14) marks targets sets)
     built-returned = told-start (λ (k : ℕ). Returned X (record_of k marks targets sets))

@@ -7,7 +7,8 @@ use Prim.Native.Nat.{ℕ, ◌/◌, ◌^◌, ◌≤◌, ◌<◌}
 use native.Mathlib.Omega.{arith}
 use borrow.Author.Tests.{eq-eqb, ne_eqb}
 use lib.Dec.{eqb, ltb}
-use lib.ListN.{length, get_or, drop}
+use lib.ListN.{length, get_or, take, drop}
+use lib.Seq.{length-take-le}
 use Rattle.std.specs.Prelude.{Ok, Err}
 use Rattle.base.specs.Chains.{mapped}
 use Rattle.base.specs.Options.{missing}
@@ -26,7 +27,7 @@ use Rattle.chart.proofs.Parts.{whole, two_at_most}
 use Rattle.picker.specs.declared.Four.{Four}
 use Rattle.picker.specs.Numbers.{number, one}
 use Rattle.picker.specs.Lookups.{looked_up, handed, of_rows}
-use Rattle.picker.specs.inner.Told.{Below}
+use Rattle.picker.specs.inner.Below.{Below}
 use Rattle.picker.proofs.Answers.{one_below}
 
 -- the refusal of another length than 12
@@ -58,8 +59,15 @@ module _ (X : Compared) (chart p : ℕ) where
       go false true = open_short X.new w p (open_to X.new p) refl
       go false false = omega arith
 
-  pub part_short : {part : List ℕ} → Words X.old → Words X.new → part ≡ lookup X chart p → length part ≤ 12
+  part_short : {part : List ℕ} → Words X.old → Words X.new → part ≡ lookup X chart p → length part ≤ 12
   part_short v w e = rw e (short v w)
+
+  -- it has room where 12 entries are lent
+  pub part_fits : {part : List ℕ} (rows : List ℕ) → Words X.old → Words X.new → part ≡ lookup X chart p → length rows ≡ 12
+      → (length part ≤ length rows) × (length (take (length part) rows) ≡ length part)
+  part_fits {part} rows v w e h =
+      let l : length part ≤ length rows = omega (arith, part_short v w e, h) in
+      (l, length-take-le _ rows l)
 
   pub part_below : {part : List ℕ} {f : Four} → Words X.old → Words X.new → part ≡ lookup X chart p → f ≡ one (length part / 6) → Below f
   part_below {part} v w e i = rw i (one_below (length part / 6) (omega (arith, part_short v w e)))

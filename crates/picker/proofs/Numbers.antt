@@ -9,7 +9,7 @@ use Rattle.base.specs.declared.Refusal.{Refusal}
 use Rattle.base.specs.inner.Fits.{Fits, FitsOr}
 use Rattle.picker.specs.declared.Four.{Four}
 use Rattle.picker.specs.Numbers.{number}
-use Rattle.picker.specs.inner.Told.{Below}
+use Rattle.picker.specs.inner.Below.{Below}
 
 -- ---- four numbers
 module _ (f : Four) (h : Below f) where

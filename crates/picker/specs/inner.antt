@@ -1,2 +1,2 @@
 -- What only the private functions need.
-pub mod Told
+pub mod Below

@@ -2,30 +2,28 @@
 // the lookup copies besides, and none has a `requires`.
 #![tactic(auto)]
 
-ghost use Rattle.std.specs.Prelude.{◌≡◌, ◌%◌, ◌^◌, ◌<◌, length, None};
+ghost use Rattle.std.specs.Prelude.{◌≡◌, ◌%◌, ◌^◌, ◌<◌, length, None, Ok, Err};
 ghost use Rattle.base.specs.Chains.{mapped};
 ghost use Rattle.base.specs.Refusals.{unless};
-ghost use Rattle.base.specs.inner.Fits.{FitsOr};
+ghost use Rattle.base.specs.inner.Fits.{Fits, FitsOr};
 ghost use Rattle.chart.specs.Compared.{both, both_heads};
-ghost use Rattle.chart.specs.Faults.{refusal as chart_refusal, told as told_judged};
-ghost use Rattle.text.specs.Texts.{read_into, filled, told_read};
-ghost use Rattle.text.specs.Written.{writing, printed, told_wrote};
+ghost use Rattle.chart.specs.Faults.{refusal as chart_refusal};
+ghost use Rattle.text.specs.Texts.{read_into, filled};
+ghost use Rattle.text.specs.Written.{writing, printed};
 ghost use Rattle.records.specs.Records.{record_of};
-ghost use Rattle.checker.specs.Checks.{refusal, told as told_checked};
+ghost use Rattle.checker.specs.Checks.{refusal};
 ghost use Rattle.checker.specs.Promise.{Promise};
 ghost use Rattle.graph.specs.Buffers.{buffers};
 ghost use Rattle.paper.specs.Returned.{Returned};
-ghost use Rattle.builder.specs.Answers.{answered, left, told as told_built};
+ghost use Rattle.builder.specs.Answers.{answered, left};
 ghost use Rattle.picker.specs.Lookups.{looked_up, handed, of_rows};
 ghost use Rattle.picker.specs.Numbers.{chart_of, number, one, of_chart, of_text, zeros, of_build};
-ghost use Rattle.picker.specs.inner.Told.{told, Below, of_heading};
+ghost use Rattle.picker.specs.inner.Below.{Below, of_heading};
 
-use base::{Refusal, sole};
-use builder::answers::Built;
-use chart::charts::{Head, Heads, Judged, both_heads};
-use checker::answers::Checked;
-use text::answers::{Read, Wrote};
-use text::inner::table::copy;
+use base::{Reason, Refusal, sole};
+use chart::charts::{Head, Heads, both_heads};
+use condition::Summary;
+use text::answers::Heading;
 
 // Up to four numbers that a call gives.
 #[derive(Clone, Copy)]
@@ -36,97 +34,81 @@ struct Four {
     d: u64,
 }
 
-// What a call answers, whichever it is.
-#[derive(Clone, Copy)]
-enum Answer {
-    Given(Four),
-    Refused(Refusal),
-}
+// One number, 0, 0, 0.
+impl From<usize> for Four {
+    ghost from_gives = { λ n four. four ≡ one n };
 
-// An answer as one number.
-fn packed(answer: Answer) -> u64
-    requires { FitsOr Below (told answer) }
-    ensures { result ≡ number (told answer) }
-{
-    match answer {
-        Answer::Given(f) => f.a + f.b * 16384 + f.c * 268435456 + f.d * 4398046511104,
-        Answer::Refused(r) => {
-            r.number as u64 * 72057594037927936
-                + r.chart as u64 * 281474976710656
-                + r.position as u64
+    fn from(n: usize) -> Four {
+        Four {
+            a: n as u64,
+            b: 0,
+            c: 0,
+            d: 0,
         }
     }
 }
 
-// One number, 0, 0, 0.
-fn one(n: usize) -> Four
-    ensures { result ≡ one n }
-{
-    Four {
-        a: n as u64,
-        b: 0,
-        c: 0,
-        d: 0,
+// Of a call that gives nothing: 0, 0, 0, 0.
+impl From<()> for Four {
+    ghost from_gives = { λ nothing four. four ≡ zeros };
+
+    fn from(_: ()) -> Four {
+        Four::from(0usize)
     }
 }
 
-// The reader's: places, alarm, rows, 0.
-fn of_read(answer: Read) -> Answer
-    ensures { told result ≡ mapped of_heading (told_read answer) }
-{
-    match answer {
-        Read::Chart(head, rows) => Answer::Given(Four {
-            a: head.places as u64,
-            b: head.alarm as u64,
-            c: rows as u64,
+// Of a chart that is read: places, alarm, rows, 0.
+impl From<Heading> for Four {
+    ghost from_gives = { λ heading four. four ≡ of_heading heading };
+
+    fn from(heading: Heading) -> Four {
+        Four {
+            a: heading.head.places as u64,
+            b: heading.head.alarm as u64,
+            c: heading.rows as u64,
             d: 0,
-        }),
-        Read::Refused(r) => Answer::Refused(r),
+        }
     }
 }
 
-// The writer's: the count of bytes, 0, 0, 0.
-fn of_wrote(answer: Wrote) -> Answer
-    ensures { told result ≡ mapped one (told_wrote answer) }
-{
-    match answer {
-        Wrote::Bytes(n) => Answer::Given(one(n)),
-        Wrote::Refused(r) => Answer::Refused(r),
+// Of a build: start, open, kept, covered.
+impl From<Summary> for Four {
+    ghost from_gives = { λ summary four. four ≡ of_build summary };
+
+    fn from(summary: Summary) -> Four {
+        Four {
+            a: summary.start as u64,
+            b: summary.opened as u64,
+            c: summary.kept as u64,
+            d: summary.covered as u64,
+        }
     }
 }
 
-// The judge's: 0, 0, 0, 0.
-fn of_judged(answer: Judged) -> Answer
-    ensures { told result ≡ unless (told_judged answer) zeros }
+// Four numbers as one: they fit their places, so that no sum wraps.
+fn given(f: Four) -> u64
+    requires { Below f }
+    ensures { result ≡ number (Ok f) }
 {
-    match answer {
-        Judged::Faultless => Answer::Given(one(0)),
-        Judged::Refused(r) => Answer::Refused(r),
-    }
+    f.a + f.b * 16384 + f.c * 268435456 + f.d * 4398046511104
 }
 
-// The check's: 0, 0, 0, 0.
-fn of_checked(answer: Checked) -> Answer
-    ensures { told result ≡ unless (told_checked answer) zeros }
+// A refusal as one number, above those of what is given.
+fn refused(r: Refusal) -> u64
+    requires { Fits r }
+    ensures { result ≡ number (Err r) }
 {
-    match answer {
-        Checked::Passed => Answer::Given(one(0)),
-        Checked::Refused(r) => Answer::Refused(r),
-    }
+    r.number as u64 * 72057594037927936 + r.chart as u64 * 281474976710656 + r.position as u64
 }
 
-// The builder's: start, open, kept, covered.
-fn of_built(answer: Built) -> Answer
-    ensures { told result ≡ mapped of_build (told_built answer) }
+// An answer as one number.
+fn packed(answer: Result<Four, Refusal>) -> u64
+    requires { FitsOr Below answer }
+    ensures { result ≡ number answer }
 {
     match answer {
-        Built::Done(s) => Answer::Given(Four {
-            a: s.start as u64,
-            b: s.opened as u64,
-            c: s.kept as u64,
-            d: s.covered as u64,
-        }),
-        Built::Refused(r) => Answer::Refused(r),
+        Ok(f) => given(f),
+        Err(r) => refused(r),
     }
 }
 
@@ -158,7 +140,7 @@ pub extern "C" fn picker_read(text: &[u8], table: &mut [u32]) -> u64
     ensures { (result ≡ number (mapped of_chart (read_into text.now table.old)))
         × (table.new ≡ filled (read_into text.now table.old) table.old) }
 {
-    packed(of_read(text::read(text, table)))
+    packed(text::read(text, table).map(Four::from))
 }
 
 // The text of a chart, at the front of the bytes: the count of its bytes, 0, 0, 0.
@@ -169,7 +151,7 @@ pub extern "C" fn picker_write(places: u32, alarm: u32, rows: &[u32], bytes: &mu
         × (bytes.new ≡ printed
         (writing (chart_of places alarm rows.now) (length bytes.old)) bytes.old) }
 {
-    packed(of_wrote(text::write(Head { places, alarm }, rows, bytes)))
+    packed(text::write(Head { places, alarm }, rows, bytes).map(Four::from))
 }
 
 // The first refusal that is due for a chart: 0, 0, 0, 0 where none is.
@@ -177,7 +159,7 @@ pub extern "C" fn picker_write(places: u32, alarm: u32, rows: &[u32], bytes: &mu
 pub extern "C" fn picker_judge(places: u32, alarm: u32, rows: &[u32]) -> u64
     ensures { result ≡ number (unless (chart_refusal (chart_of places alarm rows.now)) zeros) }
 {
-    packed(of_judged(chart::judge(Head { places, alarm }, rows)))
+    packed(chart::judge(Head { places, alarm }, rows).map(Four::from))
 }
 
 // The rows that leave a place of the chart named (0 old, 1 new), at the front of 12 entries: how many rows, 0, 0, 0. No
@@ -204,12 +186,13 @@ pub extern "C" fn picker_lookup<'a>(
         chart place rows.old) rows.old) }
 {
     if rows.len() != 12 {
-        return packed(Answer::Refused(sole(21, 0)));
+        return packed(Err(sole(Reason::WrongCall, 0)));
     }
     let heads = lent_heads(1, old_places, old_alarm, new_places, new_alarm);
     let part = chart::lookup(heads, old_rows, new_rows, chart, place);
-    copy(part, rows);
-    packed(Answer::Given(one(part.len() / 6)))
+    let n = part.len();
+    rows[..n].copy_from_slice(part);
+    packed(Ok(Four::from(n / 6)))
 }
 
 // The check of a record by an edition: 0, 0, 0, 0 where it passes. What passes keeps the promise: a run of the new
@@ -239,7 +222,7 @@ pub extern "C" fn picker_check<'a>(
         (record_of start marks.now targets.now sets.now) }
 {
     let heads = lent_heads(edition, old_places, old_alarm, new_places, new_alarm);
-    packed(of_checked(checker::check(heads, old_rows, new_rows, start, marks, targets, sets)))
+    packed(checker::check(heads, old_rows, new_rows, start, marks, targets, sets).map(Four::from))
 }
 
 // A build by an edition: start, open, kept, covered. What an answer below 2^56 leaves in marks, targets and sets, with
@@ -279,5 +262,5 @@ pub extern "C" fn picker_build<'a>(
         (record_of (result % 2 ^ 14) marks.new targets.new sets.new) }
 {
     let heads = lent_heads(edition, old_places, old_alarm, new_places, new_alarm);
-    packed(of_built(builder::build(heads, old_rows, new_rows, marks, targets, sets, waiting)))
+    packed(builder::build(heads, old_rows, new_rows, marks, targets, sets, waiting).map(Four::from))
 }

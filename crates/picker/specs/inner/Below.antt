@@ -1,15 +1,7 @@
--- What the code makes one number of.
-use Rattle.std.specs.Prelude.{◌^◌, ◌<◌, Ok, Err}
-use Rattle.base.specs.Answers.{Answer}
-use Rattle.text.specs.Texts.{Heading}
+-- What only the private functions need of the numbers that a call gives.
+use Rattle.std.specs.Prelude.{◌^◌, ◌<◌}
+use Rattle.text.specs.declared.answers.Heading.{Heading}
 use Rattle.picker.specs.declared.Four.{Four}
-use Rattle.picker.specs.declared.Answer.{Answer as Coded}
-use Rattle.picker.specs.declared.Answer.TheVariants.{Given, Refused}
-
--- what the code's answer says
-abbrev pub told : Coded → Answer Four
-told (Given f) = Ok f
-told (Refused r) = Err r
 
 -- four numbers that have 14 bits each, as those of every answer have (proofs/Answers.antt)
 pub record Below (f : Four) : Type 0 where
