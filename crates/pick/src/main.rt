@@ -14,13 +14,14 @@ use base::Refusal;
 use builder::build;
 use chart::charts::{Heads, both_heads};
 use condition::Summary;
+use records::{Marks, Targets};
 use std::fs::File;
 use std::io;
 use std::io::{Print, Write};
 use std::rt::Files;
 
-// What is read of both files: the heads, and the row counts of the old and of the new chart. The rows stand at the front
-// of the tables.
+// What is read of both files: the heads, and the row counts of the old and of the new chart. The rows stand at the
+// front of the tables.
 #[derive(Clone, Copy)]
 pub struct Both {
     pub heads: Heads,
@@ -118,7 +119,7 @@ fn refuse<P: Print>(rt: &P, r: Refusal)
 }
 
 // The transitions, portion after portion, up to the first that standard output does not take whole.
-fn transitions<P: Print>(rt: &P, rows: &[u32], marks: &[u8; 4160], targets: &[u16; 8192]) {
+fn transitions<P: Print>(rt: &P, rows: &[u32], marks: &Marks, targets: &Targets) {
     let mut bytes = [0u8; 1024];
     let mut pair = 0;
     while pair < 4096 {
