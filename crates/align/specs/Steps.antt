@@ -49,7 +49,8 @@ matching rows o =
 -- 16 and 17)
 unfoldable pub matched : ℕ → List ℕ → ℕ → Operation → Option Spot
 matched s rows k o =
-    when (not (meets s (read_set o) || meets s (read_set (operation rows k)))) (record { place = old_to rows k; set = s })
+    when (not (meets s (read_set o) || meets s (read_set (operation rows k))))
+    (record { place = old_to rows k; set = s })
 
 -- "The set is V with the written variable if V meets the read ones, else V without it." (lines 7 and 8)
 unfoldable pub rewritten : ℕ → Operation → ℕ

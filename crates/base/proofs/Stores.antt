@@ -1,35 +1,14 @@
--- Stores one after another that make the lists of the definitions: all elements, each element anew, or those of another list. Assumes nothing.
-use mathlib.Core.Path.{◌≡◌, refl, sym, ap, ◌∙◌, subst}
-use mathlib.Core.List.{List, ◌++◌, append-nil}
+-- Stores one after another that make each element of a list anew. Assumes nothing.
+use mathlib.Core.Path.{◌≡◌, refl, sym, ap, ◌∙◌}
+use mathlib.Core.List.{List}
 use mathlib.Core.Logic.{dite}
-use Prim.Native.Nat.{ℕ, suc, ◌+◌, ◌≤◌, ◌<◌}
-use native.Mathlib.Numerals.{add-one}
+use Prim.Native.Nat.{ℕ, ◌+◌, ◌≤◌, ◌<◌}
 use native.Mathlib.Omega.{arith}
 use native.Mathlib.Decide.{ℕ_discrete, dec_lt}
-use borrow.Author.Fill.{fill_more}
-use lib.ListN.{length, get_or, set, drop, replicate, length-set, drop_of_length-le}
-use lib.Seq.{get_or-set_same, get_or-set_other, drop-length, take_all, paste, paste-zero, paste-suc, length-paste}
+use lib.ListN.{length, get_or, set, length-set}
+use lib.Seq.{get_or-set_same, get_or-set_other}
 use Rattle.base.specs.Walks.{pass}
 use Rattle.base.proofs.Walks.{pass-is}
-
--- a list d₀ whose first i elements have become v
-pub record Filling (d₀ : List ℕ) (v : ℕ) (d : List ℕ) (i : ℕ) : Type 0 where
-  pub is : d ≡ replicate i v ++ drop i d₀
-  pub most : i ≤ length d₀
-  pub long : length d ≡ length d₀
-
-pub filling_none : (d₀ : List ℕ) (v : ℕ) → Filling d₀ v d₀ 0
-filling_none d₀ v = record { is = refl; most = omega arith; long = refl }
-
-pub filling_more : {d₀ : List ℕ} {v : ℕ} {d : List ℕ} {i : ℕ} → Filling d₀ v d i → i < length d → Filling d₀ v (set d i v) (i + 1)
-filling_more {d₀} {v} {d} {i} f l =
-    let h : i < length d₀ = omega arith in
-    record { is = ap (λ (x : List ℕ). set x i v) f.is ∙ fill_more i v d₀ h; most = omega arith; long = length-set d i v ∙ f.long }
-
-pub filled : {d₀ : List ℕ} {v : ℕ} {d : List ℕ} {i : ℕ} → Filling d₀ v d i → length d ≤ i → d ≡ replicate (length d₀) v
-filled {d₀} {v} {d} {i} f l =
-    let e : i ≡ length d₀ = omega arith in
-    f.is ∙ rw e (rw drop-length (append-nil (replicate (length d₀) v)))
 
 -- a list each of whose elements is made anew, one store a turn: of the first i that is done
 pub record Passing (f : ℕ → ℕ → ℕ) (d₀ d : List ℕ) (i : ℕ) : Type 0 where
@@ -68,31 +47,3 @@ passing_gap g {i = i} P a b h =
       before = λ k l. dite (dec_lt k i) (λ m. P.before k m) (λ m. P.after k (omega arith) ∙ sym (h k (omega arith) l));
       after = λ k l. P.after k (omega arith);
     }
-
--- a list whose first elements become those of another, up to i
-pub record Copying (l d₀ d : List ℕ) (i : ℕ) : Type 0 where
-  pub is : d ≡ paste d₀ 0 l i
-  pub most : i ≤ length l
-  pub long : length d ≡ length d₀
-
-pub copying_start : (l d : List ℕ) → Copying l d d 0
-copying_start l d = record { is = paste-zero d 0 l; most = omega arith; long = refl }
-
-module _ (l d₀ d : List ℕ) (i : ℕ) where
-  pub copying_more : length l ≤ length d₀ → Copying l d₀ d i → i < length l → Copying l d₀ (set d i (get_or l i 0)) (i + 1)
-  copying_more w c h =
-      let z : 0 + i ≡ i = omega arith in
-      let s : set (paste d₀ 0 l i) i (get_or l i 0) ≡ paste d₀ 0 l (suc i) =
-      subst (λ (k : ℕ). set (paste d₀ 0 l i) k (get_or l i 0) ≡ paste d₀ 0 l (suc i)) z (paste-suc d₀ 0 l i 0 (omega arith) h) in
-      let e : set d i (get_or l i 0) ≡ paste d₀ 0 l (i + 1) = rw (c.is, add-one i) s in
-      record { is = e; most = omega arith; long = ap length e ∙ length-paste d₀ 0 l (i + 1) (omega arith) (omega arith) }
-
-  pub copying_done : Copying l d₀ d i → length l ≤ i → d ≡ l ++ drop (length l) d₀
-  copying_done c h =
-      let e : i ≡ length l = omega (arith, c.most) in
-      let z : 0 + length l ≡ length l = omega arith in
-      c.is ∙ rw (e, z, take_all (length l) l (omega arith))
-
-  -- all of a list
-  pub copying_whole : length d₀ ≡ length l → Copying l d₀ d i → length l ≤ i → d ≡ l
-  copying_whole e c h = copying_done c h ∙ rw (drop_of_length-le d₀ {i = length l} (omega arith)) (append-nil l)

@@ -82,9 +82,6 @@ module _ {x y k : ℕ} (C : Coming x y k) where
           left = λ i a b. same_else y q l i b (λ z. omega arith) ∙ C.left i (omega (arith, ahead)) b;
         })
 
-    pub coming_less : {z : ℕ} → z ≡ without y q → z < y
-    coming_less e = rw e (rest_less y q l (L.here l))
-
   -- where nothing is left, x has no bit from k on
   pub coming_end : y ≡ 0 → LowestFrom x k 64
   coming_end e =

@@ -6,7 +6,6 @@ use Rattle.align.proofs.Seek.{found_inside}
 use Rattle.chart.proofs.Parts.{part_right, later-row}
 use Rattle.operations.specs.Operations.{is_assignment, operands_fit}
 use Rattle.chart.specs.Charts.{size, operation}
-use Rattle.chart.proofs.Faultless.{ascends}
 use mathlib.Core.Bool.{true, false}
 use mathlib.Core.List.{List}
 use Prim.Native.Nat.{ℕ, ◌<◌}

@@ -1,10 +1,9 @@
 -- `align::inner::step::assigned` meets its contract: with the equal row, or without one. Assumes nothing.
-use mathlib.Core.Path.{◌≡◌, sym, ap, subst, ◌∙◌}
+use mathlib.Core.Path.{◌≡◌, sym, subst, ◌∙◌}
 use Rattle.align.proofs.Moves.{assigned_equal, assigned-unequal}
 use Rattle.align.proofs.Seek.{found_inside}
 use Rattle.operations.specs.declared.Operation.{Operation}
 use Rattle.operations.specs.Operations.{is_assignment, operands_fit}
-use Rattle.chart.proofs.Faultless.{ascends}
 use mathlib.Core.Bool.{true}
 use Prim.Native.Nat.{ℕ, ◌<◌}
 use Rattle.operations.proofs.Codes.{fit-a}

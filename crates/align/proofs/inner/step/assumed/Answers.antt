@@ -10,7 +10,6 @@ use Rattle.chart.specs.Charts.{size, operation}
 use mathlib.Core.Bool.{true}
 use mathlib.Core.List.{List}
 use Prim.Native.Nat.{ℕ, ◌<◌}
-use Rattle.chart.proofs.Faultless.{ascends}
 use Rattle.align.proofs.inner.step.assumed.Goals as goal
 
 pub returns-then-eq : goal.returns-then-eq

@@ -1,5 +1,5 @@
 -- `align::inner::step::moved` meets its contract: by an assignment, or by an assumption after what is followed. Assumes nothing.
-use mathlib.Core.Path.{sym, ap, ◌∙◌}
+use mathlib.Core.Path.{sym, ◌∙◌}
 use Rattle.base.proofs.OnSome.{on_at}
 use Rattle.align.proofs.Moves.{followed-below, moved-assigned, moved_twice, moved_assumed}
 use Rattle.align.proofs.ReadSets.{assuming}

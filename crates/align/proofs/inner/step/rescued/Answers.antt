@@ -1,5 +1,5 @@
 -- `align::inner::step::rescued` meets its contract: not in edition 1; at both alarms, elsewhere, or a place twice. Assumes nothing.
-use mathlib.Core.Path.{sym, ap, ◌∙◌}
+use mathlib.Core.Path.{sym, ◌∙◌}
 use Rattle.align.proofs.Moves.{rescued-first, rescued-both, rescued_elsewhere, rescued_twice}
 use borrow.Author.Tests.{eq-eqb, ne_eqb}
 use Rattle.align.proofs.inner.step.rescued.Goals as goal

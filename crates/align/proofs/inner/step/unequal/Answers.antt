@@ -1,13 +1,12 @@
 -- `align::inner::step::unequal` meets its contract: in edition 1 alone, in edition 2 with the old row that writes the
 -- variable, if there is one. Assumes nothing.
-use mathlib.Core.Path.{◌≡◌, sym, ap, subst, ◌∙◌}
+use mathlib.Core.Path.{◌≡◌, sym, subst, ◌∙◌}
 use mathlib.Core.Bool.{false}
 use mathlib.Core.List.{List}
 use Prim.Native.Nat.{ℕ, ◌<◌}
 use Rattle.operations.specs.Operations.{is_assignment}
 use Rattle.chart.specs.Charts.{size, operation}
 use Rattle.chart.proofs.Parts.{later-row}
-use Rattle.chart.proofs.Faultless.{ascends}
 use Rattle.align.proofs.Moves.{unequal-first, unequal-both, unequal-alone}
 use Rattle.align.proofs.Seek.{found_inside}
 use borrow.Author.Tests.{eq-eqb, ne_eqb}
