@@ -3,6 +3,7 @@
 use mathlib.Core.Path.{◌≡◌, refl, sym, ap, ◌∙◌}
 use mathlib.Core.List.{List, [], ◌∷◌, ◌++◌}
 use Prim.Native.Nat.{ℕ, ◌+◌, ◌%◌, ◌≤◌}
+use Rattle.std.specs.Prelude.{Option, None, Some}
 use native.Mathlib.Omega.{arith}
 use borrow.Author.Tests.{eq-eqb, ne_eqb}
 use lib.ListN.{length, get_or, take, drop}
@@ -13,7 +14,7 @@ use Rattle.text.specs.inner.Puts.{Put}
 use Rattle.text.proofs.Puts.{put_then, put-length}
 use Rattle.records.specs.Records.{Graph, graph_of, read_target}
 use Rattle.report.specs.Lines.{line, refusal_line}
-use Rattle.report.specs.Transitions.{first_row, transition, of_pair}
+use Rattle.report.specs.Transitions.{first_row, used, transition, transition_to, of_pair}
 use Rattle.condition.specs.declared.Summary.{Summary}
 use Rattle.report.specs.Printed.{summary_line}
 use Rattle.report.specs.Portions.{Front}
@@ -53,14 +54,12 @@ front-refusal before q after r l p = front-line before 9999 q.number q.chart q.p
 -- ---- one transition
 
 module _ (before : List ℕ) (at : ℕ) (marks : List ℕ) (n row x : ℕ) where
-  pub transition-none : x ≡ 65535 → (Put before at (transition marks n row x) before at) × (at ≤ at + 45)
-  unfolding transition
-  transition-none e = (rw (eq-eqb x 65535 e, transition) (put-none before at), omega arith)
+  pub transition-none : {o : Option ℕ} → o ≡ None → (Put before at (transition_to marks n row o) before at) × (at ≤ at + 45)
+  transition-none e = (rw e (put-none before at), omega arith)
 
-  pub transition-some : (m : ℕ) (after : List ℕ) (r : ℕ) → (x ≡ 65535 → ⊥) → m ≡ get_or marks x 0 → (Put before at (line n row x m) after r) × (r ≤ at + 45)
-      → (Put before at (transition marks n row x) after r) × (r ≤ at + 45)
-  unfolding transition
-  transition-some m after r h e p = (rw (ne_eqb x 65535 h, transition, ← e) p.0, p.1)
+  pub transition-some : {o : Option ℕ} (m : ℕ) (after : List ℕ) (r : ℕ) → o ≡ Some x → m ≡ get_or marks x 0
+      → (Put before at (line n row x m) after r) × (r ≤ at + 45) → (Put before at (transition_to marks n row o) after r) × (r ≤ at + 45)
+  transition-some m after r h e p = (rw (h, ← e) p.0, p.1)
 
 -- ---- one pair
 
@@ -70,10 +69,10 @@ module _ (before : List ℕ) (at : ℕ) (t : List ℕ) (G : Graph) (n m : ℕ) w
   pair-none h = (rw (ne_eqb m 1 h, of_pair) (put-none before at), omega arith)
 
   -- of the graph its targets alone are looked at
-  pub pair_two : (row x : ℕ) (middle : List ℕ) (p y : ℕ) (after : List ℕ) (r : ℕ) → m ≡ 1 → (row ≡ first_row t (n % 64)) × (row ≤ 128)
-      → x ≡ read_target t (graph_of [] G.targets []) n 0 → (Put before at (transition G.marks n row x) middle p) × (p ≤ at + 45)
-      → y ≡ read_target t (graph_of [] G.targets []) n 1 → (Put middle p (transition G.marks n (row + 1) y) after r) × (r ≤ p + 45)
+  pub pair_two : (row : ℕ) (x : Option ℕ) (middle : List ℕ) (p : ℕ) (y : Option ℕ) (after : List ℕ) (r : ℕ) → m ≡ 1 → (row ≡ first_row t (n % 64)) × (row ≤ 128)
+      → x ≡ used (read_target t (graph_of [] G.targets []) n 0) → (Put before at (transition_to G.marks n row x) middle p) × (p ≤ at + 45)
+      → y ≡ used (read_target t (graph_of [] G.targets []) n 1) → (Put middle p (transition_to G.marks n (row + 1) y) after r) × (r ≤ p + 45)
       → (Put before at (of_pair t G n m) after r) × (r ≤ at + 90)
-  unfolding of_pair read_target
+  unfolding of_pair read_target transition
   pair_two row x middle p y after r h e u f v g =
       (rw (eq-eqb m 1 h, of_pair, ← e.0, ← u, ← v) (put_then f.0 g.0), omega (arith, f.1, g.1))

@@ -1,6 +1,5 @@
--- The number that is printed for a row is its number in the table: as many rows stand before it as leave lower places, and before those of
--- its own place as its rank says.
--- Assumes nothing.
+-- The number that is printed for a row is its number in the table: as many rows stand before it as leave lower places,
+-- and before those of its own place as its rank says. Assumes nothing.
 use mathlib.Core.Path.{◌≡◌, refl, ap}
 use mathlib.Core.List.{List}
 use mathlib.Core.Logic.{dite}

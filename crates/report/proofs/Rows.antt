@@ -1,15 +1,14 @@
 -- Laws of counting rows, of the rows that never hold and of the mark of a node.
 -- Assumes nothing.
 use mathlib.Core.Path.{◌≡◌, refl, sym, ap, ◌∙◌}
-use mathlib.Core.Bool.{Bool, true, false, cond, not, ◌||◌}
+use mathlib.Core.Bool.{Bool, true, false, cond}
 use mathlib.Core.Logic.{dite}
 use mathlib.Core.List.{List, []}
 use Prim.Native.Nat.{ℕ, ◌+◌, ◌-◌, ◌*◌, ◌%◌, ◌≤◌, ◌<◌}
 use native.Mathlib.Numerals.{add-one}
 use native.Mathlib.Decide.{dec_lt}
 use native.Mathlib.Omega.{arith}
-use borrow.Author.Tests.{lt-ltb, le-ltb, eqb-true, not-true}
-use lib.Dec.{eqb}
+use borrow.Author.Tests.{lt-ltb, le-ltb, ne_eqb}
 use lib.ListN.{length, get_or, get_or-eq_default}
 use Rattle.operations.specs.Operations.{kind}
 use Rattle.operations.specs.Trials.{never_holds}
@@ -20,7 +19,8 @@ use Rattle.chart.proofs.Parts.{before, before_longer, before_same, whole, same_r
 use Rattle.chart.proofs.Takable.{part_none}
 use Rattle.records.specs.Records.{graph_of, target, read_target}
 use Rattle.records.proofs.Reading.{read_never, read_other}
-use Rattle.report.specs.Transitions.{rows_below, first_row}
+use Rattle.report.specs.Transitions.{rows_below, first_row, used}
+use Rattle.std.specs.Prelude.{None, Some}
 
 -- i rows are counted
 pub record Counted (t : List ℕ) (q rows i : ℕ) : Type 0 where
@@ -106,21 +106,26 @@ module _ (t targets : List ℕ) (n k x : ℕ) (here : x ≡ target (graph_of [] 
       go true h = refl
       go false h = h
 
-  -- where there is none, or the table has no row that never holds, it is read as it stands
-  pub taken-alike : {some : Bool} → NoneNever some t → eqb x 65535 || not some ≡ true → x ≡ read_target t (graph_of [] targets []) n k
-  taken-alike {some} N e = go (eqb x 65535) refl e
+  unused : {y : ℕ} → y ≡ 65535 → None ≡ used y
+  unused e = rw e refl
+
+  as_it_stands : (x ≡ 65535 → ⊥) → x ≡ read_target t (graph_of [] targets []) n k → Some x ≡ used (read_target t (graph_of [] targets []) n k)
+  as_it_stands h e = own ∙ ap used e
     where
-      go : (b : Bool) → eqb x 65535 ≡ b → b || not some ≡ true → x ≡ read_target t (graph_of [] targets []) n k
-      go true d f = taken_none (eqb-true x 65535 d)
-      go false d f = here ∙ sym (read_other t (graph_of [] targets []) n k (none_here t (new_of n).0 k N (not-true some f)))
+      own : Some x ≡ used x
+      own = rw (ne_eqb x 65535 h, used) refl
+
+  -- where there is none, none is read
+  pub unused-taken : x ≡ 65535 → None ≡ used (read_target t (graph_of [] targets []) n k)
+  unused-taken e = unused (sym (taken_none e) ∙ e)
+
+  -- where the table has no row that never holds, it is read as it stands
+  pub taken-alike : {some : Bool} → NoneNever some t → some ≡ false → (x ≡ 65535 → ⊥) → Some x ≡ used (read_target t (graph_of [] targets []) n k)
+  taken-alike N e h = as_it_stands h (here ∙ sym (read_other t (graph_of [] targets []) n k (none_here t (new_of n).0 k N e)))
 
   module _ (r : Bool) (tested : r ≡ never_holds (operation (leaving t (n % 64)) k)) where
-    pub taken-never : r ≡ true → 65535 ≡ read_target t (graph_of [] targets []) n k
-    taken-never e = sym (read_never t (graph_of [] targets []) n k (sym tested ∙ e))
+    pub taken-never : r ≡ true → None ≡ used (read_target t (graph_of [] targets []) n k)
+    taken-never e = unused (read_never t (graph_of [] targets []) n k (sym tested ∙ e))
 
-    pub taken_other : r ≡ false → x ≡ read_target t (graph_of [] targets []) n k
-    taken_other e = here ∙ sym (read_other t (graph_of [] targets []) n k (sym tested ∙ e))
-
--- ---- marks
-pub no_node : (marks : List ℕ) (n : ℕ) → length marks ≤ n → 0 ≡ get_or marks n 0
-no_node marks n h = sym (get_or-eq_default marks 0 {n = n} h)
+    pub taken_other : r ≡ false → (x ≡ 65535 → ⊥) → Some x ≡ used (read_target t (graph_of [] targets []) n k)
+    taken_other e h = as_it_stands h (here ∙ sym (read_other t (graph_of [] targets []) n k (sym tested ∙ e)))

@@ -1,6 +1,6 @@
 -- The transitions of a condition as they are printed ("Worked sessions"): "then for each transition (target of an open
 -- pair) its from node, row of the new table from 0, to node and that node's mark, by from and row".
-use Rattle.std.specs.Prelude.{true, false, List, [], ◌∷◌, ◌++◌, ℕ, zero, suc, ◌+◌, eqb, ltb, get_or}
+use Rattle.std.specs.Prelude.{true, false, Option, None, Some, List, [], ◌∷◌, ◌++◌, ℕ, zero, suc, ◌+◌, eqb, ltb, get_or}
 use Rattle.std.proofs.Math.Seq.{slice}
 use Rattle.chart.specs.Charts.{size, from}
 use Rattle.chart.specs.Places.{new_of}
@@ -18,10 +18,18 @@ unfoldable pub first_row : List ℕ → ℕ → ℕ
 first_row t q = rows_below t q (size t)
 
 -- ---- transitions
--- "its from node, row [..], to node and that node's mark": the transition from pair n by this row to x, if x is a
--- target: "unused targets are 65535"
+-- "unused targets are 65535": what stands at an entry, if it is a target
+abbrev pub used : ℕ → Option ℕ
+used x = elim (eqb x 65535) [ true ↦ None | false ↦ Some x ]
+
+-- "its from node, row [..], to node and that node's mark": the transition from pair n by this row, if there is a target
+abbrev pub transition_to : List ℕ → ℕ → ℕ → Option ℕ → List ℕ
+transition_to marks n row None = []
+transition_to marks n row (Some x) = line n row x (get_or marks x 0)
+
+-- the same to x, if x is a target
 unfoldable pub transition : List ℕ → ℕ → ℕ → ℕ → List ℕ
-transition marks n row x = elim (eqb x 65535) [ true ↦ [] | false ↦ line n row x (get_or marks x 0) ]
+transition marks n row x = transition_to marks n row (used x)
 
 module _ (t : List ℕ) (G : Graph) where
   -- "(target of an open pair)": those of pair n, whose mark is m, "for a place's first and second row". At a row that

@@ -5,7 +5,7 @@ ghost use Rattle.operations.specs.Trials.{never_holds};
 ghost use Rattle.chart.specs.Charts.{operation, leaving};
 ghost use Rattle.chart.specs.inner.NoneNever.{NoneNever};
 ghost use Rattle.records.specs.Records.{graph_of, read_target};
-ghost use Rattle.report.specs.Transitions.{first_row, transition, of_pair};
+ghost use Rattle.report.specs.Transitions.{first_row, used, transition_to, of_pair};
 ghost use Rattle.report.specs.Portions.{Portioned};
 
 use crate::inner::lines::put_line;
@@ -53,19 +53,23 @@ fn never_row(table: &[u32], place: u32, k: usize) -> bool
 
 // The target, at a pair, of row k of its new place, as a reader takes it: none where the row never holds. Where there
 // is none anyway, or the table has no row that never holds, as `any_never` says, the row is not looked for.
-fn read_target(table: &[u32], targets: &Targets, pair: usize, k: usize, any_never: bool) -> u16
+fn read_target(
+    table: &[u32],
+    targets: &Targets,
+    pair: usize,
+    k: usize,
+    any_never: bool,
+) -> Option<u16>
     requires pair_bound { (pair < 4096) × (k < 2) }
     requires none_never { NoneNever any_never table.now }
-    ensures { result ≡ read_target table.now (graph_of [] targets.now []) pair k }
+    ensures { result ≡ used (read_target table.now (graph_of [] targets.now []) pair k) }
 {
     let entry = targets[2 * pair + k];
-    if (entry == 65535) | !any_never {
-        return entry;
+    if entry == 65535 {
+        return None;
     }
-    if never_row(table, (pair % 64) as u32, k) {
-        return 65535;
-    }
-    entry
+    let never = any_never && never_row(table, (pair % 64) as u32, k);
+    if never { None } else { Some(entry) }
 }
 
 // The mark of a node; what is no node has none.
@@ -82,16 +86,16 @@ fn put_transition(
     marks: &Marks,
     pair: usize,
     row: usize,
-    target: u16,
+    target: Option<u16>,
 ) -> usize
     requires at_in_bounds { at + 45 ≤ length bytes.old }
     requires pair_bound { (pair < 4096) × (row ≤ 129) }
-    ensures { (Put bytes.old at (transition marks.now pair row target)
+    ensures { (Put bytes.old at (transition_to marks.now pair row target)
         bytes.new result) × (result ≤ at + 45) }
 {
-    if target == 65535 {
+    let Some(target) = target else {
         return at;
-    }
+    };
     let mark = mark_of(marks, target as usize);
     put_line(
         bytes,

@@ -1,5 +1,5 @@
--- The loop has put the transitions of the pairs that it passed; whether some row never holds is known before it. Assumes
--- nothing.
+-- The loop has put the transitions of the pairs that it passed; whether some row never holds is known before it.
+-- Assumes nothing.
 use Rattle.chart.proofs.Takable.{none_never}
 use Rattle.report.proofs.Going.{going_start, going_more, going_moved, going_done, going_end}
 use borrow.Author.Rules.{rules}

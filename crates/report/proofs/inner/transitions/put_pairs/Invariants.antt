@@ -1,5 +1,5 @@
--- The loop has put the transitions of the pairs that it passed; whether some row never holds is known before it. Assumes
--- nothing.
+-- The loop has put the transitions of the pairs that it passed; whether some row never holds is known before it.
+-- Assumes nothing.
 use mathlib.Core.List.{[]}
 use Rattle.records.specs.Records.{graph_of}
 use Rattle.report.proofs.Going.{Going}

@@ -1,9 +1,9 @@
--- 65535 is no target. Assumes nothing.
+-- Where there is no target, nothing is put. Assumes nothing.
 use Rattle.report.proofs.Fronts.{transition-none, transition-some}
 use Rattle.report.proofs.inner.transitions.put_transition.Goals as goal
 
-pub returns-then-target-eq65535 : goal.returns-then-target-eq65535
-returns-then-target-eq65535 c = transition-none _ _ _ _ _ _ c.if-target-eq65535.true
+pub returns-in_default : goal.returns-in_default
+returns-in_default c = transition-none _ _ _ _ _ 0 c.in_default.is
 
 pub returns : goal.returns
-returns c = transition-some _ _ _ _ _ _ _ _ _ c.if-target-eq65535.false c.mark_of-mark.ensures c.put_line.ensures
+returns c = transition-some _ _ _ _ _ _ _ _ _ c.in-Some.is c.mark_of-mark.ensures c.put_line.ensures
