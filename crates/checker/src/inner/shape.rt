@@ -103,20 +103,21 @@ fn targets_fit(targets: &Targets) -> bool
     ensures { result ≡ bool (targets_fit targets.now) }
 {
     let mut w: u16 = 0;
-    for i in 0..8192 {
-        w = w.max(wrapped(targets[i]));
+    for target in targets {
+        w = w.max(wrapped(*target));
     }
     w <= 4160
 }
 
+// The targets come before the marks: few ways lead past their loop then, and the compiler aligns it.
 pub fn shaped(heads: Heads, start: u32, marks: &Marks, targets: &Targets) -> bool
     ensures { result ≡ bool (shaped heads start marks.now targets.now) }
 {
     if !start_named(heads, start) {
         return false;
     }
-    if !marks_fit(heads, marks) {
+    if !targets_fit(targets) {
         return false;
     }
-    targets_fit(targets)
+    marks_fit(heads, marks)
 }

@@ -7,14 +7,14 @@ use Rattle.records.proofs.Marks.{all_next, all_taken}
 use Rattle.checker.proofs.Shapes.{larger}
 use Rattle.checker.proofs.inner.shape.targets_fit.Goals as goal
 
-pub loop-i-init : goal.loop-i-init
+pub loop-target-init : goal.loop-target-init
 unfolding every
-loop-i-init c = refl
+loop-target-init c = refl
 
-pub loop-i-preserved : goal.loop-i-preserved
-loop-i-preserved c =
-    all_next _ _ c.loop-i.invariant c.wrapped.ensures (ap (λ m. leb m 4160) c.max-w.ensures ∙ larger _ _ 4160)
+pub loop-target-preserved : goal.loop-target-preserved
+loop-target-preserved c =
+    all_next _ _ c.loop-target.invariant c.wrapped.ensures (ap (λ m. leb m 4160) c.max-w.ensures ∙ larger _ _ 4160)
 
 pub returns : goal.returns
 unfolding targets_fit
-returns c = all_taken _ _ _ c.loop-i.auto.i-end c.loop-i-test.false c.loop-i.invariant
+returns c = all_taken _ _ _ c.loop-target.auto.target-index-end c.loop-target-test.false c.loop-target.invariant

@@ -5,5 +5,5 @@ use Rattle.base.specs.Says.{bool, every}
 use Rattle.checker.specs.Rules.{target_fits}
 use Rattle.checker.proofs.inner.shape.targets_fit.Given as goal
 
-abbrev pub invariant-loop-i : goal.invariant-loop-i
-invariant-loop-i l = leb l.w 4160 ≡ every l.i (λ k. bool (target_fits (get_or l.targets k 0)))
+abbrev pub invariant-loop-target : goal.invariant-loop-target
+invariant-loop-target l = leb l.w 4160 ≡ every l.target-index (λ k. bool (target_fits (get_or l.targets k 0)))
