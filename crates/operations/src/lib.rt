@@ -27,6 +27,9 @@ pub enum Kind {
     Unknown,
 }
 
+// The values of all variables.
+pub type Values = [u32; 64];
+
 // What an operand is to its operation.
 #[derive(Clone, Copy, Debug, PartialEq, Eq)]
 pub enum Operand {

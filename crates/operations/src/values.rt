@@ -29,7 +29,7 @@ pub fn value_written(o: Operation, values: &[u32]) -> Result<u32, Refusal>
     ensures { result ≡ written_by o values.now }
 {
     judge(is_assignment(o), o, values)?;
-    Ok(value(o, values))
+    Ok(value(o, values.as_array().unwrap()))
 }
 
 // Whether 64 lent values meet an assumption; refused: 21 other than 64 values, 6 no assumption, 7 an operand that does
@@ -38,5 +38,5 @@ pub fn meets(o: Operation, values: &[u32]) -> Result<bool, Refusal>
     ensures { result ≡ met_by o values.now }
 {
     judge(is_assumption(o), o, values)?;
-    Ok(holds(o, values))
+    Ok(holds(o, values.as_array().unwrap()))
 }

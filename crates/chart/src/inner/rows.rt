@@ -202,7 +202,7 @@ pub fn index(old: &[u32], new: &[u32]) -> [u8; 130]
 }
 
 // The rows between two neighbouring entries of an index.
-pub fn rows_at<'a>(rows: &'a [u32], index: &[u8; 130], at: usize) -> &'a [u32]
+pub(crate) fn rows_at<'a>(rows: &'a [u32], index: &[u8; 130], at: usize) -> &'a [u32]
     requires { (at < 129) × (get_or index.now at 0 ≤ get_or index.now (at + 1) 0)
         × (get_or index.now (at + 1) 0 ≤ size rows.now) }
     ensures { result.now

@@ -1,14 +1,14 @@
 // What an operation does with values: the value that an assignment writes, and whether an assumption holds.
-ghost use Rattle.std.specs.Prelude.{◌≡◌, ◌<◌, true, length};
+ghost use Rattle.std.specs.Prelude.{◌≡◌, ◌<◌, true};
 ghost use Rattle.operations.specs.Operations.{is_assignment, operands_fit, plus, minus, monus, value};
 ghost use Rattle.operations.specs.Operations.{key, related, related_in, right, holds};
 ghost use Rattle.operations.specs.Values.{var};
 
-use crate::{Operation, order_of, with_constant};
+use crate::{Operation, Values, order_of, with_constant};
 
 // The value of variable k.
-fn held(values: &[u32], k: u32) -> u32
-    requires { (k < 64) × (length values.now ≡ 64) }
+fn held(values: &Values, k: u32) -> u32
+    requires { k < 64 }
     ensures { result ≡ var values.now k }
 {
     values[k as usize]
@@ -36,8 +36,8 @@ fn monus(x: u32, y: u32) -> u32
 }
 
 #[tactic(auto, using(crate::proofs::Codes::fitting), unfolding(crate::specs::Operations::value))]
-pub fn value(o: Operation, values: &[u32]) -> u32
-    requires { (is_assignment o ≡ true) × (operands_fit o ≡ true) × (length values.now ≡ 64) }
+pub fn value(o: Operation, values: &Values) -> u32
+    requires { (is_assignment o ≡ true) × (operands_fit o ≡ true) }
     ensures { result ≡ value o (var values.now) }
 {
     match o.code {
@@ -107,8 +107,8 @@ pub fn related_in(least: u32, r: u32, x: u32, y: u32) -> bool
 
 // What va is compared with.
 #[tactic(auto, using(crate::proofs::Codes::fitting))]
-fn right(o: Operation, values: &[u32]) -> u32
-    requires { (operands_fit o ≡ true) × (length values.now ≡ 64) }
+fn right(o: Operation, values: &Values) -> u32
+    requires { operands_fit o ≡ true }
     ensures { result ≡ right o (var values.now) }
 {
     if with_constant(o) {
@@ -118,8 +118,8 @@ fn right(o: Operation, values: &[u32]) -> u32
 }
 
 #[tactic(auto, using(crate::proofs::Codes::fitting), unfolding(crate::specs::Operations::holds))]
-pub fn holds(o: Operation, values: &[u32]) -> bool
-    requires { (operands_fit o ≡ true) × (length values.now ≡ 64) }
+pub fn holds(o: Operation, values: &Values) -> bool
+    requires { operands_fit o ≡ true }
     ensures { result ≡ holds o (var values.now) }
 {
     related_in(order_of(o), o.code % 8, held(values, o.a), right(o, values))

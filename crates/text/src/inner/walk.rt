@@ -59,8 +59,7 @@ impl<'a> Reader<'a> {
 
 // The chart that a text spells, before its faults are judged: head and row count, or why and where the text does not
 // fit. The rows go to the front of a table.
-pub fn parse(text: &[u8], table: &mut [u32]) -> Result<Heading, Unfit>
-    requires { length table.old ≡ 768 }
+pub fn parse(text: &[u8], table: &mut [u32; 768]) -> Result<Heading, Unfit>
     ensures { (refusing result ≡ mapped heading (parsed text.now))
         × (table.new ≡ laid (row_numbers text.now) table.old) }
 {
