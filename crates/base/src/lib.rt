@@ -84,11 +84,22 @@ impl Refusal {
             position,
         }
     }
+
+    // The one that is due for this reason; its chart is the old or sole one.
+    pub fn sole(reason: Reason, position: usize) -> Refusal
+        ensures { result ≡ sole (reason_number reason) position }
+    {
+        sole(u32::from(reason), position)
+    }
 }
 
-// The refusal for this reason at this position; its chart is the old or sole one.
-pub fn sole(reason: Reason, position: usize) -> Refusal
-    ensures { result ≡ sole (reason_number reason) position }
+// The refusal with this number and position; its chart is the old or sole one.
+pub fn sole(number: u32, position: usize) -> Refusal
+    ensures { result ≡ sole number position }
 {
-    Refusal::new(reason, 0, position)
+    Refusal {
+        number,
+        chart: 0,
+        position,
+    }
 }

@@ -11,7 +11,7 @@ ghost use Rattle.chart.specs.Faults.{rows_fault, fault, refusal, judged};
 ghost use Rattle.chart.specs.inner.Faulty.{row_number};
 ghost use Rattle.chart.specs.Lookup.{open_to, lookup, Stands};
 
-use base::{Reason, Refusal, sole};
+use base::{Reason, Refusal};
 use charts::{Head, Heads};
 use inner::faults;
 
@@ -71,7 +71,7 @@ pub fn judge(head: Head, rows: &[u32]) -> Result<(), Refusal>
     ensures { result_err result ≡ refusal (charted head rows.now) }
 {
     if !faults::whole(rows) {
-        return Err(sole(Reason::WrongCall, 0));
+        return Err(Refusal::sole(Reason::WrongCall, 0));
     }
     fault(0, head, rows)
 }
@@ -89,7 +89,7 @@ pub fn judged<'a>(
 {
     let named = faults::edition_named(heads.edition);
     if !(lent & (named & (faults::whole(old_rows) & faults::whole(new_rows)))) {
-        return Err(sole(Reason::WrongCall, 0));
+        return Err(Refusal::sole(Reason::WrongCall, 0));
     }
     fault(0, heads.old.head(), old_rows)?;
     fault(1, heads.new.head(), new_rows)

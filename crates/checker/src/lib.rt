@@ -11,7 +11,7 @@ ghost use Rattle.records.specs.Records.{record_of};
 ghost use Rattle.checker.specs.Checks.{record_fault, refusal};
 ghost use Rattle.checker.specs.Promise.{Promise};
 
-use base::{Reason, Refusal, sole};
+use base::{Reason, Refusal};
 use chart::charts::Heads;
 use chart::inner::comparison::Comparison;
 use inner::examined::Examined;
@@ -38,7 +38,7 @@ fn record_fault<'a>(
         (record_of start marks.now targets.now sets.now) }
 {
     if !shaped(heads, start, marks, targets) {
-        return Err(sole(Reason::Misshapen, 0));
+        return Err(Refusal::sole(Reason::Misshapen, 0));
     }
     let charts = Comparison::new(heads, old_rows, new_rows);
     let examined = Examined {
@@ -48,7 +48,7 @@ fn record_fault<'a>(
         sets,
     };
     match examined.broken(start) {
-        Some(position) => Err(sole(Reason::BrokenRule, position)),
+        Some(position) => Err(Refusal::sole(Reason::BrokenRule, position)),
         None => Ok(()),
     }
 }

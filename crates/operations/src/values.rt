@@ -5,20 +5,20 @@ ghost use Rattle.operations.specs.Answers.{operation_fault, written_by, met_by};
 
 use crate::inner::meaning::{holds, value};
 use crate::{Operation, is_assignment, is_assumption, operands_fit};
-use base::{Reason, Refusal, sole};
+use base::{Reason, Refusal};
 
 // Refused: 21 other than 64 values, 6 an operation of another sort than is asked for, 7 an operand that does not fit.
 fn judge(of_sort: bool, o: Operation, values: &[u32]) -> Result<(), Refusal>
     ensures { result_err result ≡ operation_fault of_sort o values.now }
 {
     if values.len() != 64 {
-        return Err(sole(Reason::WrongCall, 0));
+        return Err(Refusal::sole(Reason::WrongCall, 0));
     }
     if !of_sort {
-        return Err(sole(Reason::UnknownCode, 0));
+        return Err(Refusal::sole(Reason::UnknownCode, 0));
     }
     if !operands_fit(o) {
-        return Err(sole(Reason::WrongOperand, 0));
+        return Err(Refusal::sole(Reason::WrongOperand, 0));
     }
     Ok(())
 }

@@ -59,7 +59,7 @@ module _ (X : Compared) (chart p : ℕ) where
       go false true = open_short X.new w p (open_to X.new p) refl
       go false false = omega arith
 
-  part_short : {part : List ℕ} → Words X.old → Words X.new → part ≡ lookup X chart p → length part ≤ 12
+  pub part_short : {part : List ℕ} → Words X.old → Words X.new → part ≡ lookup X chart p → length part ≤ 12
   part_short v w e = rw e (short v w)
 
   -- it has room where 12 entries are lent

@@ -20,7 +20,7 @@ ghost use Rattle.picker.specs.Lookups.{looked_up, handed, of_rows};
 ghost use Rattle.picker.specs.Numbers.{chart_of, number, one, of_chart, of_text, zeros, of_build};
 ghost use Rattle.picker.specs.inner.Below.{Below, of_heading};
 
-use base::{Reason, Refusal, sole};
+use base::{Reason, Refusal};
 use chart::charts::{Head, Heads, both_heads};
 use condition::Summary;
 use text::answers::Heading;
@@ -186,7 +186,7 @@ pub extern "C" fn picker_lookup<'a>(
         chart place rows.old) rows.old) }
 {
     if rows.len() != 12 {
-        return packed(Err(sole(Reason::WrongCall, 0)));
+        return packed(Err(Refusal::sole(Reason::WrongCall, 0)));
     }
     let heads = lent_heads(1, old_places, old_alarm, new_places, new_alarm);
     let part = chart::lookup(heads, old_rows, new_rows, chart, place);

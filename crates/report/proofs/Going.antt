@@ -82,13 +82,13 @@ module _ (t : List ℕ) (G : Graph) (pair : ℕ) (before : List ℕ) where
         }
 
     -- past the last pair nothing is left to put
-    pub going_end : 4096 ≤ n → Portioned t G pair before after 4096 at
-    going_end h =
+    pub going_end : 4096 ≤ n → (m : ℕ) → 4096 ≤ m → Portioned t G pair before after m at
+    going_end h m l =
         record {
           bytes = c.bytes;
           front = front-put before c.bytes after at c.put (omega (arith, c.short, c.long));
-          rest = ap (λ (b : List ℕ). c.bytes ++ b) (remaining_end t G 4096 (omega arith) ∙ sym (remaining_end t G n h)) ∙ c.rest;
-          onward = λ l. l;
+          rest = ap (λ (b : List ℕ). c.bytes ++ b) (remaining_end t G m l ∙ sym (remaining_end t G n h)) ∙ c.rest;
+          onward = λ k. omega arith;
         }
 
 -- a table of fewer than 768 entries is looked at whole

@@ -2,7 +2,7 @@
 ghost use Rattle.std.specs.Prelude.{◌≡◌};
 ghost use Rattle.text.specs.Causes.{refusal_of};
 
-use base::{Reason, Refusal, sole};
+use base::{Reason, Refusal};
 
 // The reason, and the offset at which the text does not fit: one struct for code and definitions. Each answer below the
 // entry points is a success or this.
@@ -25,6 +25,6 @@ impl From<Unfit> for Refusal {
     ghost from_gives = { λ unfit refusal. refusal ≡ refusal_of unfit };
 
     fn from(unfit: Unfit) -> Refusal {
-        sole(unfit.reason, unfit.offset)
+        Refusal::sole(unfit.reason, unfit.offset)
     }
 }

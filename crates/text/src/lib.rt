@@ -9,7 +9,7 @@ ghost use Rattle.text.specs.Written.{writing, printed};
 ghost use Rattle.text.specs.Files.{FileOf, chart_read};
 
 use answers::Heading;
-use base::{Reason, Refusal, sole};
+use base::{Reason, Refusal};
 use chart::charts::Head;
 use inner::table::copy;
 use inner::walk::parse;
@@ -29,7 +29,7 @@ pub fn read(text: &[u8], table: &mut [u32]) -> Result<Heading, Refusal>
         ↔ (FileOf C text.now × (length table.old ≡ 768)) }
 {
     if table.len() != 768 {
-        return Err(sole(Reason::WrongCall, 0));
+        return Err(Refusal::sole(Reason::WrongCall, 0));
     }
     let mut rows = [0u32; 768];
     let heading = parse(text, &mut rows)?;
@@ -49,7 +49,7 @@ pub fn write(head: Head, rows: &[u32], bytes: &mut [u8]) -> Result<usize, Refusa
         → FileOf (charted head rows.now) (take n bytes.new) }
 {
     if bytes.len() < 8643 {
-        return Err(sole(Reason::WrongCall, 0));
+        return Err(Refusal::sole(Reason::WrongCall, 0));
     }
     chart::judge(head, rows)?;
     Ok(put_chart(head, rows, bytes))

@@ -155,5 +155,8 @@ pub fn put_pairs(
         }
         count = put_pair(bytes, count, table, marks, targets, next, any_never);
     }
-    Extent { next: 4096, count }
+    Extent {
+        next: pair.max(4096),
+        count,
+    }
 }

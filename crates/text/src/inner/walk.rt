@@ -18,11 +18,11 @@ pub struct Reader<'a> {
 }
 
 impl<'a> Reader<'a> {
-    // A walk that stands at the front of a text.
-    pub fn new(text: &'a [u8]) -> Reader<'a>
-        ensures { (result.text ≡ text.entry) × (result.at ≡ 0) }
+    // A walk that stands at an offset.
+    pub fn new(text: &'a [u8], at: usize) -> Reader<'a>
+        ensures { (result.text ≡ text.entry) × (result.at ≡ at) }
     {
-        Reader { text, at: 0 }
+        Reader { text, at }
     }
 
     // The first record, "n, alarm, row count, 0, 0, 0", is the next one; the walk moves on past it.
@@ -66,7 +66,7 @@ pub fn parse(text: &[u8], table: &mut [u32; 768]) -> Result<Heading, Unfit>
     if text.len() == 0 {
         return Err(Unfit::new(Reason::NoBytes, 0));
     }
-    let mut reader = Reader::new(text);
+    let mut reader = Reader::new(text, 0);
     let heading = reader.first()?;
     reader.rows(6 * heading.rows, table)?;
     if reader.at < text.len() {

@@ -19,4 +19,4 @@ pub loop-next-preserved : goal.loop-next-preserved
 loop-next-preserved c = going_more _ _ _ _ _ _ _ c.loop-next.invariant _ _ (search rules) c.loop-next-test.true (omega arith) c.put_pair-count.ensures
 
 pub returns : goal.returns
-returns c = going_end _ _ _ _ _ _ _ c.loop-next.invariant (omega arith)
+returns c = going_end _ _ _ _ _ _ _ c.loop-next.invariant (omega arith) _ (omega arith)
