@@ -1,17 +1,11 @@
 -- A portion of the table, or of its first 768 entries where it has more. Assumes nothing.
-use mathlib.Core.Path.{sym}
 use lib.Seq.{length-take-le}
 use Rattle.report.proofs.Going.{portion_whole}
 use native.Mathlib.Omega.{arith}
-use borrow.Author.Rules.{rules}
 use Rattle.report.proofs.portion.Goals as goal
 
 pub returns-then-table-lt768 : goal.returns-then-table-lt768
 returns-then-table-lt768 c = portion_whole (omega arith) c.put_pairs.ensures
 
-pub slice_bounds-put_pairs-end-2 : goal.slice_bounds-put_pairs-end-2
-slice_bounds-put_pairs-end-2 c = sym (length-take-le 768 c.args.table.now (omega arith))
-
 pub put_pairs-requires-2 : goal.put_pairs-requires-2
-put_pairs-requires-2 c = let l = length-take-le 768 c.args.table.now (omega arith) in
-    (omega arith, search rules)
+put_pairs-requires-2 c = omega (arith, length-take-le 768 c.args.table.now (omega arith))

@@ -141,9 +141,9 @@ pub fn put_pairs(
     marks: &Marks,
     targets: &Targets,
     pair: usize,
-    bytes: &mut [u8],
+    bytes: &mut [u8; 1024],
 ) -> Extent
-    requires { (length table.now ≤ 768) × (length bytes.old ≡ 1024) }
+    requires { length table.now ≤ 768 }
     ensures { Portioned table.now (graph_of marks.now targets.now [])
         pair bytes.old bytes.new result.next result.count }
 {

@@ -7,7 +7,7 @@ use native.Mathlib.Omega.{arith}
 use Rattle.report.proofs.inner.transitions.put_pairs.Goals as goal
 
 pub loop-next-init : goal.loop-next-init
-loop-next-init c = going_start _ _ _ _ c.requires.1
+loop-next-init c = going_start _ _ _ _ (omega arith)
 
 pub returns-then-count-gt934 : goal.returns-then-count-gt934
 returns-then-count-gt934 c = going_done _ _ _ _ _ _ _ c.loop-next.invariant (λ h. going_moved _ _ _ _ _ _ _ c.loop-next.invariant (omega arith))
