@@ -63,8 +63,8 @@ impl From<Heading> for Four {
 
     fn from(heading: Heading) -> Four {
         Four {
-            a: heading.head.places as u64,
-            b: heading.head.alarm as u64,
+            a: u64::from(heading.head.places),
+            b: u64::from(heading.head.alarm),
             c: heading.rows as u64,
             d: 0,
         }
@@ -98,7 +98,9 @@ fn refused(r: Refusal) -> u64
     requires { Fits r }
     ensures { result ≡ number (Err r) }
 {
-    r.number as u64 * 72057594037927936 + r.chart as u64 * 281474976710656 + r.position as u64
+    u64::from(r.number) * 72057594037927936
+        + u64::from(r.chart) * 281474976710656
+        + r.position as u64
 }
 
 // An answer as one number.

@@ -94,8 +94,8 @@ pub extern "C" fn testing_written(code: u32, a: u32, b: u32, c: u32, values: &[u
     ensures { result ≡ written_number (written_by (operation code a b c) values.now) }
 {
     match operations::values::value_written(Operation { code, a, b, c }, values) {
-        Ok(x) => x as u64,
-        Err(r) => 4294967296 + r.number as u64,
+        Ok(x) => u64::from(x),
+        Err(r) => 4294967296 + u64::from(r.number),
     }
 }
 
@@ -106,6 +106,6 @@ pub extern "C" fn testing_meets(code: u32, a: u32, b: u32, c: u32, values: &[u32
 {
     match operations::values::meets(Operation { code, a, b, c }, values) {
         Ok(met) => u64::from(met),
-        Err(r) => 4294967296 + r.number as u64,
+        Err(r) => 4294967296 + u64::from(r.number),
     }
 }

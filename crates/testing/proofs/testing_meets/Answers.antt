@@ -8,4 +8,4 @@ pub returns-in-Ok : goal.returns-in-Ok
 returns-in-Ok c = c.from.ensures ∙ bit_of _ ∙ ap met_number (sym c.in-Ok.is ∙ c.meets.ensures)
 
 pub returns-in-Err : goal.returns-in-Err
-returns-in-Err c = ap met_number (sym c.in-Err.is ∙ c.meets.ensures)
+returns-in-Err c = rw c.from-in-Err.ensures (ap met_number (sym c.in-Err.is ∙ c.meets.ensures))
