@@ -10,7 +10,6 @@ ghost use Rattle.records.specs.Records.{record_of};
 ghost use Rattle.checker.specs.Checks.{refusal as check_refusal};
 ghost use Rattle.condition.specs.declared.Summary.{Summary};
 ghost use Rattle.graph.specs.Buffers.{buffers};
-ghost use Rattle.graph.specs.inner.Sized.{Sized};
 ghost use Rattle.condition.specs.Builds.{built, recorded, summary};
 ghost use Rattle.paper.specs.Returned.{Returned};
 ghost use Rattle.builder.specs.Answers.{lent, answered, left};
@@ -22,6 +21,8 @@ use checker::inner::lengths::sized;
 use condition::Summary;
 use condition::inner::finish::finish;
 use detector::inner::explore::explore;
+use graph::Waiting;
+use records::{Marks, Sets, Targets};
 
 // Whether each of the four lent lengths is the stated one.
 fn lent(marks: &[u8], targets: &[u16], sets: &[u64], waiting: &[u8]) -> bool
@@ -38,14 +39,13 @@ fn complete<'a>(
     heads: Heads,
     old_rows: &'a [u32],
     new_rows: &'a [u32],
-    marks: &mut [u8],
-    targets: &mut [u16],
-    sets: &mut [u64],
-    waiting: &mut [u8],
+    marks: &mut Marks,
+    targets: &mut Targets,
+    sets: &mut Sets,
+    waiting: &mut Waiting,
 ) -> Summary
     requires faultless_chart { FaultlessChart (compared heads old_rows.now new_rows.now).old }
     requires faultless_chart_2 { FaultlessChart (compared heads old_rows.now new_rows.now).new }
-    requires sized { Sized (buffers marks.old targets.old sets.old waiting.old) }
     ensures { (buffers marks.new targets.new sets.new waiting.new
         ≡ built (compared heads old_rows.now new_rows.now))
         × (result ≡ summary
@@ -53,10 +53,6 @@ fn complete<'a>(
         marks.new) }
 {
     let charts = Comparison::new(heads, old_rows, new_rows);
-    let marks = marks.as_mut_array::<4160>().unwrap();
-    let targets = targets.as_mut_array::<8192>().unwrap();
-    let sets = sets.as_mut_array::<4096>().unwrap();
-    let waiting = waiting.as_mut_array::<4096>().unwrap();
     let seen = explore(&charts, marks, targets, sets, waiting);
     finish(heads, marks, targets, sets, waiting, &seen)
 }
@@ -87,5 +83,10 @@ pub fn build<'a>(
 {
     let lengths = lent(&*marks, &*targets, &*sets, &*waiting);
     chart::judged(lengths, heads, old_rows, new_rows)?;
+    // The lengths are the stated ones.
+    let marks: &mut Marks = marks.as_mut_array().unwrap();
+    let targets: &mut Targets = targets.as_mut_array().unwrap();
+    let sets: &mut Sets = sets.as_mut_array().unwrap();
+    let waiting: &mut Waiting = waiting.as_mut_array().unwrap();
     Ok(complete(heads, old_rows, new_rows, marks, targets, sets, waiting))
 }

@@ -8,12 +8,38 @@ use Rattle.builder.proofs.Answering.{none-judged, some-judged, done_answers, don
 use native.Mathlib.Omega.{arith}
 use Rattle.builder.proofs.build.Goals as goal
 
+pub unwrap-marks-requires : goal.unwrap-marks-requires
+unwrap-marks-requires c =
+    let a = c.args in
+    let A = none-judged _ (buffers a.marks.now a.targets.now a.sets.now a.waiting.now) c.lent-lengths.ensures c.judged.ensures (ap result_err c.in_ok-judged.was) in
+    c.as_mut_array.ensures.variant.1 A.sized.marks
+
+pub unwrap-targets-requires : goal.unwrap-targets-requires
+unwrap-targets-requires c =
+    let a = c.args in
+    let A = none-judged _ (buffers a.marks.now a.targets.now a.sets.now a.waiting.now) c.lent-lengths.ensures c.judged.ensures (ap result_err c.in_ok-judged.was) in
+    c.as_mut_array-2.ensures.variant.1 A.sized.targets
+
+pub unwrap-sets-requires : goal.unwrap-sets-requires
+unwrap-sets-requires c =
+    let a = c.args in
+    let A = none-judged _ (buffers a.marks.now a.targets.now a.sets.now a.waiting.now) c.lent-lengths.ensures c.judged.ensures (ap result_err c.in_ok-judged.was) in
+    c.as_mut_array-3.ensures.variant.1 A.sized.sets
+
+pub unwrap-waiting-requires : goal.unwrap-waiting-requires
+unwrap-waiting-requires c =
+    let a = c.args in
+    let A = none-judged _ (buffers a.marks.now a.targets.now a.sets.now a.waiting.now) c.lent-lengths.ensures c.judged.ensures (ap result_err c.in_ok-judged.was) in
+    c.as_mut_array-4.ensures.variant.1 A.sized.waiting
+
 pub complete-requires : goal.complete-requires
-complete-requires c = let A = none-judged _ (buffers _ _ _ _) c.lent-lengths.ensures c.judged.ensures (ap result_err c.in_ok-judged.was) in
-    record { faultless_chart = A.old-faultless; faultless_chart_2 = A.new-faultless; sized = A.sized }
+complete-requires c = let a = c.args in
+    let A = none-judged _ (buffers a.marks.now a.targets.now a.sets.now a.waiting.now) c.lent-lengths.ensures c.judged.ensures (ap result_err c.in_ok-judged.was) in
+    record { faultless_chart = A.old-faultless; faultless_chart_2 = A.new-faultless }
 
 pub returns : goal.returns
-returns c = let A = none-judged _ (buffers _ _ _ _) c.lent-lengths.ensures c.judged.ensures (ap result_err c.in_ok-judged.was) in
+returns c = let a = c.args in
+    let A = none-judged _ (buffers a.marks.now a.targets.now a.sets.now a.waiting.now) c.lent-lengths.ensures c.judged.ensures (ap result_err c.in_ok-judged.was) in
     record { answer = done_answers _ _ A c.complete.ensures.0 c.complete.ensures.1; leaves = done_leaves _ _ A c.complete.ensures.0 c.complete.ensures.1; passes = done_passes _ _ A c.complete.ensures.0 c.complete.ensures.1; algorithms = λ x h. done_returned _ _ A c.complete.ensures.0 c.complete.ensures.1 x h (record { small = λ k. omega (arith, c.type_inv.old_rows k) }) (record { small = λ k. omega (arith, c.type_inv.new_rows k) }) }
 
 pub returns-in_err-judged : goal.returns-in_err-judged
