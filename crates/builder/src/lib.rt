@@ -5,7 +5,7 @@
 ghost use Rattle.std.specs.Prelude.{◌≡◌, None, Ok};
 ghost use Rattle.base.specs.Says.{bool};
 ghost use Rattle.chart.specs.Compared.{compared};
-ghost use Rattle.chart.specs.Faultless.{FaultlessChart};
+ghost use Rattle.chart.specs.inner.Comparisons.{charts_of};
 ghost use Rattle.records.specs.Records.{record_of};
 ghost use Rattle.checker.specs.Checks.{refusal as check_refusal};
 ghost use Rattle.condition.specs.declared.Summary.{Summary};
@@ -35,26 +35,18 @@ fn lent(marks: &[u8], targets: &[u16], sets: &[u64], waiting: &[u8]) -> bool
 
 // Both algorithms on faultless charts. Which pairs they saw is told from one to the other by a set of them, so that
 // none looks at all pairs.
-fn complete<'a>(
-    heads: Heads,
-    old_rows: &'a [u32],
-    new_rows: &'a [u32],
+fn complete(
+    charts: &Comparison<'_>,
     marks: &mut Marks,
     targets: &mut Targets,
     sets: &mut Sets,
     waiting: &mut Waiting,
 ) -> Summary
-    requires faultless_chart { FaultlessChart (compared heads old_rows.now new_rows.now).old }
-    requires faultless_chart_2 { FaultlessChart (compared heads old_rows.now new_rows.now).new }
-    ensures { (buffers marks.new targets.new sets.new waiting.new
-        ≡ built (compared heads old_rows.now new_rows.now))
-        × (result ≡ summary
-        (recorded (compared heads old_rows.now new_rows.now)).start
-        marks.new) }
+    ensures { (buffers marks.new targets.new sets.new waiting.new ≡ built (charts_of charts.now))
+        × (result ≡ summary (recorded (charts_of charts.now)).start marks.new) }
 {
-    let charts = Comparison::new(heads, old_rows, new_rows);
-    let seen = explore(&charts, marks, targets, sets, waiting);
-    finish(heads, marks, targets, sets, waiting, &seen)
+    let seen = explore(charts, marks, targets, sets, waiting);
+    finish(charts.heads, marks, targets, sets, waiting, &seen)
 }
 
 // A build, or the refusal that is due, which writes nothing. What a build leaves, with the start it answers, the check
@@ -88,5 +80,6 @@ pub fn build<'a>(
     let targets: &mut Targets = targets.as_mut_array().unwrap();
     let sets: &mut Sets = sets.as_mut_array().unwrap();
     let waiting: &mut Waiting = waiting.as_mut_array().unwrap();
-    Ok(complete(heads, old_rows, new_rows, marks, targets, sets, waiting))
+    let charts = Comparison::new(heads, old_rows, new_rows);
+    Ok(complete(&charts, marks, targets, sets, waiting))
 }

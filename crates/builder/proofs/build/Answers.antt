@@ -3,6 +3,7 @@
 use Rattle.std.proofs.lemmas.Result.{err_from_is_err_and}
 use Rattle.std.specs.Result.{result_err}
 use mathlib.Core.Path.{ap}
+use Rattle.chart.proofs.Words.{Words}
 use Rattle.graph.specs.Buffers.{buffers}
 use Rattle.builder.proofs.Answering.{none-judged, some-judged, done_answers, done_leaves, done_passes, done_returned, refused_answers, refused-leaves, never_done}
 use native.Mathlib.Omega.{arith}
@@ -11,36 +12,50 @@ use Rattle.builder.proofs.build.Goals as goal
 pub unwrap-marks-requires : goal.unwrap-marks-requires
 unwrap-marks-requires c =
     let a = c.args in
-    let A = none-judged _ (buffers a.marks.now a.targets.now a.sets.now a.waiting.now) c.lent-lengths.ensures c.judged.ensures (ap result_err c.in_ok-judged.was) in
+    let A = none-judged _ (buffers a.marks.now a.targets.now a.sets.now a.waiting.now)
+    c.lent-lengths.ensures c.judged.ensures (ap result_err c.in_ok-judged.was) in
     c.as_mut_array.ensures.variant.1 A.sized.marks
 
 pub unwrap-targets-requires : goal.unwrap-targets-requires
 unwrap-targets-requires c =
     let a = c.args in
-    let A = none-judged _ (buffers a.marks.now a.targets.now a.sets.now a.waiting.now) c.lent-lengths.ensures c.judged.ensures (ap result_err c.in_ok-judged.was) in
+    let A = none-judged _ (buffers a.marks.now a.targets.now a.sets.now a.waiting.now)
+    c.lent-lengths.ensures c.judged.ensures (ap result_err c.in_ok-judged.was) in
     c.as_mut_array-2.ensures.variant.1 A.sized.targets
 
 pub unwrap-sets-requires : goal.unwrap-sets-requires
 unwrap-sets-requires c =
     let a = c.args in
-    let A = none-judged _ (buffers a.marks.now a.targets.now a.sets.now a.waiting.now) c.lent-lengths.ensures c.judged.ensures (ap result_err c.in_ok-judged.was) in
+    let A = none-judged _ (buffers a.marks.now a.targets.now a.sets.now a.waiting.now)
+    c.lent-lengths.ensures c.judged.ensures (ap result_err c.in_ok-judged.was) in
     c.as_mut_array-3.ensures.variant.1 A.sized.sets
 
 pub unwrap-waiting-requires : goal.unwrap-waiting-requires
 unwrap-waiting-requires c =
     let a = c.args in
-    let A = none-judged _ (buffers a.marks.now a.targets.now a.sets.now a.waiting.now) c.lent-lengths.ensures c.judged.ensures (ap result_err c.in_ok-judged.was) in
+    let A = none-judged _ (buffers a.marks.now a.targets.now a.sets.now a.waiting.now)
+    c.lent-lengths.ensures c.judged.ensures (ap result_err c.in_ok-judged.was) in
     c.as_mut_array-4.ensures.variant.1 A.sized.waiting
 
-pub complete-requires : goal.complete-requires
-complete-requires c = let a = c.args in
-    let A = none-judged _ (buffers a.marks.now a.targets.now a.sets.now a.waiting.now) c.lent-lengths.ensures c.judged.ensures (ap result_err c.in_ok-judged.was) in
-    record { faultless_chart = A.old-faultless; faultless_chart_2 = A.new-faultless }
+pub new-charts-requires : goal.new-charts-requires
+new-charts-requires c = let a = c.args in
+    let A = none-judged _ (buffers a.marks.now a.targets.now a.sets.now a.waiting.now)
+    c.lent-lengths.ensures c.judged.ensures (ap result_err c.in_ok-judged.was) in
+    record { old_faultless = A.old-faultless; new_faultless = A.new-faultless }
 
 pub returns : goal.returns
 returns c = let a = c.args in
-    let A = none-judged _ (buffers a.marks.now a.targets.now a.sets.now a.waiting.now) c.lent-lengths.ensures c.judged.ensures (ap result_err c.in_ok-judged.was) in
-    record { answer = done_answers _ _ A c.complete.ensures.0 c.complete.ensures.1; leaves = done_leaves _ _ A c.complete.ensures.0 c.complete.ensures.1; passes = done_passes _ _ A c.complete.ensures.0 c.complete.ensures.1; algorithms = λ x h. done_returned _ _ A c.complete.ensures.0 c.complete.ensures.1 x h (record { small = λ k. omega (arith, c.type_inv.old_rows k) }) (record { small = λ k. omega (arith, c.type_inv.new_rows k) }) }
+    let A = none-judged _ (buffers a.marks.now a.targets.now a.sets.now a.waiting.now)
+    c.lent-lengths.ensures c.judged.ensures (ap result_err c.in_ok-judged.was) in
+    let e = rw c.new-charts.ensures at c.complete.ensures in
+    let old : Words a.old_rows.now = record { small = λ k. omega (arith, c.type_inv.old_rows k) } in
+    let new : Words a.new_rows.now = record { small = λ k. omega (arith, c.type_inv.new_rows k) } in
+    record {
+      answer = done_answers _ _ A e.0 e.1;
+      leaves = done_leaves _ _ A e.0 e.1;
+      passes = done_passes _ _ A e.0 e.1;
+      algorithms = λ x h. done_returned _ _ A e.0 e.1 x h old new;
+    }
 
 pub returns-in_err-judged : goal.returns-in_err-judged
 returns-in_err-judged c =
