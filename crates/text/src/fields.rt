@@ -43,7 +43,7 @@ fn digit(text: &[u8], at: usize) -> u32
         return 10;
     }
     let b = text[at];
-    std::num::wrapping_sub_u32(b as u32, 48)
+    u32::from(b).wrapping_sub(48)
 }
 
 // Whether a number is a u32 with one digit more.
