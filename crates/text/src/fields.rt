@@ -39,10 +39,9 @@ fn kind_of(field: usize) -> Kind
 fn digit(text: &[u8], at: usize) -> u32
     ensures { TellsDigit result (byte_at text.now at) }
 {
-    if text.len() <= at {
+    let Some(&b) = text.get(at) else {
         return 10;
-    }
-    let b = text[at];
+    };
     u32::from(b).wrapping_sub(48)
 }
 
@@ -115,30 +114,26 @@ fn follow(text: &[u8], number: Number, b: u8) -> Result<Number, Unfit>
     ensures { result ≡ followed b text.now (Ok number) }
 {
     let at = number.next;
-    if text.len() <= at {
-        return Err(Unfit::new(Reason::BadByte, at));
-    }
-    if text[at] == b {
-        return Ok(Number {
+    match text.get(at) {
+        Some(&found) if found == b => Ok(Number {
             value: number.value,
             next: at + 1,
-        });
+        }),
+        _ => Err(Unfit::new(Reason::BadByte, at)),
     }
-    Err(Unfit::new(Reason::BadByte, at))
 }
 
 // A number, perhaps within double quotes.
 fn field_at(text: &[u8], at: usize, field: usize) -> Result<Number, Unfit>
     ensures { result ≡ field_at (kind field) text.now at }
 {
-    if text.len() <= at {
-        return Err(Unfit::new(Reason::BadByte, at));
+    match text.get(at) {
+        Some(34) => {
+            let number = number_at(text, at + 1, field)?;
+            follow(text, number, 34)
+        }
+        _ => number_at(text, at, field),
     }
-    if text[at] == 34 {
-        let number = number_at(text, at + 1, field)?;
-        return follow(text, number, 34);
-    }
-    number_at(text, at, field)
 }
 
 // The number, if the record ends after it: with the text, or by CRLF.
@@ -166,10 +161,7 @@ fn close(text: &[u8], number: Number, field: usize) -> Result<Number, Unfit>
 fn is_missing(text: &[u8], at: usize, field: usize) -> bool
     ensures { result ≡ missing field text.now at }
 {
-    if text.len() <= at {
-        return field % 6 == 0;
-    }
-    false
+    text.len() <= at && field % 6 == 0
 }
 
 // A field of the text, by its number, at an offset.

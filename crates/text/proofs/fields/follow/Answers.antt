@@ -1,13 +1,16 @@
--- `text::fields::follow` meets its contract: past the end, the byte, and another. Assumes nothing.
+-- `text::fields::follow` meets its contract: the byte, another, and past the end. Assumes nothing.
 use Rattle.text.proofs.Numbers.{follow_past, follow-is, follow_not}
-use Rattle.std.proofs.Common.{arith}
+use Rattle.std.proofs.Common.{ltb-false, sym, arith}
+use Rattle.text.proofs.fields.follow.Goals.{in_default-via-in-Some+else-found-b, in_default-via-in_default}
 use Rattle.text.proofs.fields.follow.Goals as goal
 
-pub returns-then-text-at : goal.returns-then-text-at
-returns-then-text-at c = search (follow_past, arith)
+pub returns-in-Some : goal.returns-in-Some
+returns-in-Some c = search (follow-is, arith)
 
-pub returns-then-text-at-2 : goal.returns-then-text-at-2
-returns-then-text-at-2 c = search follow-is
-
-pub returns : goal.returns
-returns c = search follow_not
+pub returns-in_default : goal.returns-in_default
+returns-in_default c =
+    elim c.in_default.branch [
+      | in_default-via-in-Some+else-found-b w ↦ search (follow_not, arith)
+      | in_default-via-in_default w ↦
+          follow_past _ _ _ _ c.new.ensures (omega arith) (ltb-false _ _ (sym w.in_default.ensures.lookup.0))
+    ]
