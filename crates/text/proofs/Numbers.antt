@@ -225,11 +225,11 @@ module _ (text : List ℕ) (n : Number) where
 
 -- ---- a field
 
-module _ (sort : Kind) (text : List ℕ) (at : ℕ) (r : Field) where
-  pub field_past : length text ≤ at → r ≡ number_at sort text at → r ≡ field_at sort text at
-  unfolding field_at
-  field_past h e = rw (byte_past text at h, field_at) e
+pub field_past : (sort : Kind) (text : List ℕ) (at : ℕ) (u : Unfit) → Refuses u because.BadByte at → length text ≤ at → Err u ≡ field_at sort text at
+unfolding field_at
+field_past sort text at u e h = rw (byte_past text at h, field_at) (number-none sort text at 10 u e (digit_past text at h) (omega arith))
 
+module _ (sort : Kind) (text : List ℕ) (at : ℕ) (r : Field) where
   pub field_bare : at < length text → (get_or text at 0 ≡ 34 → ⊥) → r ≡ number_at sort text at → r ≡ field_at sort text at
   unfolding field_at
   field_bare l h e = rw (byte_here text at l, ne_eqb _ _ h, field_at) e

@@ -127,13 +127,14 @@ fn follow(text: &[u8], number: Number, b: u8) -> Result<Number, Unfit>
 fn field_at(text: &[u8], at: usize, field: usize) -> Result<Number, Unfit>
     ensures { result ≡ field_at (kind field) text.now at }
 {
-    match text.get(at) {
-        Some(34) => {
-            let number = number_at(text, at + 1, field)?;
-            follow(text, number, 34)
-        }
-        _ => number_at(text, at, field),
+    let Some(&b) = text.get(at) else {
+        return Err(Unfit::new(Reason::BadByte, at));
+    };
+    if b == 34 {
+        let number = number_at(text, at + 1, field)?;
+        return follow(text, number, 34);
     }
+    number_at(text, at, field)
 }
 
 // The number, if the record ends after it: with the text, or by CRLF.
