@@ -32,7 +32,7 @@ pub fn has(words: &Pairs, p: usize, q: usize) -> bool
 }
 
 // The bits that some word has. A loop without early end takes many words at once.
-pub fn gathered(words: &[u64]) -> u64
+pub fn gathered(words: &Pairs) -> u64
     ensures { result ≡ gathered words.now (length words.now) }
 {
     let mut all = 0;
@@ -56,14 +56,14 @@ pub fn lowest(word: u64) -> usize
     requires { 0 < word }
     ensures { LowestFrom word 0 result × (result < 64) }
 {
-    u64::trailing_zeros(word) as usize
+    word.trailing_zeros() as usize
 }
 
 // One more than the highest bit of a word, or 0.
 pub fn highest(word: u64) -> usize
     ensures { HighestBefore word 64 result × (0 < word → 0 < result) }
 {
-    64 - u64::leading_zeros(word) as usize
+    64 - word.leading_zeros() as usize
 }
 
 // The orders in which the bits of a word are gone through.
