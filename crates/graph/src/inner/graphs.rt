@@ -1,5 +1,5 @@
 // What a turn does to the four lent buffers.
-ghost use Rattle.std.specs.Prelude.{◌≡◌, List, ℕ, ◌<◌, length, set, get_or};
+ghost use Rattle.std.specs.Prelude.{◌≡◌, List, ℕ, ◌<◌, length, set, get_or, replicate};
 ghost use Rattle.sets.specs.Sets.{joined};
 ghost use Rattle.records.specs.Records.{index};
 ghost use Rattle.words.specs.inner.Words.{Member, added};
@@ -21,6 +21,17 @@ pub fn is_marked(marks: &Marks, n: usize) -> bool
     ensures { result ≡ marked marks.now n }
 {
     marks[n] != 0
+}
+
+// No node is left in the graph, no target, no set, and no pair waits.
+pub fn clear(marks: &mut Marks, targets: &mut Targets, sets: &mut Sets, waiting: &mut Waiting)
+    ensures { buffers marks.new targets.new sets.new waiting.new
+        ≡ buffers (replicate 4160 0) (replicate 8192 65535) (replicate 4096 0) (replicate 4096 0) }
+{
+    marks.fill(0);
+    targets.fill(65535);
+    sets.fill(0);
+    waiting.fill(0);
 }
 
 // Pair n leaves all buffers.
