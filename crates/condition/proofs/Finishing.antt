@@ -201,10 +201,10 @@ module _ (heads : Heads) (m : List ℕ) {k : ℕ} {b : Bool} (a : k ≡ start_ke
       rw (ap (marked m) (sym a) ∙ sym d ∙ t) (ap not (h ∙ (λ i. bool (fair heads (u i) (v i)))))
 
 pub lone_is : (heads : Heads) {m t s w : List ℕ} {k : ℕ} → k ≡ start_kept heads
-    → m ≡ replicate 4160 0 → t ≡ replicate 8192 65535 → s ≡ replicate 4096 0 → w ≡ replicate 4096 0
+    → buffers m t s w ≡ buffers (replicate 4160 0) (replicate 8192 65535) (replicate 4096 0) (replicate 4096 0)
     → buffers (set m k 2) t s w ≡ lone heads
 unfolding lone
-lone_is heads f a b c d = graph-eq (λ i. set (a i) (f i) 2) b c d
+lone_is heads f e = λ i. buffers (set (e i).marks (f i) 2) (e i).targets (e i).sets (e i).waiting
 
 -- its marks: one kept node, no open or covered one
 module _ (heads : Heads) {m t s w : List ℕ} (e : buffers m t s w ≡ lone heads) where

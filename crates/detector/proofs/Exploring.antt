@@ -19,16 +19,15 @@ use Rattle.graph.specs.Buffers.{Buffers, buffers}
 use Rattle.graph.specs.inner.Tracks.{Covers, Lists, Tracks}
 use Rattle.detector.specs.Turns.{lowest, next, begun, taken, explored}
 use Rattle.graph.proofs.Graphs.{Shaped}
-use Rattle.graph.proofs.Parts.{graph-eq}
 use Rattle.detector.proofs.Turns.{next-waits}
 use Rattle.detector.proofs.Measure.{weight, turns, begun-shaped, begun_weight}
 
 -- four buffers that were filled, and two that were then written, are a graph that has begun
 pub begun-is : (heads : Heads) {m t s w : List ℕ} {first : ℕ} → first ≡ start_pair heads
-    → m ≡ replicate 4160 0 → t ≡ replicate 8192 65535 → s ≡ replicate 4096 0 → w ≡ replicate 4096 0
+    → buffers m t s w ≡ buffers (replicate 4160 0) (replicate 8192 65535) (replicate 4096 0) (replicate 4096 0)
     → buffers (set m first 1) t s (set w first 1) ≡ begun heads
 unfolding begun
-begun-is heads f a b c d = graph-eq (λ i. set (a i) (f i) 1) b c (λ i. set (d i) (f i) 1)
+begun-is heads f e = λ i. buffers (set (e i).marks (f i) 1) (e i).targets (e i).sets (set (e i).waiting (f i) 1)
 
 -- the loop stands at g, and the two sets have whom they should
 pub record Building (X : Compared) (g : Buffers) (waits seen : List ℕ) : Type 0 where

@@ -15,7 +15,7 @@ use align::inner::step::fair;
 use chart::charts::Heads;
 use chart::inner::pairs::{kept, new_of, old_of, start_kept, start_pair};
 use graph::Waiting;
-use graph::inner::graphs::is_marked;
+use graph::inner::graphs::{clear, is_marked};
 use marker::inner::marks::rank;
 use records::inner::marks::blank;
 use records::{Marks, Sets, Targets};
@@ -100,11 +100,8 @@ fn leave_alone(
 )
     ensures { buffers marks.new targets.new sets.new waiting.new ≡ lone heads }
 {
-    marks.fill(0);
+    clear(marks, targets, sets, waiting);
     marks[start_kept(heads)] = 2;
-    targets.fill(65535);
-    sets.fill(0);
-    waiting.fill(0);
 }
 
 // How many of a row of marks are v. They are few enough for a small number, so that many are counted together.

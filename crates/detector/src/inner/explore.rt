@@ -12,6 +12,7 @@ use chart::inner::comparison::Comparison;
 use chart::inner::pairs::start_pair;
 use chart::inner::rows::some_never;
 use graph::Waiting;
+use graph::inner::graphs::clear;
 use records::{Marks, Sets, Targets};
 use words::Pairs;
 use words::inner::members;
@@ -28,11 +29,8 @@ fn begin(
     ensures waiting_after { buffers marks.new targets.new sets.new waiting.new ≡ begun heads }
 {
     let first = start_pair(heads);
-    marks.fill(0);
+    clear(marks, targets, sets, waiting);
     marks[first] = 1;
-    targets.fill(65535);
-    sets.fill(0);
-    waiting.fill(0);
     waiting[first] = 1;
     let mut tracked = Tracked {
         waits: [0; 65],

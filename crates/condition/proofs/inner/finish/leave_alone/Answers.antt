@@ -3,9 +3,4 @@ use Rattle.condition.proofs.Finishing.{lone_is}
 use Rattle.condition.proofs.inner.finish.leave_alone.Goals as goal
 
 pub returns : goal.returns
-returns c =
-    let m = rw c.told-marks at (c.fill.ensures.after (λ y h. h)) in
-    let t = rw c.told-targets at (c.fill-2.ensures.after (λ y h. h)) in
-    let s = rw c.told-sets at (c.fill-3.ensures.after (λ y h. h)) in
-    let w = rw c.told-waiting at (c.fill-4.ensures.after (λ y h. h)) in
-    lone_is c.args.heads c.start_kept.ensures m t s w
+returns c = lone_is c.args.heads c.start_kept.ensures c.clear.ensures
