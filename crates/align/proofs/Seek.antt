@@ -1,10 +1,14 @@
 -- The loop that looks for the first row of a place that is as sought. Assumes nothing.
-use mathlib.Core.Path.{◌≡◌, refl, sym, ap, ◌∙◌}
+use mathlib.Core.Path.{◌≡◌, refl, sym, ap, subst, ◌∙◌}
 use mathlib.Core.Bool.{Bool, true, false, cond, ◌&&◌}
+use mathlib.Core.Logic.{dite}
 use mathlib.Core.List.{List}
-use Rattle.std.specs.Prelude.{None, Some}
+use Rattle.std.specs.Prelude.{Option, None, Some}
+use Rattle.std.proofs.Common.{MatchOption}
+use Rattle.std.specs.Bool.{then_some}
 use Prim.Native.Nat.{ℕ, zero, suc, ◌+◌, ◌≤◌, ◌<◌}
 use native.Mathlib.Omega.{arith}
+use native.Mathlib.Decide.{ℕ_discrete}
 use Rattle.base.specs.Options.{when, missing, first_of}
 use Rattle.base.proofs.OnSome.{on_at}
 use Rattle.base.proofs.Tests.{and_false}
@@ -56,6 +60,34 @@ module _ (rows : List ℕ) (p : Operation → Bool) where
   -- what is found is a row, and as sought
   pub found_inside : (k : ℕ) → Some k ≡ find rows p → k < size rows
   found_inside k e = (on_at _ (found rows p {P = λ o. p o ≡ true} (λ o t. t)) (sym e)).inside
+
+-- ---- where no row but the first passes
+first_alone : (rows : List ℕ) (f : Operation → Bool) → ((k : ℕ) → 0 < k → k < size rows → f (operation rows k) ≡ false)
+    → 0 < size rows → find rows f ≡ when (f (operation rows 0)) 0
+first_alone rows f later l = go (f (operation rows 0)) refl
+  where
+    go : (b : Bool) → f (operation rows 0) ≡ b → find rows f ≡ when b 0
+    go true e = sym (found_here rows f (none_at_first rows f) l refl e)
+    go false e = sym (only_first rows f refl e later)
+
+-- what a filter keeps of it is the row that passes both tests
+module _ (rows : List ℕ) (f g : Operation → Bool) (later : (k : ℕ) → 0 < k → k < size rows → f (operation rows k) ≡ false) (Gives : ℕ → Bool → Type 0) (means : (k : ℕ) (b : Bool) → Gives k b → b ≡ g (operation rows k)) (r : Option ℕ) where
+  abbrev Kept : Option ℕ → Type 0
+  Kept x = MatchOption x (r ≡ None) (λ k. (b : Bool) × Gives k b × (r ≡ then_some b k))
+
+  kept_by : (b c : Bool) → r ≡ then_some b 0 → b ≡ c → r ≡ when c 0
+  kept_by true c e q = e ∙ ap (λ (b : Bool). when b 0) q
+  kept_by false c e q = e ∙ ap (λ (b : Bool). when b 0) q
+
+  kept_of : (a : Bool) → Kept (when a 0) → r ≡ when (a && g (operation rows 0)) 0
+  kept_of true (b, z, e) = kept_by b (g (operation rows 0)) e (means 0 b z)
+  kept_of false e = e
+
+  pub filtered : {x : Option ℕ} → x ≡ find rows f → Kept x → r ≡ find rows (λ o. f o && g o)
+  filtered e K =
+      dite (ℕ_discrete (size rows) 0)
+      (λ z. subst Kept (e ∙ sym (nowhere rows f (none_at_first rows f) (omega arith))) K ∙ nowhere rows (λ o. f o && g o) (none_at_first rows (λ o. f o && g o)) (omega arith))
+      (λ z. kept_of (f (operation rows 0)) (subst Kept (e ∙ first_alone rows f later (omega arith)) K) ∙ sym (first_alone rows (λ o. f o && g o) (λ k a b. rw (later k a b)) (omega arith)))
 
 -- ---- what an assumption implies
 -- nothing, where no values meet it

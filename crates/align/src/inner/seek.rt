@@ -36,13 +36,7 @@ pub fn writing(rows: &[u32], a: u32) -> Option<usize>
     requires { (k : ℕ) → 0 < k → k < size rows.now → is_assignment (operation rows.now k) ≡ false }
     ensures { result ≡ find rows.now (λ o. is_assignment o && eqb o.a a) }
 {
-    if rows.len() < 6 {
-        return None;
-    }
-    if is_assignment_at(rows, 0) & (a_at(rows, 0) == a) {
-        return Some(0);
-    }
-    None
+    assignment(rows).filter(|&k| a_at(rows, k) == a)
 }
 
 // Whether o2 is an assumption that o implies, o being one that some values meet.
