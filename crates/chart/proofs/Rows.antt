@@ -208,6 +208,13 @@ module _ (old new : List ℕ) where
     after-new : Lower new (p + 1) (get_or index (65 + p + 1) 0)
     after-new = let e : 65 + (p + 1) ≡ 65 + p + 1 = omega arith in rw e at (I.news (p + 1) (omega arith))
 
+    pub at_old : (p < 129) × (get_or index p 0 ≤ get_or index (p + 1) 0) × (get_or index (p + 1) 0 ≤ size old)
+    at_old = (
+      omega arith,
+      ordered old p _ _ (I.olds p (omega arith)) (I.olds (p + 1) (omega arith)),
+      (I.olds (p + 1) (omega arith)).inside,
+    )
+
     pub at_new : (65 + p < 129) × (get_or index (65 + p) 0 ≤ get_or index (65 + p + 1) 0) × (get_or index (65 + p + 1) 0 ≤ size new)
     at_new = (omega arith, ordered new p _ _ (I.news p (omega arith)) after-new, after-new.inside)
 

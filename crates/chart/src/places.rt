@@ -7,3 +7,10 @@ pub struct OldPlace(pub u32);
 // A place of the new chart (L' in the source).
 #[derive(Clone, Copy, Debug, PartialEq, Eq)]
 pub struct NewPlace(pub u32);
+
+// A place of whichever chart is named.
+#[derive(Clone, Copy)]
+pub enum Place {
+    Old(OldPlace),
+    New(NewPlace),
+}

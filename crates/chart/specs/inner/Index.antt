@@ -1,7 +1,18 @@
 -- The index of both tables by place, and what makes it: helps the functions that hand a place's rows to the step.
 use Rattle.std.specs.Prelude.{◌≡◌, cond, List, ℕ, zero, suc, ◌+◌, ◌-◌, ◌≤◌, ◌<◌, eqb, length, get_or}
+use Rattle.chart.specs.declared.places.Place.{Place}
+use Rattle.chart.specs.declared.places.Place.TheVariants.{Old, New}
 use Rattle.chart.specs.Charts.{size, from}
 use Rattle.chart.specs.inner.Ascending.{Ascending}
+
+-- the table of the chart that a place is in, and the place's number
+abbrev pub table_of : Place → List ℕ → List ℕ → List ℕ
+table_of (Old p) old new = old
+table_of (New q) old new = new
+
+abbrev pub number_of : Place → ℕ
+number_of (Old p) = p.0
+number_of (New q) = q.0
 
 -- r is the first row whose "from" is not below p, or the count of rows
 pub record Lower (t : List ℕ) (p r : ℕ) : Type 0 where

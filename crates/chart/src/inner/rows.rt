@@ -6,9 +6,9 @@ ghost use Rattle.operations.specs.Trials.{never_holds};
 ghost use Rattle.chart.specs.Charts.{size, from, to, operation, can_be_taken, leaving};
 ghost use Rattle.chart.specs.Lookup.{Stands};
 ghost use Rattle.chart.specs.inner.Ascending.{Ascending};
-ghost use Rattle.chart.specs.inner.Index.{Lower, Indexable, Ends, Carried, Indexed};
+ghost use Rattle.chart.specs.inner.Index.{Lower, Indexable, Ends, Carried, Indexed, table_of, number_of};
 
-use crate::places::{NewPlace, OldPlace};
+use crate::places::{NewPlace, OldPlace, Place};
 use operations::Operation;
 use operations::assumptions::never_holds;
 
@@ -210,4 +210,16 @@ pub(crate) fn rows_at<'a>(rows: &'a [u32], index: &[u8; 130], at: usize) -> &'a 
         (drop (get_or index.now at 0 * 6) rows.now) }
 {
     part(rows, usize::from(index[at]), usize::from(index[at + 1]))
+}
+
+// The rows that leave a place of either chart, by the index of both: for whoever has no `Comparison`.
+pub fn rows_of<'a>(old: &'a [u32], new: &'a [u32], index: &[u8; 130], place: Place) -> &'a [u32]
+    requires indexed { Indexed old.now new.now index.now }
+    requires ascending { Ascending (table_of place old.now new.now) × (number_of place < 64) }
+    ensures { result.now ≡ leaving (table_of place old.now new.now) (number_of place) }
+{
+    match place {
+        Place::Old(p) => rows_at(old, index, p.0 as usize),
+        Place::New(q) => rows_at(new, index, 65 + q.0 as usize),
+    }
 }

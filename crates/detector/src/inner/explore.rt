@@ -56,7 +56,13 @@ pub fn explore(
     let mut tracked = begin(charts.heads, marks, targets, sets, waiting);
     let any_never = some_never(charts.new_rows);
     while let Some(n) = turns::lowest(&mut tracked.waits, &*waiting) {
-        let skips = turns::to_skip(charts, n, any_never);
+        let skips = turns::to_skip(
+            charts.old_rows,
+            charts.new_rows,
+            &charts.index,
+            n,
+            any_never,
+        );
         turns::turn(
             charts,
             marks,

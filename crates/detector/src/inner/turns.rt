@@ -2,7 +2,9 @@
 ghost use Rattle.std.specs.Prelude.{◌≡◌, ◌<◌, Some, get_or};
 ghost use Rattle.chart.specs.Charts.{leaving};
 ghost use Rattle.chart.specs.Places.{new_of};
+ghost use Rattle.chart.specs.inner.Ascending.{Ascending};
 ghost use Rattle.chart.specs.inner.Comparisons.{charts_of};
+ghost use Rattle.chart.specs.inner.Index.{Indexed};
 ghost use Rattle.chart.specs.inner.NoneNever.{NoneNever};
 ghost use Rattle.align.specs.declared.spots.Spot.{Spot};
 ghost use Rattle.graph.specs.Buffers.{buffers};
@@ -16,8 +18,8 @@ use align::inner::step::step;
 use align::spots::Spot;
 use chart::inner::comparison::Comparison;
 use chart::inner::pairs::{kept, new_of, old_of, pair};
-use chart::inner::rows::{can_be_taken, new_to};
-use chart::places::{NewPlace, OldPlace};
+use chart::inner::rows::{can_be_taken, new_to, rows_of};
+use chart::places::{NewPlace, OldPlace, Place};
 use graph::Waiting;
 use graph::inner::graphs;
 use records::{Marks, Sets, Targets};
@@ -132,14 +134,21 @@ fn process(
 
 // Which of the rows of pair n never hold, of those that are there. Where no row of the new chart does, as `any_never`
 // says, none is looked at.
-pub fn to_skip(charts: &Comparison<'_>, n: usize, any_never: bool) -> [bool; 2]
-    requires { (n < 4096) × NoneNever any_never charts.now.new_rows.now }
-    ensures { Skipped result (leaving charts.now.new_rows.now (new_of n).0) }
+pub fn to_skip(
+    old_rows: &[u32],
+    new_rows: &[u32],
+    index: &[u8; 130],
+    n: usize,
+    any_never: bool,
+) -> [bool; 2]
+    requires indexed { Indexed old_rows.now new_rows.now index.now × Ascending new_rows.now }
+    requires n_bound { (n < 4096) × NoneNever any_never new_rows.now }
+    ensures { Skipped result (leaving new_rows.now (new_of n).0) }
 {
     if !any_never {
         return [false; 2];
     }
-    let part = charts.new_part(new_of(n));
+    let part = rows_of(old_rows, new_rows, index, Place::New(new_of(n)));
     [!can_be_taken(part, 0), !can_be_taken(part, 1)]
 }
 

@@ -16,8 +16,8 @@ use words::inner::members;
 use words::{PairList, Pairs};
 
 // Whether a node is in the graph, or kept.
-pub fn is_marked(marks: &Marks, n: usize) -> bool
-    requires { n < 4160 }
+pub fn is_marked(marks: &[u8], n: usize) -> bool
+    requires { n < length marks.now }
     ensures { result ≡ marked marks.now n }
 {
     marks[n] != 0

@@ -4,7 +4,7 @@ ghost use Rattle.std.specs.Iterator.{at_most};
 ghost use Rattle.words.specs.inner.Words.{Member, added, removed, gathered, listed, LowestFrom, HighestBefore};
 ghost use Rattle.words.specs.inner.Taken.{Taken};
 
-use crate::{PairList, Pairs};
+use crate::PairList;
 use sets::inner::bits::{alone, joined, meets, with, without};
 
 pub fn add(words: &mut [u64], n: usize)
@@ -24,15 +24,15 @@ pub fn remove(words: &mut [u64], n: usize)
 }
 
 // Whether the pair of bit q of word p is a member. A loop over the words makes the mask of q once.
-pub fn has(words: &Pairs, p: usize, q: usize) -> bool
-    requires { (p < 64) × (q < 64) }
+pub fn has(words: &[u64], p: usize, q: usize) -> bool
+    requires { (64 ≤ length words.now) × (p < 64) × (q < 64) }
     ensures { (result ≡ true) ↔ Member words.now (64 * p + q) }
 {
     meets(words[p], alone(q as u32))
 }
 
 // The bits that some word has. A loop without early end takes many words at once.
-pub fn gathered(words: &Pairs) -> u64
+pub fn gathered(words: &[u64]) -> u64
     ensures { result ≡ gathered words.now (length words.now) }
 {
     let mut all = 0;

@@ -1,4 +1,5 @@
 -- `detector::inner::explore::explore` meets its contract. Assumes nothing.
+use Rattle.chart.proofs.Faultless.{ascends}
 use Rattle.chart.proofs.Takable.{none_never}
 use Rattle.detector.proofs.Exploring.{build_begun, build_below, build_less, build_turn, build_done}
 use Rattle.detector.proofs.inner.explore.explore.Goals as goal
@@ -7,7 +8,12 @@ pub loop-n-init : goal.loop-n-init
 loop-n-init c = build_begun _ c.args.charts.now.prepared.old-faultless c.args.charts.now.prepared.new-faultless c.begin-tracked.ensures.waiting_after c.begin-tracked.ensures.follows
 
 pub to_skip-skips-requires : goal.to_skip-skips-requires
-to_skip-skips-requires c = (build_below _ c.loop-n.invariant c.in-Some.ensures.0, none_never c.args.charts.now.new_rows.now c.some_never-any_never.ensures)
+to_skip-skips-requires c =
+    let p = c.args.charts.now.prepared in
+    record {
+      indexed = (p.indexed, ascends _ p.new-faultless);
+      n_bound = (build_below _ c.loop-n.invariant c.in-Some.ensures.0, none_never c.args.charts.now.new_rows.now c.some_never-any_never.ensures);
+    }
 
 pub turn-requires-clause-n_bound : goal.turn-requires-clause-n_bound
 turn-requires-clause-n_bound c = (build_below _ c.loop-n.invariant c.in-Some.ensures.0, c.to_skip-skips.ensures)

@@ -7,4 +7,4 @@ use Rattle.words.proofs.inner.members.has.Goals as goal
 pub returns : goal.returns
 returns c =
     let a = c.args in
-    has-is a.words.now a.p a.q (search rules) (omega (arith, c.fits-words a.p)) c.alone.ensures c.meets.ensures
+    has-is a.words.now a.p a.q (search rules) (omega (arith, c.shared_slice_known-2-1.given a.p)) c.alone.ensures c.meets.ensures
