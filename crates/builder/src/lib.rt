@@ -21,6 +21,7 @@ use checker::inner::lengths::sized;
 use condition::Summary;
 use condition::inner::finish::finish;
 use detector::inner::explore::explore;
+use detector::inner::turns::Tracked;
 use graph::Waiting;
 use records::{Marks, Sets, Targets};
 
@@ -45,8 +46,12 @@ fn complete(
     ensures { (buffers marks.new targets.new sets.new waiting.new ≡ built (charts_of charts.now))
         × (result ≡ summary (recorded (charts_of charts.now)).start marks.new) }
 {
-    let seen = explore(charts, marks, targets, sets, waiting);
-    finish(charts.heads, marks, targets, sets, waiting, &seen)
+    let mut tracked = Tracked {
+        waits: [0; 65],
+        seen: [0; 64],
+    };
+    explore(charts, marks, targets, sets, waiting, &mut tracked);
+    finish(charts.heads, marks, targets, sets, waiting, &tracked.seen)
 }
 
 // A build, or the refusal that is due, which writes nothing. What a build leaves, with the start it answers, the check

@@ -14,7 +14,6 @@ use chart::inner::rows::some_never;
 use graph::Waiting;
 use graph::inner::graphs::clear;
 use records::{Marks, Sets, Targets};
-use words::Pairs;
 use words::inner::members;
 
 // The start pair alone is in the graph, and waits: it alone is to be looked at.
@@ -24,36 +23,36 @@ fn begin(
     targets: &mut Targets,
     sets: &mut Sets,
     waiting: &mut Waiting,
-) -> Tracked
-    ensures follows { Follows result (buffers marks.new targets.new sets.new waiting.new) }
+    tracked: &mut Tracked,
+)
+    ensures follows { Follows tracked.new (buffers marks.new targets.new sets.new waiting.new) }
     ensures waiting_after { buffers marks.new targets.new sets.new waiting.new ≡ begun heads }
 {
     let first = start_pair(heads);
     clear(marks, targets, sets, waiting);
     marks[first] = 1;
     waiting[first] = 1;
-    let mut tracked = Tracked {
-        waits: [0; 65],
-        seen: [0; 64],
-    };
+    tracked.waits = [0; 65];
+    tracked.seen = [0; 64];
     members::list(&mut tracked.waits, first);
     members::add(&mut tracked.seen, first);
-    tracked
 }
 
-// Takes the lowest waiting pair up, as long as one waits. The answer has whoever came into the graph.
+// Takes the lowest waiting pair up, as long as one waits. Afterwards `tracked.seen` has whoever came into the graph;
+// what it had before has no effect. It is lent, and not answered, so that it lies on the stack once.
 pub fn explore(
     charts: &Comparison<'_>,
     marks: &mut Marks,
     targets: &mut Targets,
     sets: &mut Sets,
     waiting: &mut Waiting,
-) -> Pairs
-    ensures covers { Covers result (buffers marks.new targets.new sets.new waiting.new) }
+    tracked: &mut Tracked,
+)
+    ensures covers { Covers tracked.new.seen (buffers marks.new targets.new sets.new waiting.new) }
     ensures waiting_after { buffers marks.new targets.new sets.new waiting.new
         ≡ explored (charts_of charts.now) }
 {
-    let mut tracked = begin(charts.heads, marks, targets, sets, waiting);
+    begin(charts.heads, marks, targets, sets, waiting, tracked);
     let any_never = some_never(charts.new_rows);
     while let Some(n) = turns::lowest(&mut tracked.waits, &*waiting) {
         let skips = turns::to_skip(
@@ -63,16 +62,6 @@ pub fn explore(
             n,
             any_never,
         );
-        turns::turn(
-            charts,
-            marks,
-            targets,
-            sets,
-            waiting,
-            &mut tracked,
-            n,
-            skips,
-        );
+        turns::turn(charts, marks, targets, sets, waiting, tracked, n, skips);
     }
-    tracked.seen
 }

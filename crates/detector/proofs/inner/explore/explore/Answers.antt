@@ -5,7 +5,7 @@ use Rattle.detector.proofs.Exploring.{build_begun, build_below, build_less, buil
 use Rattle.detector.proofs.inner.explore.explore.Goals as goal
 
 pub loop-n-init : goal.loop-n-init
-loop-n-init c = build_begun _ c.args.charts.now.prepared.old-faultless c.args.charts.now.prepared.new-faultless c.begin-tracked.ensures.waiting_after c.begin-tracked.ensures.follows
+loop-n-init c = build_begun _ c.args.charts.now.prepared.old-faultless c.args.charts.now.prepared.new-faultless c.begin.ensures.waiting_after c.begin.ensures.follows
 
 pub to_skip-skips-requires : goal.to_skip-skips-requires
 to_skip-skips-requires c =
