@@ -7,8 +7,7 @@ use Prim.Native.Nat.{ℕ, ◌/◌, ◌^◌, ◌≤◌, ◌<◌}
 use native.Mathlib.Omega.{arith}
 use borrow.Author.Tests.{eq-eqb, ne_eqb}
 use lib.Dec.{eqb, ltb}
-use lib.ListN.{length, get_or, take, drop}
-use lib.Seq.{length-take-le}
+use lib.ListN.{length, get_or, drop}
 use Rattle.std.specs.Prelude.{Ok, Err}
 use Rattle.base.specs.Chains.{mapped}
 use Rattle.base.specs.Options.{missing}
@@ -61,13 +60,6 @@ module _ (X : Compared) (chart p : ℕ) where
 
   pub part_short : {part : List ℕ} → Words X.old → Words X.new → part ≡ lookup X chart p → length part ≤ 12
   part_short v w e = rw e (short v w)
-
-  -- it has room where 12 entries are lent
-  pub part_fits : {part : List ℕ} (rows : List ℕ) → Words X.old → Words X.new → part ≡ lookup X chart p → length rows ≡ 12
-      → (length part ≤ length rows) × (length (take (length part) rows) ≡ length part)
-  part_fits {part} rows v w e h =
-      let l : length part ≤ length rows = omega (arith, part_short v w e, h) in
-      (l, length-take-le _ rows l)
 
   pub part_below : {part : List ℕ} {f : Four} → Words X.old → Words X.new → part ≡ lookup X chart p → f ≡ one (length part / 6) → Below f
   part_below {part} v w e i = rw i (one_below (length part / 6) (omega (arith, part_short v w e)))

@@ -24,6 +24,7 @@ use base::{Reason, Refusal};
 use chart::charts::{Head, Heads, both_heads};
 use condition::Summary;
 use text::answers::Heading;
+use text::inner::table::copy;
 
 // Up to four numbers that a call gives.
 #[derive(Clone, Copy)]
@@ -192,9 +193,8 @@ pub extern "C" fn picker_lookup<'a>(
     }
     let heads = lent_heads(1, old_places, old_alarm, new_places, new_alarm);
     let part = chart::lookup(heads, old_rows, new_rows, chart, place);
-    let n = part.len();
-    rows[..n].copy_from_slice(part);
-    packed(Ok(Four::from(n / 6)))
+    copy(part, rows);
+    packed(Ok(Four::from(part.len() / 6)))
 }
 
 // The check of a record by an edition: 0, 0, 0, 0 where it passes. What passes keeps the promise: a run of the new

@@ -1,5 +1,6 @@
 -- What is stated of reading and writing as a whole stands in Theorems; the others are the laws that it and the functions' proofs cite.
 pub mod Cases
+pub mod Copying
 pub mod Numbers
 pub mod Decimals
 pub mod Tables

@@ -27,12 +27,13 @@ pub fn fields_into(
     Ok(p)
 }
 
-// The numbers into the front of a table.
+// The numbers into the front of a table. One by one: `copy_from_slice` would have the C library's archive need memmove.
 pub fn copy(numbers: &[u32], table: &mut [u32])
     requires { length numbers.now ≤ length table.old }
     ensures { table.new
         ≡ numbers.now ++ drop (length numbers.now) table.old }
 {
-    let n = numbers.len();
-    table[..n].copy_from_slice(numbers);
+    for (i, number) in numbers.iter().enumerate() {
+        table[i] = *number;
+    }
 }
