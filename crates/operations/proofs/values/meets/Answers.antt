@@ -1,5 +1,5 @@
 -- `operations::values::meets` meets its contract: what is refused, and what is not. Assumes nothing.
-use Rattle.std.proofs.Common.{Bool, ap, sym, ◌∙◌, List, ℕ}
+use Rattle.std.proofs.Common.{Bool, ap, ◌∙◌, List, ℕ}
 use Rattle.std.proofs.lemmas.Result.{err_from_is_err_and}
 use Rattle.std.specs.Prelude.{Ok}
 use Rattle.base.proofs.Answers.{none-due, passed_on, goes_on}
@@ -13,7 +13,7 @@ pub returns-in_err-judge : goal.returns-in_err-judge
 unfolding met_by
 returns-in_err-judge c =
     let p = err_from_is_err_and c.from_residual.result c.from_residual.ensures.1 in
-    rw (p.1, p.2) (rw (← c.is_assumption.ensures) (passed_on c.judge.ensures _ c.in_err-judge.was))
+    rw (p.1, p.2) (passed_on c.judge.ensures _ c.in_err-judge.was)
 
 pub unwrap-requires : goal.unwrap-requires
 unwrap-requires c = c.as_array.ensures.variant.1 (undue _ _ _ (none-due c.judge.ensures c.in_ok-judge.was)).0
@@ -29,4 +29,4 @@ returns c =
     let w = rw c.unwrap.ensures at c.as_array.ensures.cases in
     ap (λ (x : Bool). Ok x) c.holds.ensures
     ∙ ap (λ (v : List ℕ). Ok (holds c.args.o (var v))) w.same
-    ∙ rw (← c.is_assumption.ensures) (goes_on c.judge.ensures _ c.in_ok-judge.was)
+    ∙ goes_on c.judge.ensures _ c.in_ok-judge.was
