@@ -27,7 +27,7 @@ pub fn fields_into(
     Ok(p)
 }
 
-// The numbers into the front of a table. One by one: `copy_from_slice` would have the C library's archive need memmove.
+// The numbers into the front of a table. One by one: with `copy_from_slice` libpicker.a would need memmove.
 pub fn copy(numbers: &[u32], table: &mut [u32])
     requires { length numbers.now ≤ length table.old }
     ensures { table.new
