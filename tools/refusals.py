@@ -1,5 +1,8 @@
-"""What refuses each must-fail edit, from the output of `rt ci` (one run or several, the later ones last) on standard input: a line for each, as
-docs/EDITS.md has them."""
+#!/usr/bin/env python3
+"""What refuses each must-fail edit, a line for each, as docs/EDITS.md has them.
+
+usage: tools/refusals.py < LOG   LOG: what `rt ci` printed, or several runs, the later ones last
+"""
 
 import re
 import sys
